@@ -13,10 +13,10 @@ use Rattle.cap_time.specs.declared.resolutions.Interface.{Interface}
 use Rattle.cap_blocks.specs.Grammar.{section_kind, interface_kind, enhanced_kind, order_magic, is_total, SpellsSection}
 use Rattle.cap_blocks.specs.Grammar.{SpellsBlock, block_bytes, section_body, option_bytes, offset_option}
 use Rattle.cap_blocks.specs.Grammar.{interface_options, interface_body, interface_total, packet_body}
-use Rattle.cap_blocks.specs.inner.Laws.{IsRead, SectionAgain, InterfaceAgain, PacketAgain, offset_items}
+use Rattle.cap_blocks.specs.inner.Laws.{IsReadAs, SectionAgain, InterfaceAgain, PacketAgain, offset_items}
 use Rattle.cap_blocks.specs.OptionList.{options_of, code_at, length_at, padded}
 use Rattle.cap_blocks.proofs.OptionLaws.{options_of-end, options_of-more}
-use Rattle.cap_blocks.specs.Split.{Piece, MayFollow, Begins}
+use Rattle.cap_blocks.specs.Split.{BlockPiece, MayFollow, BeginsPiece}
 use Rattle.cap_blocks.proofs.Spelling.{Plain, Reads-spelled}
 use Rattle.cap_blocks.proofs.Splitting.{items_from-reads}
 use Rattle.cap_blocks.proofs.Parts.{length-section_body, length-interface_body, length-packet_body}
@@ -145,15 +145,15 @@ IsRead-text : (section : Option Order) (order : Order) (kind : ℕ) (body : List
     → MayFollow section (record { order = order; kind = kind; body = body })
     → SpellsBlock order kind body (block_bytes order kind body)
     → ((rest : List ℕ) → Plain (block_bytes order kind body ++ rest))
-    → IsRead section (record { order = order; kind = kind; body = body }) (block_bytes order kind body)
+    → IsReadAs section (record { order = order; kind = kind; body = body }) (block_bytes order kind body)
 IsRead-text section order kind body follows s fits = record {
   spelled = s;
   items = λ tail file offset rest limit.
       let text = block_bytes order kind body in
-      let piece : Piece = record { order = order; kind = kind; body = body } in
+      let piece : BlockPiece = record { order = order; kind = kind; body = body } in
       let front : take (12 + length body) (text ++ rest) ≡ text = take_at text rest (12 + length body) s.size in
       let behind : drop (12 + length body) (text ++ rest) ≡ rest = drop_at text rest (12 + length body) s.size in
-      let b : Begins section offset piece (text ++ rest) = record {
+      let b : BeginsPiece section offset piece (text ++ rest) = record {
         follows = follows;
         spelled = subst (λ (l : List ℕ). SpellsBlock order kind body l) (sym front) s;
         limit = omega (arith, s.size);

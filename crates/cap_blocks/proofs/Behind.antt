@@ -6,14 +6,14 @@ use Rattle.std.proofs.lemmas.Bool.Decides.{nat_tests}
 use Rattle.std.proofs.lemmas.List.{take-append-drop, drop-append-le}
 use Rattle.cap_bytes.specs.Number.{number}
 use Rattle.cap_bytes.specs.inner.Reach.{ReachesTo}
-use Rattle.cap_bytes.specs.inner.Window.{State, Needs, Drops, DropsAll, Passes, coming, read_to}
+use Rattle.cap_bytes.specs.inner.Window.{WindowState, Needs, WindowDrops, DropsAll, WindowPasses, coming, read_to}
 use Rattle.cap_bytes.proofs.Parsing.{all_shown, Goes-trans}
 use Rattle.cap_bytes.proofs.Reach.{ReachesTo-later, ReachesTo-ended}
 use Rattle.cap_bytes.specs.declared.faults.Rule.{Rule}
 use Rattle.cap_bytes.specs.declared.faults.Rule.TheVariants.{Cut, BlockTrailer, Version}
 use Rattle.cap_bytes.specs.declared.numbers.Order.{Order}
 use Rattle.cap_bytes.proofs.Spelling.{number-append, number-drop_append}
-use Rattle.cap_blocks.specs.Grammar.{section_kind, is_known, is_version}
+use Rattle.cap_blocks.specs.Grammar.{section_kind, is_known_kind, is_section_version}
 use Rattle.cap_blocks.specs.inner.Parsing.{IsHeader, SeesBody}
 use Rattle.cap_blocks.specs.Split.{kind_at, total_at, has_other_version, body_fault}
 use Rattle.cap_blocks.specs.declared.blocks.Block.{Block}
@@ -59,11 +59,11 @@ pub no_version : (order : Order) (bytes : List ℕ) → (kind_at order bytes ≡
 no_version order bytes other = let e = differs _ _ other in rw e refl
 
 pub version_is : (order : Order) (bytes : List ℕ) (read : Bool) → kind_at order bytes ≡ section_kind
-    → is_version (number order 2 (drop 12 bytes)) (number order 2 (drop 14 bytes)) ≡ read
+    → is_section_version (number order 2 (drop 12 bytes)) (number order 2 (drop 14 bytes)) ≡ read
     → has_other_version order bytes ≡ not read
 version_is order bytes read section is = let e = same _ _ section in rw (e, is) refl
 
-pub unknown_section : (kind : ℕ) → is_known kind ≡ false → kind ≡ section_kind → ⊥
+pub unknown_section : (kind : ℕ) → is_known_kind kind ≡ false → kind ≡ section_kind → ⊥
 unknown_section kind unknown is = grind (arith, nat_tests)
 
 -- more bytes after a block make no difference
@@ -106,8 +106,8 @@ IsHeader-same block offset later xs zs f front at =
     (subst (λ (l : List ℕ). IsHeader block offset l) whole (IsHeader-append block offset xs (drop (length xs) zs) f))
 
 -- a block of a known kind is shown whole
-pub SeesBody-known : (block : Block) (old new : State) (fault : Option Rule) → IsHeader block old.offset old.shown
-    → is_known block.kind ≡ true
+pub SeesBody-known : (block : Block) (old new : WindowState) (fault : Option Rule) → IsHeader block old.offset old.shown
+    → is_known_kind block.kind ≡ true
     → Needs block.total old (Ok true) new → fault ≡ body_fault block.order new.shown → SeesBody block fault old new
 SeesBody-known block old new fault f known n is =
     let later = IsHeader-same block old.offset old.offset old.shown new.shown f n.0.front refl in
@@ -123,7 +123,7 @@ SeesBody-known block old new fault f known n is =
     }
 
 -- the input ends inside it
-pub SeesBody-cut : (block : Block) (old new : State) → IsHeader block old.offset old.shown
+pub SeesBody-cut : (block : Block) (old new : WindowState) → IsHeader block old.offset old.shown
     → Needs block.total old (Ok false) new → SeesBody block (Some Cut) old new
 SeesBody-cut block old new f n =
     let later = IsHeader-same block old.offset old.offset old.shown new.shown f n.0.front refl in
@@ -135,30 +135,30 @@ SeesBody-cut block old new f n =
     }
 
 -- a block that is skipped: the bytes to come before it
-pub skipped_total : (block : Block) (old : State) → IsHeader block old.offset old.shown
+pub skipped_total : (block : Block) (old : WindowState) → IsHeader block old.offset old.shown
     → block.total ≡ total_at block.order (coming old)
 skipped_total block old f = (IsHeader-append block old.offset old.shown old.unread f).total
 
-pub skipped_kind : (block : Block) (old : State) → IsHeader block old.offset old.shown
+pub skipped_kind : (block : Block) (old : WindowState) → IsHeader block old.offset old.shown
     → block.kind ≡ kind_at block.order (coming old)
 skipped_kind block old f = (IsHeader-append block old.offset old.shown old.unread f).kind
 
 -- the input ends in the part that is skipped
-pub SeesBody-ended : (block : Block) (old new : State) → IsHeader block old.offset old.shown
+pub SeesBody-ended : (block : Block) (old new : WindowState) → IsHeader block old.offset old.shown
     → DropsAll (block.total - 4) old new
     → SeesBody block (Some Cut) old new
 SeesBody-ended block old new f d = grind (arith, body_fault-cut, skipped_total)
 
 -- the input ends in its trailer
-pub SeesBody-short : (block : Block) (old mid new : State) → IsHeader block old.offset old.shown
-    → Drops (block.total - 4) old mid
+pub SeesBody-short : (block : Block) (old mid new : WindowState) → IsHeader block old.offset old.shown
+    → WindowDrops (block.total - 4) old mid
     → (IsTrue old.told → IsTrue mid.told) → Needs 4 mid (Ok false) new → SeesBody block (Some Cut) old new
 SeesBody-short block old mid new f d told n = grind
     (arith, Goes-trans, all_shown, body_fault-cut, skipped_total, length-drop)
 
 -- its trailer is shown
-trailer_shown : (block : Block) (old mid new : State) → IsHeader block old.offset old.shown
-    → Drops (block.total - 4) old mid
+trailer_shown : (block : Block) (old mid new : WindowState) → IsHeader block old.offset old.shown
+    → WindowDrops (block.total - 4) old mid
     → (IsTrue old.told → IsTrue mid.told) → Needs 4 mid (Ok true) new → IsTrue old.told
     → (total_at block.order (coming old) ≤ length (coming old))
     × (number block.order 4 (drop (total_at block.order (coming old) - 4) (coming old))
@@ -179,19 +179,19 @@ trailer_shown block old mid new f d told n t =
       rw (← total, ← rest) (number-append block.order 4 new.shown new.unread n.1),
     )
 
-pub SeesBody-other : (block : Block) (old mid new : State) → IsHeader block old.offset old.shown
-    → Drops (block.total - 4) old mid
+pub SeesBody-other : (block : Block) (old mid new : WindowState) → IsHeader block old.offset old.shown
+    → WindowDrops (block.total - 4) old mid
     → (IsTrue old.told → IsTrue mid.told) → Needs 4 mid (Ok true) new
     → (number block.order 4 new.shown ≡ block.total → ⊥)
     → SeesBody block (Some BlockTrailer) old new
 SeesBody-other block old mid new f d told n other =
     grind (arith, Goes-trans, trailer_shown, body_fault-trailer, skipped_total)
 
-pub SeesBody-skipped : (block : Block) (old mid new last : State) → IsHeader block old.offset old.shown
-    → is_known block.kind ≡ false
-    → Drops (block.total - 4) old mid → (IsTrue old.told → IsTrue mid.told) → Needs 4 mid (Ok true) new
+pub SeesBody-skipped : (block : Block) (old mid new last : WindowState) → IsHeader block old.offset old.shown
+    → is_known_kind block.kind ≡ false
+    → WindowDrops (block.total - 4) old mid → (IsTrue old.told → IsTrue mid.told) → Needs 4 mid (Ok true) new
     → number block.order 4 new.shown ≡ block.total
-    → Passes 4 new last → SeesBody block None old last
+    → WindowPasses 4 new last → SeesBody block None old last
 SeesBody-skipped block old mid new last f unknown d told n trailer p = record {
   goes = Goes-trans old new last (Goes-trans old mid new d.goes n.0.goes)
       (record { before = n.0.goes.after; after = p.broken ∙ n.0.goes.after; failed = p.failed });
@@ -213,12 +213,13 @@ reached : (m most : Option ℕ) (n end r s : ℕ) → m ≡ most → n ≡ end �
 reached m most n end r s same is h = rw (same, is) at h
 
 -- How far is read for a block that is skipped: the input ends in the part that is skipped, or its trailer comes too.
-pub Reaches-ended : (block : Block) (old new : State) → 12 ≤ block.total → DropsAll (block.total - 4) old new
+pub Reaches-ended : (block : Block) (old new : WindowState) → 12 ≤ block.total → DropsAll (block.total - 4) old new
     → ReachesTo old.most (old.offset + block.total) (read_to old) (read_to new)
 Reaches-ended block old new least d = ReachesTo-ended old.most (old.offset + block.total) (read_to old) (read_to new)
     (omega (arith, d.least)) (omega (arith, d.fewer, ap length d.shown))
 
-pub Reaches-trailer : (block : Block) (old mid new : State) → 12 ≤ block.total → Drops (block.total - 4) old mid
+pub Reaches-trailer : (block : Block) (old mid new : WindowState) → 12 ≤ block.total
+    → WindowDrops (block.total - 4) old mid
     → mid.most ≡ old.most
     → ReachesTo old.most (old.offset + (block.total - 4)) (read_to old) (read_to mid)
     → ReachesTo mid.most (mid.offset + 4) (read_to mid) (read_to new)

@@ -9,9 +9,10 @@ use Rattle.cap_bytes.specs.declared.faults.Tail.{Tail}
 use Rattle.cap_bytes.specs.declared.numbers.Order.{Order}
 use Rattle.cap_bytes.proofs.Items.{stop_where-whole, no_fault}
 use Rattle.cap_bytes.proofs.Spelling.{number-append, number-drop_append}
-use Rattle.cap_blocks.specs.Grammar.{section_kind, is_total, is_known}
-use Rattle.cap_blocks.specs.Split.{kind_at, total_at, is_section, is_ordered, order_at, or_else, first_fault}
-use Rattle.cap_blocks.specs.Split.{fields_fault, header_fault, body_fault, block_fault, block_at, stop_at}
+use Rattle.cap_blocks.specs.Grammar.{section_kind, is_total, is_known_kind}
+use Rattle.cap_blocks.specs.Split.{kind_at, total_at, is_section, is_ordered, block_order_at, first_of_rules}
+use Rattle.cap_blocks.specs.Split.{first_fault}
+use Rattle.cap_blocks.specs.Split.{fields_fault, block_header_fault, body_fault, block_fault, block_at, block_stop_at}
 
 -- what a total length that a kind allows is
 pub total-least : (kind total : ℕ) → is_total kind total ≡ true → 12 ≤ total
@@ -22,7 +23,7 @@ pub total-section : (kind total : ℕ) → is_total kind total ≡ true → kind
 unfolding is_total
 total-section kind total allowed is = grind (arith, nat_tests)
 
-pub total-known : (kind total : ℕ) → is_total kind total ≡ true → is_known kind ≡ true → total ≤ 524288
+pub total-known : (kind total : ℕ) → is_total kind total ≡ true → is_known_kind kind ≡ true → total ≤ 524288
 unfolding is_total
 total-known kind total allowed known = let e = rw known at allowed in grind (arith, nat_tests)
 
@@ -68,7 +69,7 @@ FieldsFit-from_none order offset bytes h = grind arith
 
 -- the conditions of a first block come before those of its first 12 bytes
 pub header_fault-fields : (section : Option Order) (offset : ℕ) (bytes : List ℕ) → first_fault section bytes ≡ None
-    → header_fault section offset bytes ≡ fields_fault (order_at section bytes) offset bytes
+    → block_header_fault section offset bytes ≡ fields_fault (block_order_at section bytes) offset bytes
 header_fault-fields section offset bytes is = rw is refl
 
 -- a first block that isn't refused so is a section header
@@ -77,18 +78,18 @@ unfolding first_fault
 first_fault-section bytes h = grind (arith, nat_tests)
 
 -- if neither of two conditions is met
-pub or_else-none : (a b : Option Rule) → or_else a b ≡ None → (a ≡ None) × (b ≡ None)
+pub or_else-none : (a b : Option Rule) → first_of_rules a b ≡ None → (a ≡ None) × (b ≡ None)
 or_else-none a b h = grind arith
 
 pub FieldsFit-from_header : (section : Option Order) (offset : ℕ) (bytes : List ℕ)
-    → header_fault section offset bytes ≡ None
-    → FieldsFit (order_at section bytes) offset bytes
+    → block_header_fault section offset bytes ≡ None
+    → FieldsFit (block_order_at section bytes) offset bytes
 FieldsFit-from_header section offset bytes h = grind (arith, FieldsFit-from_none, or_else-none)
 
 -- The first 12 bytes tell all of that.
 order_same : (section : Option Order) (xs zs : List ℕ) → ((order : Order) → number order 4 zs ≡ number order 4 xs)
     → ((order : Order) → number order 4 (drop 8 zs) ≡ number order 4 (drop 8 xs))
-    → order_at section zs ≡ order_at section xs
+    → block_order_at section zs ≡ block_order_at section xs
 order_same section xs zs kind magic = grind arith
 
 first_same : (section : Option Order) (xs zs : List ℕ) → 12 ≤ length xs → 12 ≤ length zs
@@ -105,13 +106,13 @@ unfolding fields_fault
 head_same order offset xs zs long longer kind total magic = grind arith
 
 pub order_at-append : (section : Option Order) (xs ys : List ℕ) → 12 ≤ length xs
-    → order_at section (xs ++ ys) ≡ order_at section xs
+    → block_order_at section (xs ++ ys) ≡ block_order_at section xs
 order_at-append section xs ys h =
     order_same section xs (xs ++ ys) (λ order. number-append order 4 xs ys (omega arith))
     (λ order. number-drop_append order 4 8 xs ys (omega arith))
 
 pub header_fault-append : (section : Option Order) (offset : ℕ) (xs ys : List ℕ) → 12 ≤ length xs
-    → header_fault section offset (xs ++ ys) ≡ header_fault section offset xs
+    → block_header_fault section offset (xs ++ ys) ≡ block_header_fault section offset xs
 header_fault-append section offset xs ys h =
     let longer : 12 ≤ length (xs ++ ys) = omega (arith, length-append xs ys) in
     let kind = λ (order : Order). number-append order 4 xs ys (omega arith) in
@@ -120,7 +121,7 @@ header_fault-append section offset xs ys h =
     rw (
       order_at-append section xs ys h,
       first_same section xs (xs ++ ys) h longer kind,
-      head_same (order_at section xs) offset xs (xs ++ ys) h longer kind total magic,
+      head_same (block_order_at section xs) offset xs (xs ++ ys) h longer kind total magic,
     ) refl
 
 pub block_at-append : (section : Option Order) (offset : ℕ) (xs ys : List ℕ) → 12 ≤ length xs
@@ -130,34 +131,34 @@ block_at-append section offset xs ys h = grind (arith, order_at-append, number-a
 
 -- what ends the blocks, by the condition that is met
 pub block_fault-header : (section : Option Order) (offset : ℕ) (bytes : List ℕ) (rule : Rule)
-    → header_fault section offset bytes ≡ Some rule
+    → block_header_fault section offset bytes ≡ Some rule
     → block_fault section offset bytes ≡ Some rule
 unfolding block_fault
 block_fault-header section offset bytes rule is = rw is refl
 
 pub block_fault-body : (section : Option Order) (offset : ℕ) (bytes : List ℕ) (fault : Option Rule)
-    → header_fault section offset bytes ≡ None
-    → body_fault (order_at section bytes) bytes ≡ fault → block_fault section offset bytes ≡ fault
+    → block_header_fault section offset bytes ≡ None
+    → body_fault (block_order_at section bytes) bytes ≡ fault → block_fault section offset bytes ≡ fault
 unfolding block_fault
 block_fault-body section offset bytes fault none is = rw (none, is) refl
 
 -- nothing ends the blocks if a whole one stands
 pub stop_at-whole : (section : Option Order) (tail : Tail) (file offset : ℕ) (bytes : List ℕ) → 0 < length bytes
-    → block_fault section offset bytes ≡ None → stop_at section tail file offset bytes ≡ None
+    → block_fault section offset bytes ≡ None → block_stop_at section tail file offset bytes ≡ None
 stop_at-whole section tail file offset bytes some is = search (stop_where-whole, is_some)
 
 pub block_fault-from_none : (section : Option Order) (tail : Tail) (file offset : ℕ) (bytes : List ℕ)
-    → stop_at section tail file offset bytes ≡ None → block_fault section offset bytes ≡ None
+    → block_stop_at section tail file offset bytes ≡ None → block_fault section offset bytes ≡ None
 block_fault-from_none section tail file offset bytes h = search (no_fault, is_some)
 
 pub faults-from_none : (section : Option Order) (offset : ℕ) (bytes : List ℕ) → block_fault section offset bytes ≡ None
-    → (header_fault section offset bytes ≡ None) × (body_fault (order_at section bytes) bytes ≡ None)
+    → (block_header_fault section offset bytes ≡ None) × (body_fault (block_order_at section bytes) bytes ≡ None)
 unfolding block_fault
-faults-from_none section offset bytes h = or_else-none (header_fault section offset bytes)
-    (body_fault (order_at section bytes) bytes) h
+faults-from_none section offset bytes h = or_else-none (block_header_fault section offset bytes)
+    (body_fault (block_order_at section bytes) bytes) h
 
 pub FieldsFit-from_stop_at : (section : Option Order) (tail : Tail) (file offset : ℕ) (bytes : List ℕ)
-    → stop_at section tail file offset bytes ≡ None → FieldsFit (order_at section bytes) offset bytes
+    → block_stop_at section tail file offset bytes ≡ None → FieldsFit (block_order_at section bytes) offset bytes
 FieldsFit-from_stop_at section tail file offset bytes h =
     FieldsFit-from_header section offset bytes (faults-from_none section offset bytes
     (block_fault-from_none section tail file offset bytes h)).0

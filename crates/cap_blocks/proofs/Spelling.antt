@@ -8,10 +8,12 @@ use Rattle.cap_bytes.specs.Number.{number}
 use Rattle.cap_bytes.specs.declared.numbers.Order.{Order}
 use Rattle.cap_bytes.specs.declared.numbers.Order.TheVariants.{Big, Little}
 use Rattle.cap_bytes.proofs.Spelling.{number-take, number-drop_take}
-use Rattle.cap_blocks.specs.Grammar.{section_kind, order_magic, is_total, is_version, SpellsSection, SpellsBlock}
-use Rattle.cap_blocks.specs.Split.{kind_at, total_at, is_section, is_ordered, own_order, order_at, first_fault}
-use Rattle.cap_blocks.specs.Split.{header_fault, body_fault, has_other_version, block_fault, body_in, body_at, Piece}
-use Rattle.cap_blocks.specs.Split.{piece_size, MayFollow, Begins, AreBytes}
+use Rattle.cap_blocks.specs.Grammar.{section_kind, order_magic, is_total, is_section_version, SpellsSection}
+use Rattle.cap_blocks.specs.Grammar.{SpellsBlock}
+use Rattle.cap_blocks.specs.Split.{kind_at, total_at, is_section, is_ordered, own_order, block_order_at, first_fault}
+use Rattle.cap_blocks.specs.Split.{block_header_fault, body_fault, has_other_version, block_fault, body_in, body_at}
+use Rattle.cap_blocks.specs.Split.{BlockPiece}
+use Rattle.cap_blocks.specs.Split.{piece_size, MayFollow, BeginsPiece, AreBytes}
 use Rattle.cap_blocks.proofs.Behind.{same, differs, there, body_fault-whole}
 use Rattle.cap_blocks.proofs.Bytes.{kind_same, magic_one, AreBytes-drop}
 use Rattle.cap_blocks.proofs.Faults.{FieldsFit, FieldsFit-from_header, fields_fault-fits, header_fault-fields}
@@ -19,11 +21,11 @@ use Rattle.cap_blocks.proofs.Faults.{block_fault-body, faults-from_none, first_f
 use Rattle.cap_blocks.proofs.Faults.{total-section, or_else-none}
 
 -- the piece at the front of some bytes
-abbrev pub piece_at : Option Order → List ℕ → Piece
+abbrev pub piece_at : Option Order → List ℕ → BlockPiece
 piece_at section bytes =
     record {
-      order = order_at section bytes;
-      kind = kind_at (order_at section bytes) bytes;
+      order = block_order_at section bytes;
+      kind = kind_at (block_order_at section bytes) bytes;
       body = body_at section bytes;
     }
 
@@ -86,7 +88,7 @@ ordered_of section ordered is h = grind arith
 
 -- a version that is read
 version_of : (order : Order) (bytes : List ℕ) (read : Bool) → kind_at order bytes ≡ section_kind
-    → is_version (number order 2 (drop 12 bytes)) (number order 2 (drop 14 bytes)) ≡ read
+    → is_section_version (number order 2 (drop 12 bytes)) (number order 2 (drop 14 bytes)) ≡ read
     → has_other_version order bytes ≡ false → read ≡ true
 version_of order bytes read' is read h = grind arith
 
@@ -137,7 +139,7 @@ SpellsBlock-at order offset bytes fits f r =
     }
 
 order_kept : (section : Order) (bytes : List ℕ) (here : Bool) → is_section bytes ≡ here → (is_section bytes ≡ true → ⊥)
-    → order_at (Some section) bytes ≡ section
+    → block_order_at (Some section) bytes ≡ section
 order_kept section bytes here is other = grind arith
 
 -- the piece may stand there
@@ -147,15 +149,15 @@ follows_at None bytes fits first = fits.kinds Big (own_order bytes)
     (section_kind_big bytes (first_fault-section bytes first))
 follows_at (Some section) bytes fits first = λ other.
     order_kept section bytes (is_section bytes) refl
-    (λ is. other (fits.kinds Big (order_at (Some section) bytes) (section_kind_big bytes is)))
+    (λ is. other (fits.kinds Big (block_order_at (Some section) bytes) (section_kind_big bytes is)))
 
 -- if a block stands, as the bytes tell it
 pub Begins-at : (section : Option Order) (offset : ℕ) (bytes : List ℕ) → Plain bytes
     → block_fault section offset bytes ≡ None
-    → Begins section offset (piece_at section bytes) bytes
+    → BeginsPiece section offset (piece_at section bytes) bytes
 Begins-at section offset bytes fits none =
     let e = faults-from_none section offset bytes none in
-    let order = order_at section bytes in
+    let order = block_order_at section bytes in
     let total = total_at order bytes in
     let f = FieldsFit-from_header section offset bytes e.0 in
     let r = BodyFits-from_none order bytes e.1 in
@@ -172,9 +174,9 @@ Begins-at section offset bytes fits none =
     }
 
 -- What is spelled at the front is what is read there.
-pub record Reads (section : Option Order) (offset : ℕ) (piece : Piece) (bytes : List ℕ) : Type 0 where
+pub record Reads (section : Option Order) (offset : ℕ) (piece : BlockPiece) (bytes : List ℕ) : Type 0 where
   pub whole : piece_size piece ≤ length bytes
-  pub order_is : order_at section bytes ≡ piece.order
+  pub order_is : block_order_at section bytes ≡ piece.order
   pub kind_is : kind_at piece.order bytes ≡ piece.kind
   pub total_is : total_at piece.order bytes ≡ piece_size piece
   pub body_is : body_in (piece_size piece) bytes ≡ piece.body
@@ -188,7 +190,7 @@ own_is order bytes fits kind is = grind arith
 order_follows : (section : Option Order) (order : Order) (kind : ℕ) (body bytes : List ℕ) (here : Bool)
     → (kind == section_kind) ≡ here
     → Plain bytes → MayFollow section (record { order = order; kind = kind; body = body }) → kind_at order bytes ≡ kind
-    → (kind ≡ section_kind → number order 4 (drop 8 bytes) ≡ order_magic) → order_at section bytes ≡ order
+    → (kind ≡ section_kind → number order 4 (drop 8 bytes) ≡ order_magic) → block_order_at section bytes ≡ order
 order_follows None order kind body bytes here is fits follows told magic =
     own_is order bytes fits (fits.kinds order Big (told ∙ follows)) (magic follows)
 order_follows (Some section) order kind body bytes true is fits follows told magic = grind (arith, section_told, own_is)
@@ -197,7 +199,7 @@ order_follows (Some section) order kind body bytes false is fits follows told ma
     let e = other_told order bytes fits (λ k. other (sym told ∙ k)) in
     rw e (sym (follows other))
 
-first_none : (section : Option Order) (piece : Piece) (bytes : List ℕ) → Plain bytes → MayFollow section piece
+first_none : (section : Option Order) (piece : BlockPiece) (bytes : List ℕ) → Plain bytes → MayFollow section piece
     → kind_at piece.order bytes ≡ piece.kind → 12 ≤ length bytes → first_fault section bytes ≡ None
 unfolding first_fault
 first_none section piece bytes fits follows told head = grind (arith, section_told, there)
@@ -213,7 +215,7 @@ ordered_none order bytes false is fits magic =
     rw e refl
 
 version_none : (order : Order) (bytes : List ℕ) (here : Bool) → (kind_at order bytes == section_kind) ≡ here
-    → (kind_at order bytes ≡ section_kind → is_version (number order 2 (drop 12 bytes))
+    → (kind_at order bytes ≡ section_kind → is_section_version (number order 2 (drop 12 bytes))
     (number order 2 (drop 14 bytes)) ≡ true)
     → has_other_version order bytes ≡ false
 version_none order bytes here is version = grind arith
@@ -222,13 +224,13 @@ version_none order bytes here is version = grind arith
 magic_in : (order : Order) (size : ℕ) (body bytes : List ℕ) → length body ≡ size → 12 + size ≤ length bytes → 16 ≤ size
     → take size (drop 8 bytes) ≡ body → SpellsSection order body
     → (number order 4 (drop 8 bytes) ≡ order_magic)
-    × (is_version (number order 2 (drop 12 bytes)) (number order 2 (drop 14 bytes)) ≡ true)
+    × (is_section_version (number order 2 (drop 12 bytes)) (number order 2 (drop 14 bytes)) ≡ true)
 magic_in order size body bytes len whole least is s =
     grind (arith, length-drop, number-take, number-drop_take, drop-drop)
 
 -- all of it
-pub Reads-spelled : (section : Option Order) (offset : ℕ) (piece : Piece) (bytes : List ℕ) → Plain bytes
-    → Begins section offset piece bytes
+pub Reads-spelled : (section : Option Order) (offset : ℕ) (piece : BlockPiece) (bytes : List ℕ) → Plain bytes
+    → BeginsPiece section offset piece bytes
     → Reads section offset piece bytes
 Reads-spelled section offset piece bytes fits b =
     let s = b.spelled in
@@ -259,7 +261,7 @@ Reads-spelled section offset piece bytes fits b =
       allowed = rw (kind, total) allowed;
       limit = rw total b.limit;
     } in
-    let header : header_fault section offset bytes ≡ None =
+    let header : block_header_fault section offset bytes ≡ None =
     header_fault-fields section offset bytes first ∙ (rw order_is (fields_fault-fits order offset bytes head)) in
     let rest : body_fault order bytes ≡ None = body_fault-whole order bytes (rw total whole)
     (rw total (ap (λ n. number order 4 (drop n bytes)) (omega arith) ∙ trailer))

@@ -26,8 +26,8 @@ simple_kind = 3
 abbrev pub enhanced_kind : ℕ
 enhanced_kind = 6
 
-abbrev pub is_known : ℕ → Bool
-is_known kind =
+abbrev pub is_known_kind : ℕ → Bool
+is_known_kind kind =
     (kind == section_kind) || (kind == interface_kind) || (kind == obsolete_kind) || (kind == simple_kind)
     || (kind == enhanced_kind)
 
@@ -44,21 +44,21 @@ least_total kind =
 -- has at most as many bytes as are read.
 unfoldable pub is_total : ℕ → ℕ → Bool
 is_total kind total =
-    (total % 4 == 0) && nat_le (least_total kind) total && (not (is_known kind) || nat_le total 524288)
+    (total % 4 == 0) && nat_le (least_total kind) total && (not (is_known_kind kind) || nat_le total 524288)
 
 -- what a section header's order magic reads as in the section's order (draft-ietf-opsawg-pcapng, 4.1).
 abbrev pub order_magic : ℕ
 order_magic = 0x1A2B3C4D
 
 -- whether a section's version is one that is read: 1.0 or 1.2
-abbrev pub is_version : ℕ → ℕ → Bool
-is_version major minor = (major == 1) && ((minor == 0) || (minor == 2))
+abbrev pub is_section_version : ℕ → ℕ → Bool
+is_section_version major minor = (major == 1) && ((minor == 0) || (minor == 2))
 
 -- The body of a section header has the order's magic and a version that is read. Its section length and
 -- its options are free.
 pub record SpellsSection (order : Order) (body : List ℕ) : Type 0 where
   pub magic : number order 4 body ≡ order_magic
-  pub version : IsTrue (is_version (number order 2 (drop 4 body)) (number order 2 (drop 6 body)))
+  pub version : IsTrue (is_section_version (number order 2 (drop 4 body)) (number order 2 (drop 6 body)))
 
 -- The bytes spell a block of that kind with that body: the kind, the total length, the body, and the
 -- total length again (draft-ietf-opsawg-pcapng, 3.1).

@@ -1,6 +1,6 @@
 //! Blocks, and what ends them (draft-ietf-opsawg-pcapng, 3.1).
 ghost use Rattle.std.specs.Prelude.{◌≡◌};
-ghost use Rattle.cap_blocks.specs.Grammar.{is_known, least_total, is_total, is_version};
+ghost use Rattle.cap_blocks.specs.Grammar.{is_known_kind, least_total, is_total, is_section_version};
 
 use cap_bytes::Order;
 
@@ -36,7 +36,7 @@ pub struct Block {
 
 /// Whether blocks of a kind are known: section headers, interfaces and the three kinds of packets.
 pub fn is_known(kind: u32) -> bool
-    ensures { result ≡ is_known kind }
+    ensures { result ≡ is_known_kind kind }
 {
     matches!(
         kind,
@@ -67,7 +67,7 @@ pub fn is_total(kind: u32, total: u32) -> bool
 
 /// Whether a section's version is one that is read: 1.0 or 1.2.
 pub fn is_version(major: u16, minor: u16) -> bool
-    ensures { result ≡ is_version major minor }
+    ensures { result ≡ is_section_version major minor }
 {
     major == 1 && (minor == 0 || minor == 2)
 }

@@ -2,8 +2,8 @@
 ghost use Rattle.std.specs.Prelude.{◌≡◌, ◌≤◌, ◌+◌, None, Some, OnOk, true, false, length};
 ghost use Rattle.cap_bytes.specs.inner.Reach.{Reaches, ReachesTo};
 ghost use Rattle.cap_bytes.specs.inner.Window.{position, read_to};
-ghost use Rattle.cap_blocks.specs.Grammar.{is_known};
-ghost use Rattle.cap_blocks.specs.inner.Parsing.{IsHeader, LooksAtBody, SkipsBody, Stays};
+ghost use Rattle.cap_blocks.specs.Grammar.{is_known_kind};
+ghost use Rattle.cap_blocks.specs.inner.Parsing.{IsHeader, LooksAtBody, SkipsBody, ParsingStays};
 ghost use Rattle.cap_blocks.specs.Split.{body_fault};
 
 use crate::blocks::{Block, SECTION, is_known, is_version};
@@ -36,10 +36,10 @@ pub fn body_rule(block: Block, bytes: &[u8]) -> Option<Rule>
 // Looks at the body of a block of a known kind, which the window shows whole then.
 fn look_at_known<R: Source>(window: &mut Window<R>, block: Block) -> Result<Option<Rule>, Fault>
     requires header { IsHeader block window.old.offset window.old.shown }
-    requires known { is_known block.kind ≡ true }
+    requires known { is_known_kind block.kind ≡ true }
     ensures answer { LooksAtBody block window.old result window.new }
     ensures reaches { Reaches (λ _. Some block.total) block.total (position window.old) result (read_to window.new) }
-    ensures stays { Stays window.old window.new }
+    ensures stays { ParsingStays window.old window.new }
 {
     if !window.need(block.total as usize)? {
         return Ok(Some(Rule::Cut));
@@ -52,11 +52,11 @@ fn skip_body<R: Source>(window: &mut Window<R>, block: Block) -> Result<Option<R
     requires header { IsHeader block window.old.offset window.old.shown }
     requires room { 12 ≤ window.old.room }
     requires whole { window.old.broken ≡ None }
-    requires unknown { is_known block.kind ≡ false }
+    requires unknown { is_known_kind block.kind ≡ false }
     ensures answer { SkipsBody block window.old result window.new }
     ensures reaches { OnOk result (ReachesTo window.old.most (window.old.offset + block.total)
         (read_to window.old) (read_to window.new)) }
-    ensures stays { Stays window.old window.new }
+    ensures stays { ParsingStays window.old window.new }
 {
     if !window.skip(u64::from(block.total) - TRAILER_SIZE as u64)? {
         return Ok(Some(Rule::Cut));
@@ -76,10 +76,10 @@ fn look_at_skipped<R: Source>(window: &mut Window<R>, block: Block) -> Result<Op
     requires header { IsHeader block window.old.offset window.old.shown }
     requires room { 12 ≤ window.old.room }
     requires whole { window.old.broken ≡ None }
-    requires unknown { is_known block.kind ≡ false }
+    requires unknown { is_known_kind block.kind ≡ false }
     ensures answer { LooksAtBody block window.old result window.new }
     ensures reaches { Reaches (λ _. Some block.total) block.total (position window.old) result (read_to window.new) }
-    ensures stays { Stays window.old window.new }
+    ensures stays { ParsingStays window.old window.new }
 {
     match skip_body(window, block) {
         Ok(fault) => Ok(fault),
@@ -102,7 +102,7 @@ pub fn look_at_body<R: Source>(window: &mut Window<R>, block: Block) -> Result<O
     requires whole { window.old.broken ≡ None }
     ensures answer { LooksAtBody block window.old result window.new }
     ensures reaches { Reaches (λ _. Some block.total) block.total (position window.old) result (read_to window.new) }
-    ensures stays { Stays window.old window.new }
+    ensures stays { ParsingStays window.old window.new }
 {
     if is_known(block.kind) {
         look_at_known(window, block)

@@ -3,7 +3,8 @@ ghost use Rattle.std.specs.Prelude.{◌≡◌, ◌+◌, ◌≤◌, ◌^◌, ◌&
 ghost use Rattle.cap_bytes.specs.inner.Reach.{Reaches};
 ghost use Rattle.cap_bytes.specs.inner.Window.{position, read_to};
 ghost use Rattle.cap_blocks.specs.Grammar.{enhanced_kind};
-ghost use Rattle.cap_blocks.specs.inner.Parsing.{FindsOwnOrder, FindsOrder, ParsesHeader, LooksAtHeader, Stays};
+ghost use Rattle.cap_blocks.specs.inner.Parsing.{FindsOwnOrder, FindsOrder, ParsesBlockHeader, LooksAtHeader};
+ghost use Rattle.cap_blocks.specs.inner.Parsing.{ParsingStays};
 ghost use Rattle.cap_blocks.specs.Split.{is_section, is_ordered, first_fault};
 
 use crate::blocks::{Block, ENHANCED_PACKET, ORDER_MAGIC, SECTION, is_total};
@@ -79,7 +80,7 @@ fn order_of(section: Option<Order>, bytes: &[u8]) -> Option<Order>
 #[inline(always)]
 pub fn header_of(section: Option<Order>, offset: u64, bytes: &[u8]) -> Result<Block, Rule>
     requires { offset ≤ 2 ^ 40 }
-    ensures { ParsesHeader section offset bytes.now result }
+    ensures { ParsesBlockHeader section offset bytes.now result }
 {
     if let Some(rule) = first_rule(section, bytes) {
         return Err(rule);
@@ -114,7 +115,7 @@ pub fn header_of(section: Option<Order>, offset: u64, bytes: &[u8]) -> Result<Bl
 pub fn enhanced_at(order: Order, offset: u64, bytes: &[u8]) -> Option<Block>
     requires head { 12 ≤ length bytes.now }
     requires limit { offset ≤ 2 ^ 40 }
-    ensures header { IfSome result (λ block. ParsesHeader (Some order) offset bytes.now (Ok block)) }
+    ensures header { IfSome result (λ block. ParsesBlockHeader (Some order) offset bytes.now (Ok block)) }
     ensures kind { IfSome result (λ block. block.kind ≡ enhanced_kind) }
 {
     if is_section(bytes) || u32_at(order, bytes, 0) != ENHANCED_PACKET {
@@ -147,7 +148,7 @@ pub fn look_at_header<R: Source>(
 ) -> Result<Result<Block, Stop>, Fault>
     ensures answer { LooksAtHeader section tail window.old result window.new }
     ensures reaches { Reaches (λ _. Some 12) 12 (position window.old) result (read_to window.new) }
-    ensures stays { Stays window.old window.new }
+    ensures stays { ParsingStays window.old window.new }
 {
     let file = window.file();
     let offset = window.offset();

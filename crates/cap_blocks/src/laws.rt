@@ -1,5 +1,6 @@
 //! The laws of the grammar of pcapng files.
-ghost use Rattle.cap_blocks.specs.inner.Laws.{OneBlock, OneSplit, EverySplit, SplitItems, ItemsAtNone, ItemsAtFault};
+ghost use Rattle.cap_blocks.specs.inner.Laws.{OneBlock, OneBlockSplit, EveryBlockSplit, BlockSplitItems, ItemsAtNone};
+ghost use Rattle.cap_blocks.specs.inner.Laws.{ItemsAtFault};
 ghost use Rattle.cap_blocks.specs.inner.Laws.{ItemsAtBlock, BlockRead, BlockThere, SectionAgain, InterfaceAgain};
 ghost use Rattle.cap_blocks.specs.inner.Laws.{PacketAgain};
 ghost use Rattle.cap_blocks.specs.inner.OptionGrammar.{EveryOptions, OptionsRead};
@@ -19,9 +20,9 @@ ghost use Rattle.cap_blocks.specs.inner.OptionGrammar.{EveryOptions, OptionsRead
 ///   read are exactly those, and the fault of the one that runs past.
 pub fn grammar_laws()
     ensures block { OneBlock }
-    ensures one { OneSplit }
-    ensures every { EverySplit }
-    ensures items { SplitItems }
+    ensures one { OneBlockSplit }
+    ensures every { EveryBlockSplit }
+    ensures items { BlockSplitItems }
     ensures at_none { ItemsAtNone }
     ensures at_fault { ItemsAtFault }
     ensures at_block { ItemsAtBlock }

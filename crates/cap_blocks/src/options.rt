@@ -15,12 +15,12 @@ pub struct Options<'a> {
 
 impl<'a> Options<'a> {
     ghost use Rattle.cap_blocks.specs.OptionList.{options_of};
-    ghost use Rattle.cap_blocks.specs.inner.Options.{items_of};
+    ghost use Rattle.cap_blocks.specs.inner.Options.{options_to_come};
 
     /// The options that these bytes spell in an order.
     pub fn new(order: Order, bytes: &'a [u8]) -> Options<'a>
         requires padded { length bytes.now % 4 ≡ 0 }
-        ensures items { items_of result ≡ options_of order bytes.now }
+        ensures items { options_to_come result ≡ options_of order bytes.now }
     {
         Options { order, rest: bytes }
     }
@@ -30,11 +30,11 @@ impl<'a> Iterator for Options<'a> {
     type Item = Result<(u16, &'a [u8]), Rule>;
 
     ghost use Rattle.std.specs.Iterator.{YieldsFirstBy, item_count};
-    ghost use Rattle.cap_blocks.specs.inner.Options.{items_of, item_of};
+    ghost use Rattle.cap_blocks.specs.inner.Options.{options_to_come, option_item};
 
-    ghost next_gives = { YieldsFirstBy item_of items_of };
+    ghost next_gives = { YieldsFirstBy option_item options_to_come };
 
-    ghost remaining = { item_count items_of };
+    ghost remaining = { item_count options_to_come };
 
     fn next(&mut self) -> Option<Result<(u16, &'a [u8]), Rule>> {
         if self.rest.len() < 4 {

@@ -1,12 +1,13 @@
 //! A reader of pcapng files.
 ghost use Rattle.std.specs.Prelude.{◌≡◌, ◌↔◌, ◌≤◌, ◌+◌, ◌^◌, length, IsTrue, IsSome, IsNone, IfSome, OnSome, Some, Ok};
 ghost use Rattle.cap_bytes.specs.inner.Reach.{Reaches, size_found};
-ghost use Rattle.cap_bytes.specs.inner.Reader.{opened, Keeps, HasWindow};
-ghost use Rattle.cap_blocks.specs.inner.Reader.{GivesNext, ReachesNext, TakesItem, block_size, size_of, shown_size};
-ghost use Rattle.cap_blocks.specs.Grammar.{enhanced_kind, is_known};
-ghost use Rattle.cap_blocks.specs.inner.Parsing.{LooksForBlock, SeesBlock, Stays};
+ghost use Rattle.cap_bytes.specs.inner.Reader.{opened_reader, ReaderKeeps, HasWindow};
+ghost use Rattle.cap_blocks.specs.inner.Reader.{GivesNextBlock, ReachesBlock, TakesBlock, block_size, shown_block_size};
+ghost use Rattle.cap_blocks.specs.inner.Reader.{shown_size};
+ghost use Rattle.cap_blocks.specs.Grammar.{enhanced_kind, is_known_kind};
+ghost use Rattle.cap_blocks.specs.inner.Parsing.{LooksForBlock, SeesBlock, ParsingStays};
 ghost use Rattle.cap_blocks.specs.Split.{wanted_at};
-ghost use Rattle.cap_bytes.specs.inner.Window.{Passes, coming, position, read_to};
+ghost use Rattle.cap_bytes.specs.inner.Window.{WindowPasses, coming, position, read_to};
 ghost use Rattle.cap_bytes.specs.declared.faults.Tail.{Tail};
 
 use crate::blocks::{Block, is_known};
@@ -32,15 +33,15 @@ pub struct BlockReader<R: Source> {
 
 impl<R: Source> Model for BlockReader<R> {
     ghost use Rattle.std.specs.Prelude.{length};
-    ghost use Rattle.cap_bytes.specs.inner.Reader.{State};
+    ghost use Rattle.cap_bytes.specs.inner.Reader.{ReaderState};
     ghost use Rattle.cap_bytes.specs.declared.numbers.Order.{Order};
-    ghost use Rattle.cap_blocks.specs.inner.Reader.{IsSound, state_of};
+    ghost use Rattle.cap_blocks.specs.inner.Reader.{IsSoundBlockReader, block_reader_state};
 
-    ghost Value = { State Order };
+    ghost Value = { ReaderState Order };
 
-    ghost view = { λ r. state_of r.window r.tail r.section r.given r.stop };
+    ghost view = { λ r. block_reader_state r.window r.tail r.section r.given r.stop };
 
-    ghost invariant = { λ r. IsSound r.given (length r.window.shown) r.window.offset r.window.held };
+    ghost invariant = { λ r. IsSoundBlockReader r.given (length r.window.shown) r.window.offset r.window.held };
 }
 
 // Looks for a block at the front of a window, which then shows it whole if its kind is known, and has
@@ -53,7 +54,7 @@ fn look_for_block<R: Source>(
     ensures answer { LooksForBlock section tail window.old result window.new }
     ensures reaches { Reaches (size_found block_size) (wanted_at section window.old.offset (coming window.old))
         (position window.old) result (read_to window.new) }
-    ensures stays { Stays window.old window.new }
+    ensures stays { ParsingStays window.old window.new }
 {
     let file = window.file();
     let block = match look_at_header(window, section, tail)? {
@@ -76,7 +77,7 @@ fn take_packet<R: Source>(
 ) -> Option<Block>
     requires given { given ≤ length window.old.shown }
     requires limit { window.old.offset + given ≤ 2 ^ 40 }
-    ensures passes { OnSome result (Passes given window.old window.new) }
+    ensures passes { OnSome result (WindowPasses given window.old window.new) }
     ensures held { OnSome result (window.new.held ≤ 524288) }
     ensures kind { IfSome result (λ block. block.kind ≡ enhanced_kind) }
     ensures sees { IfSome result (λ block. (tail : Tail) → SeesBlock section tail block window.new window.new) }
@@ -109,7 +110,7 @@ fn take_packet<R: Source>(
 
 // How many bytes the window still shows of the block that was given last.
 fn size_given(given: Option<u32>) -> usize
-    ensures { result ≡ size_of given }
+    ensures { result ≡ shown_block_size given }
 {
     match given {
         Some(total) => total as usize,
@@ -119,7 +120,7 @@ fn size_given(given: Option<u32>) -> usize
 
 // How many bytes the window shows of a block that is given.
 fn shown_of(block: Block) -> Option<u32>
-    ensures { result ≡ shown_size (is_known block.kind) block.total }
+    ensures { result ≡ shown_size (is_known_kind block.kind) block.total }
 {
     if is_known(block.kind) {
         Some(block.total)
@@ -131,7 +132,7 @@ fn shown_of(block: Block) -> Option<u32>
 impl<R: Source> BlockReader<R> {
     /// A reader of the bytes that a window shows from now on. It reads nothing yet.
     pub fn new(window: Window<R>, tail: Tail) -> BlockReader<R>
-        ensures opened { result ≡ opened window tail }
+        ensures opened { result ≡ opened_reader window tail }
         ensures held { result.held ≤ 524288 }
     {
         let _limits = (window.offset(), window.held());
@@ -149,10 +150,10 @@ impl<R: Source> BlockReader<R> {
     #[inline(always)]
     pub fn take_packet(&mut self) -> Option<Block>
         ensures kind { IfSome result (λ block. block.kind ≡ enhanced_kind) }
-        ensures answer { IfSome result (λ block. GivesNext self.old (Ok (Some block)) self.new) }
-        ensures reaches { IfSome result (λ block. ReachesNext self.old (Ok (Some block)) self.new) }
-        ensures keeps { Keeps self.old self.new }
-        ensures items { IsTrue self.old.told → IfSome result (λ block. TakesItem self.old (Ok (Some block)) self.new) }
+        ensures answer { IfSome result (λ block. GivesNextBlock self.old (Ok (Some block)) self.new) }
+        ensures reaches { IfSome result (λ block. ReachesBlock self.old (Ok (Some block)) self.new) }
+        ensures keeps { ReaderKeeps self.old self.new }
+        ensures items { IsTrue self.old.told → IfSome result (λ block. TakesBlock self.old (Ok (Some block)) self.new) }
         ensures none { IsNone result → self.new ≡ self.old }
     {
         self.read_packet()
@@ -162,9 +163,9 @@ impl<R: Source> BlockReader<R> {
     #[inline(always)]
     fn read_packet(&mut self) -> Option<Block>
         ensures kind { IfSome result (λ block. block.kind ≡ enhanced_kind) }
-        ensures answer { IfSome result (λ block. GivesNext self.old (Ok (Some block)) self.new) }
-        ensures reaches { IfSome result (λ block. ReachesNext self.old (Ok (Some block)) self.new) }
-        ensures keeps { Keeps self.old self.new }
+        ensures answer { IfSome result (λ block. GivesNextBlock self.old (Ok (Some block)) self.new) }
+        ensures reaches { IfSome result (λ block. ReachesBlock self.old (Ok (Some block)) self.new) }
+        ensures keeps { ReaderKeeps self.old self.new }
         ensures none { IsNone result → self.new ≡ self.old }
     {
         if self.stop.is_some() {
@@ -182,9 +183,9 @@ impl<R: Source> BlockReader<R> {
 
     // Looks for the next block, after the one that was given last.
     fn read_block(&mut self) -> Result<Option<Block>, Fault>
-        ensures answer { GivesNext self.old result self.new }
-        ensures reaches { ReachesNext self.old result self.new }
-        ensures keeps { Keeps self.old self.new }
+        ensures answer { GivesNextBlock self.old result self.new }
+        ensures reaches { ReachesBlock self.old result self.new }
+        ensures keeps { ReaderKeeps self.old self.new }
     {
         if let Some(stop) = self.stop {
             return stop.answer();
@@ -210,10 +211,10 @@ impl<R: Source> BlockReader<R> {
     /// dropped instead, which is the end, but never within the first section header. `Memory` leaves what
     /// is to come. A read that fails is told with the offset at which the block begins, and comes again.
     pub fn next_block(&mut self) -> Result<Option<Block>, Fault>
-        ensures answer { GivesNext self.old result self.new }
-        ensures reaches { ReachesNext self.old result self.new }
-        ensures keeps { Keeps self.old self.new }
-        ensures items { IsTrue self.old.told → TakesItem self.old result self.new }
+        ensures answer { GivesNextBlock self.old result self.new }
+        ensures reaches { ReachesBlock self.old result self.new }
+        ensures keeps { ReaderKeeps self.old self.new }
+        ensures items { IsTrue self.old.told → TakesBlock self.old result self.new }
     {
         self.read_block()
     }

@@ -1,7 +1,7 @@
 -- What ends the pieces of a file, and the items of some bytes by what stands at their front.
 use Rattle.std.proofs.Common.{◌≡◌, ℕ, suc, ◌+◌, ◌<◌, ◌==◌, ◌&&◌, Bool, true, false, List, [], ◌∷◌, length, drop, Option}
 use Rattle.std.proofs.Common.{Some, None, refl, arith, length-drop}
-use Rattle.cap_bytes.specs.Items.{stop_by, stop_where, IsStopAt, given, stopped, Format, items_by, items_in}
+use Rattle.cap_bytes.specs.Items.{stop_by, stop_where, IsStopAt, given, stopped, Format, piece_items_by, piece_items}
 use Rattle.cap_bytes.specs.declared.faults.Refusal.{Refusal}
 use Rattle.cap_bytes.specs.declared.faults.Rule.{Rule}
 use Rattle.cap_bytes.specs.declared.faults.Tail.{Tail}
@@ -59,23 +59,23 @@ module _ {K P : Type 0} (format : Format K P) (tail : Tail) (file : ℕ) where
   -- the items, by what ends the pieces
   items_by-stop : (n : ℕ) (known : K) (offset : ℕ) (bytes : List ℕ) (stop : Stop)
       → format.stop known tail file offset bytes ≡ Some stop
-      → items_by format (suc n) known tail file offset bytes ≡ stopped stop ∷ []
-  unfolding items_by
+      → piece_items_by format (suc n) known tail file offset bytes ≡ stopped stop ∷ []
+  unfolding piece_items_by
   items_by-stop n known offset bytes stop is = rw is refl
 
   items_by-piece : (n : ℕ) (known : K) (offset : ℕ) (bytes : List ℕ) → format.stop known tail file offset bytes ≡ None
-      → items_by format (suc n) known tail file offset bytes
+      → piece_items_by format (suc n) known tail file offset bytes
       ≡ given (format.piece known offset bytes) (format.lent known bytes)
-      ∷ items_by format n (format.next known bytes) tail file (offset + format.size known bytes)
+      ∷ piece_items_by format n (format.next known bytes) tail file (offset + format.size known bytes)
       (drop (format.size known bytes) bytes)
-  unfolding items_by
+  unfolding piece_items_by
   items_by-piece n known offset bytes is = rw is refl
 
   -- if something ends the pieces, that is the one item
   pub items_in-stop : (known : K) (offset : ℕ) (bytes : List ℕ) (stop : Stop)
       → format.stop known tail file offset bytes ≡ Some stop
-      → items_in format known tail file offset bytes ≡ stopped stop ∷ []
-  unfolding items_in
+      → piece_items format known tail file offset bytes ≡ stopped stop ∷ []
+  unfolding piece_items
   items_in-stop known offset bytes stop is = items_by-stop (length bytes) known offset bytes stop is
 
   module _ (advances : Advances format) where
@@ -83,14 +83,15 @@ module _ {K P : Type 0} (format : Format K P) (tail : Tail) (file : ℕ) where
     items_by-step : (m n : ℕ) (known : K) (offset : ℕ) (bytes : List ℕ) (stop : Option Stop)
         → format.stop known tail file offset bytes ≡ stop → length bytes < suc m → length bytes < suc n
         → ((next : K) (later : ℕ) (rest : List ℕ) → length rest < m → length rest < n
-        → items_by format m next tail file later rest ≡ items_by format n next tail file later rest)
-        → items_by format (suc m) known tail file offset bytes ≡ items_by format (suc n) known tail file offset bytes
+        → piece_items_by format m next tail file later rest ≡ piece_items_by format n next tail file later rest)
+        → piece_items_by format (suc m) known tail file offset bytes
+        ≡ piece_items_by format (suc n) known tail file offset bytes
     items_by-step m n known offset bytes (Some stop) is p q behind = grind (arith, items_by-stop)
     items_by-step m n known offset bytes None is p q behind = grind (arith, length-drop, items_by-piece)
 
     items_by-enough : (m n : ℕ) (known : K) (offset : ℕ) (bytes : List ℕ)
-        → length bytes < m → length bytes < n → items_by format m known tail file offset bytes
-        ≡ items_by format n known tail file offset bytes
+        → length bytes < m → length bytes < n → piece_items_by format m known tail file offset bytes
+        ≡ piece_items_by format n known tail file offset bytes
     items_by-enough (suc m) (suc n) known offset bytes p q =
         items_by-step m n known offset bytes (format.stop known tail file offset bytes) refl p q
         (λ next later rest few enough. items_by-enough m n next later rest few enough)
@@ -98,9 +99,9 @@ module _ {K P : Type 0} (format : Format K P) (tail : Tail) (file : ℕ) where
 
     -- if nothing does, a piece is the first item, and those of the bytes after it follow
     pub items_in-piece : (known : K) (offset : ℕ) (bytes : List ℕ) → format.stop known tail file offset bytes ≡ None
-        → items_in format known tail file offset bytes
+        → piece_items format known tail file offset bytes
         ≡ given (format.piece known offset bytes) (format.lent known bytes)
-        ∷ items_in format (format.next known bytes) tail file (offset + format.size known bytes)
+        ∷ piece_items format (format.next known bytes) tail file (offset + format.size known bytes)
         (drop (format.size known bytes) bytes)
-    unfolding items_in
+    unfolding piece_items
     items_in-piece known offset bytes is = grind (arith, length-drop, items_by-piece, items_by-enough)

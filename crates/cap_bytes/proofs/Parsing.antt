@@ -5,7 +5,7 @@ use Rattle.std.proofs.Common.{length-take}
 use Rattle.std.proofs.lemmas.List.{drop-append-le}
 use Rattle.cap_bytes.specs.Items.{stop_by}
 use Rattle.cap_bytes.specs.inner.Parsing.{FailsBy, SeesStop}
-use Rattle.cap_bytes.specs.inner.Window.{State, Goes, Shows, Needs, Passes, coming}
+use Rattle.cap_bytes.specs.inner.Window.{WindowState, WindowGoes, WindowShows, Needs, WindowPasses, coming}
 use Rattle.cap_bytes.specs.declared.faults.Fault.{Fault}
 use Rattle.cap_bytes.specs.declared.faults.Rule.{Rule}
 use Rattle.cap_bytes.specs.declared.faults.Tail.{Tail}
@@ -23,50 +23,54 @@ pub from_some : {A : Type 0} (o : Option A) (x : A) (P : A → Type 0) → o ≡
 from_some o x P e g = grind arith
 
 -- if the input ends, what is shown is all that comes
-pub all_shown : (old new : State) → Shows old new → (IsTrue old.told → new.unread ≡ []) → IsTrue old.told
+pub all_shown : (old new : WindowState) → WindowShows old new → (IsTrue old.told → new.unread ≡ []) → IsTrue old.told
     → coming old ≡ new.shown
 all_shown old new s none t = sym (s.coming_same t) ∙ (ap (λ l. new.shown ++ l) (none t) ∙ append-nil new.shown)
 
 -- what a look shows is at least what was shown
-pub longer_shown : (a b : State) → Shows a b → length a.shown ≤ length b.shown
+pub longer_shown : (a b : WindowState) → WindowShows a b → length a.shown ≤ length b.shown
 longer_shown a b p = omega (arith, length-take (length a.shown) b.shown, ap length p.front)
 
 -- two looks, one after the other
-pub Goes-trans : (a b c : State) → Goes a b → Goes b c → Goes a c
+pub Goes-trans : (a b c : WindowState) → WindowGoes a b → WindowGoes b c → WindowGoes a c
 Goes-trans a b c p q = record { before = p.before; after = q.after; failed = q.failed ∙ p.failed }
 
-pub Shows-trans : (a b c : State) → (IsTrue a.told → IsTrue b.told) → Shows a b → Shows b c → Shows a c
+pub Shows-trans : (a b c : WindowState) → (IsTrue a.told → IsTrue b.told) → WindowShows a b → WindowShows b c
+    → WindowShows a c
 Shows-trans a b c told p q = grind (arith, take-take, longer_shown)
 
 -- the bytes to come after those that are passed
-pub coming-passed : (n : ℕ) (v u : State) → n ≤ length v.shown → Passes n v u → coming u ≡ drop n (coming v)
+pub coming-passed : (n : ℕ) (v u : WindowState) → n ≤ length v.shown → WindowPasses n v u → coming u ≡ drop n (coming v)
 coming-passed n v u few p = grind (arith, drop-append-le)
 
 -- the fault of a first look
-pub FailsBy-need : (n size : ℕ) (Lacks : Type 0) (old new : State) (f : Fault) → n ≤ size → (old.room < n → Lacks)
+pub FailsBy-need : (n size : ℕ) (Lacks : Type 0) (old new : WindowState) (f : Fault) → n ≤ size → (old.room < n → Lacks)
     → Needs n old (Err f) new
     → FailsBy size Lacks old f new
 FailsBy-need n size Lacks old new f few lacks k = grind arith
 
 -- and that of a second one
-pub FailsBy-later : (size : ℕ) (First Second : Type 0) (a b c : State) (f : Fault) → Shows a b → b.file ≡ a.file
+pub FailsBy-later : (size : ℕ) (First Second : Type 0) (a b c : WindowState) (f : Fault) → WindowShows a b
+    → b.file ≡ a.file
     → (IsTrue a.told → IsTrue b.told) → (IsTrue b.can_fail → IsTrue a.can_fail) → a.room ≤ b.room
     → (IsTrue a.told → Second → First)
     → FailsBy size Second b f c → FailsBy size First a f c
 FailsBy-later size First Second a b c f p named told cannot room lacks was = grind (arith, Shows-trans)
 
 -- some bytes are to come if some are shown
-pub some_left : (inside : Bool) (old new : State) → Shows old new → 0 < length new.shown → IsTrue old.told
+pub some_left : (inside : Bool) (old new : WindowState) → WindowShows old new → 0 < length new.shown → IsTrue old.told
     → (inside && (length (coming old) == 0)) ≡ false
 some_left inside old new s some t = grind (arith, length-append)
 
 -- no piece is there, since a rule is broken
-pub SeesStop-fault : (inside : Bool) (fault : Option Rule) (tail : Tail) (rule : Rule) (old new : State) → Goes old new
+pub SeesStop-fault : (inside : Bool) (fault : Option Rule) (tail : Tail) (rule : Rule) (old new : WindowState)
+    → WindowGoes old new
     → (IsTrue old.told → (inside && (length (coming old) == 0)) ≡ false) → (IsTrue old.told → fault ≡ Some rule)
     → SeesStop inside fault tail (stop_by inside tail old.file old.offset rule) old new
 SeesStop-fault inside fault tail rule old new goes some is = search (IsStopAt-stop_by, stop_where-fault)
 
 -- none is there, since no bytes are left
-pub SeesStop-end : (inside : Bool) (fault : Option Rule) (tail : Tail) (old new : State) → Goes old new → inside ≡ true
+pub SeesStop-end : (inside : Bool) (fault : Option Rule) (tail : Tail) (old new : WindowState) → WindowGoes old new
+    → inside ≡ true
     → (IsTrue old.told → coming old ≡ []) → SeesStop inside fault tail stops.End old new
 SeesStop-end inside fault tail old new goes within none = grind (arith, stop_where-end)

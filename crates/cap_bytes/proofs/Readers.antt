@@ -1,11 +1,12 @@
 -- What a look at the window makes of a reader, and what that does to the items to come.
 use Rattle.std.proofs.Common.{◌≡◌, ℕ, ◌+◌, ◌≤◌, List, [], ◌∷◌, length, drop, Option, Some, None, option_map, Bool}
 use Rattle.std.proofs.Common.{IsTrue, Result, Err, length-drop, arith}
-use Rattle.cap_bytes.specs.Items.{stop_where, answer_of, Item, stopped, items_by_stop, TakesItem}
+use Rattle.cap_bytes.specs.Items.{stop_where, stop_answer, PieceItem, stopped, items_by_stop, TakesPiece}
 use Rattle.cap_bytes.specs.inner.Reach.{Position, ReachesTo, Reaches}
-use Rattle.cap_bytes.specs.inner.Reader.{State, Keeps, Waits, Gives, GivesStop, GivesNext, state_of, position}
+use Rattle.cap_bytes.specs.inner.Reader.{ReaderState, ReaderKeeps, ReaderWaits, Gives, GivesStop, GivesNextPiece}
+use Rattle.cap_bytes.specs.inner.Reader.{reader_state, position}
 use Rattle.cap_bytes.specs.inner.Parsing.{FailsBy, SeesStop}
-use Rattle.cap_bytes.specs.inner.Window.{State as WindowState, Passes, coming, read_to}
+use Rattle.cap_bytes.specs.inner.Window.{WindowState, WindowPasses, coming, read_to}
 use Rattle.cap_bytes.specs.inner.Window as windows
 use Rattle.cap_bytes.specs.declared.faults.Fault.{Fault}
 use Rattle.cap_bytes.specs.declared.faults.Rule.{Rule}
@@ -15,7 +16,7 @@ use Rattle.cap_bytes.proofs.Parsing.{coming-passed}
 use Rattle.cap_bytes.proofs.Reach.{ReachesTo-here}
 
 -- A window stands where a reader does, of which nothing has ended the pieces.
-pub record Stands {K : Type 0} (old : State K) (u : WindowState) : Type 0 where
+pub record Stands {K : Type 0} (old : ReaderState K) (u : WindowState) : Type 0 where
   pub free : old.stop ≡ None
   pub file : u.file ≡ old.file
   pub offset : u.offset ≡ old.offset
@@ -31,19 +32,19 @@ pub record Stands {K : Type 0} (old : State K) (u : WindowState) : Type 0 where
 -- it does once it has passed what it shows of the piece that was given last
 pub Stands-passed : {K : Type 0} (w u : WindowState) (tail : Tail) (known : Option K) (size : ℕ)
     (lent : Option (List ℕ)) (stop : Option Stop)
-    → stop ≡ None → size ≤ length w.shown → Passes size w u → Stands (state_of w tail known size lent stop) u
+    → stop ≡ None → size ≤ length w.shown → WindowPasses size w u → Stands (reader_state w tail known size lent stop) u
 Stands-passed w u tail known size lent stop free within p = grind (arith, coming-passed, length-drop)
 
 pub Stands-here : {K : Type 0} (w : WindowState) (tail : Tail) (known : Option K)
-    → Stands (state_of w tail known 0 None None) w
+    → Stands (reader_state w tail known 0 None None) w
 Stands-here w tail known = grind arith
 
-module _ {K : Type 0} (old : State K) (u v : WindowState) (at : Stands old u) where
+module _ {K : Type 0} (old : ReaderState K) (u v : WindowState) (at : Stands old u) where
   -- that many bytes are read, of which the window still shows `left`
-  pub Gives-seen : (known : Option K) (size left : ℕ) (lent : Option (List ℕ)) → windows.Goes u v
+  pub Gives-seen : (known : Option K) (size left : ℕ) (lent : Option (List ℕ)) → windows.WindowGoes u v
       → v.offset + left ≡ u.offset + size
       → (IsTrue u.told → drop left (coming v) ≡ drop size (coming u))
-      → Gives known size old (state_of v old.tail known left lent old.stop)
+      → Gives known size old (reader_state v old.tail known left lent old.stop)
   Gives-seen known size left lent g next rest = grind arith
 
   -- how far that was read for a piece that is given
@@ -64,33 +65,35 @@ module _ {K : Type 0} (old : State K) (u v : WindowState) (at : Stands old u) wh
       → List ℕ → ℕ → Type 0) where
     -- the same by what is answered
     pub GivesNext-stopped : (end : Stop) → SeesStop inside (fault u.offset (coming u)) old.tail end u v
-        → GivesNext Comes inside (fault old.offset old.coming) size (lacks old.offset old.coming old.room) old
-        (answer_of end)
-        (state_of v old.tail old.known 0 None (Some end))
+        → GivesNextPiece Comes inside (fault old.offset old.coming) size (lacks old.offset old.coming old.room) old
+        (stop_answer end)
+        (reader_state v old.tail old.known 0 None (Some end))
     GivesNext-stopped end s = grind arith
 
     -- a fault of the look
     pub GivesNext-failed : (f : Fault) → FailsBy size (lacks u.offset (coming u) u.room) u f v
-        → GivesNext Comes inside (fault old.offset old.coming) size (lacks old.offset old.coming old.room) old (Err f)
-        (state_of v old.tail old.known 0 None old.stop)
+        → GivesNextPiece Comes inside (fault old.offset old.coming) size (lacks old.offset old.coming old.room) old
+        (Err f)
+        (reader_state v old.tail old.known 0 None old.stop)
     GivesNext-failed f h = grind arith
 
 -- What ended the pieces is answered with no more read.
 pub Reaches-stopped : {P : Type 0} (size : P → ℕ) (wanted read : ℕ) (at : Position) (end : Stop)
-    → Reaches (option_map size) wanted at (answer_of end) read
+    → Reaches (option_map size) wanted at (stop_answer end) read
 Reaches-stopped size wanted read at end = grind arith
 
 -- What ended the pieces is the one item to come, now and again.
-module _ {K P : Type 0} (items : Option K → Tail → ℕ → ℕ → List ℕ → List (Item P)) where
+module _ {K P : Type 0} (items : Option K → Tail → ℕ → ℕ → List ℕ → List (PieceItem P)) where
   -- the items to come of a reader
-  abbrev pub to_come : State K → List (Item P)
+  abbrev pub to_come : ReaderState K → List (PieceItem P)
   to_come reader = items_by_stop reader.stop (items reader.known reader.tail reader.file reader.offset reader.coming)
 
-  pub waits_kept : (size : ℕ) (old new : State K) → Waits size old new → Keeps old new → IsTrue old.told
+  pub waits_kept : (size : ℕ) (old new : ReaderState K) → ReaderWaits size old new → ReaderKeeps old new
+      → IsTrue old.told
       → to_come new ≡ to_come old
   waits_kept size old new w k t = grind arith
 
-  module _ (inside : Bool) (fault : Option Rule) (old new : State K)
+  module _ (inside : Bool) (fault : Option Rule) (old new : ReaderState K)
       (ends : old.stop ≡ None → (stop : Stop)
       → stop_where inside old.tail old.file old.offset old.coming fault ≡ Some stop
       → items old.known old.tail old.file old.offset old.coming ≡ stopped stop ∷ []) where
@@ -100,7 +103,7 @@ module _ {K P : Type 0} (items : Option K → Tail → ℕ → ℕ → List ℕ 
 
     -- What a call for a piece answers tells what it does to the items to come.
     pub TakesItem-next : (Comes Takes : P → Type 0) (size : ℕ) (Lacks : Type 0) (result : Result (Option P) Fault)
-        → ((piece : P) → Comes piece → Takes piece) → GivesNext Comes inside fault size Lacks old result new
-        → Keeps old new → IsTrue old.told
-        → TakesItem Takes (to_come old) result (to_come new)
+        → ((piece : P) → Comes piece → Takes piece) → GivesNextPiece Comes inside fault size Lacks old result new
+        → ReaderKeeps old new → IsTrue old.told
+        → TakesPiece Takes (to_come old) result (to_come new)
     TakesItem-next Comes Takes size Lacks result takes g k t = grind arith

@@ -37,18 +37,18 @@ IsEnd stops.Cut = ⊤
 IsEnd (stops.Refused refusal) = ⊥
 
 -- what a call for a piece answers there
-abbrev pub answer_of : {P : Type 0} → Stop → Result (Option P) Fault
-answer_of stops.End = Ok None
-answer_of stops.Cut = Ok None
-answer_of (stops.Refused refusal) = Err (Refused refusal)
+abbrev pub stop_answer : {P : Type 0} → Stop → Result (Option P) Fault
+stop_answer stops.End = Ok None
+stop_answer stops.Cut = Ok None
+stop_answer (stops.Refused refusal) = Err (Refused refusal)
 
 -- what comes of a file: its pieces with their bytes, and in the end what ended them
-pub data Item (P : Type 0) : Type 0 where
-  given : P → List ℕ → Item P
-  stopped : Stop → Item P
+pub data PieceItem (P : Type 0) : Type 0 where
+  given : P → List ℕ → PieceItem P
+  stopped : Stop → PieceItem P
 
 -- what comes if something ends the pieces, and if nothing does
-abbrev pub item_or : {P : Type 0} → Option Stop → Item P → List (Item P) → List (Item P)
+abbrev pub item_or : {P : Type 0} → Option Stop → PieceItem P → List (PieceItem P) → List (PieceItem P)
 item_or (Some stop) item rest = stopped stop ∷ []
 item_or None item rest = item ∷ rest
 
@@ -63,28 +63,30 @@ pub record Format (K P : Type 0) : Type 0 where
   pub next : K → List ℕ → K
 
 -- the items of some bytes that begin at `offset`, as far as `fuel` goes
-unfoldable pub items_by : {K P : Type 0} → Format K P → ℕ → K → Tail → ℕ → ℕ → List ℕ → List (Item P)
-items_by format zero known tail file offset bytes = []
-items_by format (suc fuel) known tail file offset bytes =
+unfoldable pub piece_items_by : {K P : Type 0} → Format K P → ℕ → K → Tail → ℕ → ℕ → List ℕ → List (PieceItem P)
+piece_items_by format zero known tail file offset bytes = []
+piece_items_by format (suc fuel) known tail file offset bytes =
     let size = format.size known bytes in
     item_or (format.stop known tail file offset bytes)
     (given (format.piece known offset bytes) (format.lent known bytes))
-    (items_by format fuel (format.next known bytes) tail file (offset + size) (drop size bytes))
+    (piece_items_by format fuel (format.next known bytes) tail file (offset + size) (drop size bytes))
 
 -- the items of some bytes that begin at `offset`
-unfoldable pub items_in : {K P : Type 0} → Format K P → K → Tail → ℕ → ℕ → List ℕ → List (Item P)
-items_in format known tail file offset bytes = items_by format (suc (length bytes)) known tail file offset bytes
+unfoldable pub piece_items : {K P : Type 0} → Format K P → K → Tail → ℕ → ℕ → List ℕ → List (PieceItem P)
+piece_items format known tail file offset bytes = piece_items_by format (suc (length bytes)) known tail file offset
+    bytes
 
 -- the items to come of a reader: what ended the pieces comes again and again
-abbrev pub items_by_stop : {P : Type 0} → Option Stop → List (Item P) → List (Item P)
+abbrev pub items_by_stop : {P : Type 0} → Option Stop → List (PieceItem P) → List (PieceItem P)
 items_by_stop (Some stop) items = stopped stop ∷ []
 items_by_stop None items = items
 
 -- What a call for a piece does to them, if a piece is taken from them in this way.
-abbrev pub TakesItem : {P : Type 0} → (P → Type 0) → List (Item P) → Result (Option P) Fault → List (Item P) → Type 0
-TakesItem Takes old (Ok (Some piece)) new = Takes piece
-TakesItem Takes old (Ok None) new = (stop : Stop) × IsEnd stop × (old ≡ stopped stop ∷ []) × (new ≡ old)
-TakesItem Takes old (Err (Refused refusal)) new = (old ≡ stopped (stops.Refused refusal) ∷ []) × (new ≡ old)
-TakesItem Takes old (Err (Read file offset)) new = ⊤
-TakesItem Takes old (Err Memory) new = new ≡ old
-TakesItem Takes old (Err Write) new = ⊥
+abbrev pub TakesPiece : {P : Type 0} → (P → Type 0) → List (PieceItem P) → Result (Option P) Fault
+    → List (PieceItem P) → Type 0
+TakesPiece Takes old (Ok (Some piece)) new = Takes piece
+TakesPiece Takes old (Ok None) new = (stop : Stop) × IsEnd stop × (old ≡ stopped stop ∷ []) × (new ≡ old)
+TakesPiece Takes old (Err (Refused refusal)) new = (old ≡ stopped (stops.Refused refusal) ∷ []) × (new ≡ old)
+TakesPiece Takes old (Err (Read file offset)) new = ⊤
+TakesPiece Takes old (Err Memory) new = new ≡ old
+TakesPiece Takes old (Err Write) new = ⊥

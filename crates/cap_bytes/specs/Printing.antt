@@ -18,12 +18,12 @@ Prints text refusal old (Err Write) new = PrintsFront text old new
 Prints text refusal old (Err Memory) new = PrintsFront text old new
 
 -- a reader failed
-abbrev pub IsRead : {A : Type 0} → Result A Fault → Type 0
-IsRead (Ok _) = ⊥
-IsRead (Err (Refused refusal)) = ⊥
-IsRead (Err (Read file offset)) = Unit {0}
-IsRead (Err Write) = ⊥
-IsRead (Err Memory) = ⊥
+abbrev pub IsReadFault : {A : Type 0} → Result A Fault → Type 0
+IsReadFault (Ok _) = ⊥
+IsReadFault (Err (Refused refusal)) = ⊥
+IsReadFault (Err (Read file offset)) = Unit {0}
+IsReadFault (Err Write) = ⊥
+IsReadFault (Err Memory) = ⊥
 
 -- the writer failed
 abbrev pub is_write : {A : Type 0} → Result A Fault → Bool

@@ -1,6 +1,6 @@
 //! What ends a file that is read piece by piece: record by record, or block by block.
 ghost use Rattle.std.specs.Prelude.{◌≡◌};
-ghost use Rattle.cap_bytes.specs.Items.{stop_by, answer_of};
+ghost use Rattle.cap_bytes.specs.Items.{stop_by, stop_answer};
 
 use crate::faults::{Fault, Refusal, Rule, Tail};
 
@@ -29,7 +29,7 @@ impl Stop {
 
     /// What a call for a piece answers from then on.
     pub fn answer<T>(self) -> Result<Option<T>, Fault>
-        ensures { result ≡ answer_of self }
+        ensures { result ≡ stop_answer self }
     {
         match self {
             Stop::End | Stop::Cut => Ok(None),

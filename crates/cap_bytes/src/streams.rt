@@ -14,11 +14,11 @@ pub struct Tracked<T> {
 }
 
 impl<T> Tracked<T> {
-    ghost use Rattle.cap_bytes.specs.Tracked.{inner_of, has_failed};
+    ghost use Rattle.cap_bytes.specs.Tracked.{tracked_inner, has_failed};
 
     /// A device over `inner` that hasn't failed.
     pub fn new(inner: T) -> Tracked<T>
-        ensures inner { inner_of result ≡ inner }
+        ensures inner { tracked_inner result ≡ inner }
         ensures fresh { has_failed result ≡ false }
     {
         Tracked {
@@ -29,7 +29,7 @@ impl<T> Tracked<T> {
 
     /// What it reads from or writes to.
     pub fn into_inner(self) -> T
-        ensures { result ≡ inner_of self }
+        ensures { result ≡ tracked_inner self }
     {
         self.inner
     }
@@ -73,11 +73,11 @@ impl<T: Drop> Device for Tracked<T> {
 
 impl<T: Read + Drop> Source for Tracked<T> {
     ghost use Rattle.std.specs.Prelude.{None, is_some, unwrap_or, []};
-    ghost use Rattle.cap_bytes.specs.Tracked.{inner_of};
+    ghost use Rattle.cap_bytes.specs.Tracked.{tracked_inner};
 
-    ghost tells_coming = { λ t. is_some (T.remaining (inner_of t)) };
+    ghost tells_coming = { λ t. is_some (T.remaining (tracked_inner t)) };
 
-    ghost coming = { λ t. unwrap_or (T.remaining (inner_of t)) [] };
+    ghost coming = { λ t. unwrap_or (T.remaining (tracked_inner t)) [] };
 
     ghost most = { λ _. None };
 
@@ -90,11 +90,11 @@ impl<T: Read + Drop> Source for Tracked<T> {
 
 impl<T: Write + Drop> Sink for Tracked<T> {
     ghost use Rattle.std.specs.Prelude.{is_some, unwrap_or, []};
-    ghost use Rattle.cap_bytes.specs.Tracked.{inner_of};
+    ghost use Rattle.cap_bytes.specs.Tracked.{tracked_inner};
 
-    ghost tells_held = { λ t. is_some (T.contents (inner_of t)) };
+    ghost tells_held = { λ t. is_some (T.contents (tracked_inner t)) };
 
-    ghost held = { λ t. unwrap_or (T.contents (inner_of t)) [] };
+    ghost held = { λ t. unwrap_or (T.contents (tracked_inner t)) [] };
 
     fn give(&mut self, bytes: &[u8]) -> Result<usize, Broken> {
         let answer = took(self.inner.write(bytes), bytes.len());

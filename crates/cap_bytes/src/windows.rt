@@ -1,7 +1,7 @@
 //! A window over a reader: the one cursor by which bytes are read.
 ghost use Rattle.std.specs.Prelude.{◌≡◌, ◌+◌, ◌^◌, ◌≤◌, ◌<◌, IsSome, IsTrue, IfOk, ◌↔◌, None, length};
 ghost use Rattle.cap_bytes.specs.inner.SourceState.{source_of, IsWithin};
-ghost use Rattle.cap_bytes.specs.inner.Window.{opened, Keeps, Needs, Passes, Skips, FailsAt};
+ghost use Rattle.cap_bytes.specs.inner.Window.{opened_window, WindowKeeps, Needs, WindowPasses, Skips, FailsAt};
 
 use crate::buffers::{Filling, discard, make_room, read_on};
 use crate::devices::Source;
@@ -28,9 +28,9 @@ pub struct Window<R: Source> {
 
 impl<R: Source> Model for Window<R> {
     ghost use Rattle.std.specs.Prelude.{◌||◌, is_some, slice_range, vec_len};
-    ghost use Rattle.cap_bytes.specs.inner.Window.{State, IsSound};
+    ghost use Rattle.cap_bytes.specs.inner.Window.{WindowState, IsSoundWindow};
 
-    ghost Value = { State };
+    ghost Value = { WindowState };
 
     ghost view = { λ w. record {
       file = w.file;
@@ -46,13 +46,13 @@ impl<R: Source> Model for Window<R> {
       room = vec_len w.buffer;
     } };
 
-    ghost invariant = { λ w. IsSound w.start w.end (vec_len w.buffer) w.offset w.broken (R.has_failed w.reader) };
+    ghost invariant = { λ w. IsSoundWindow w.start w.end (vec_len w.buffer) w.offset w.broken (R.has_failed w.reader) };
 }
 
 impl<R: Source> Window<R> {
     /// A window over the bytes of `reader`, which is the file of that number. It reads nothing yet.
     pub fn new(alloc: Global, reader: R, file: u32) -> Window<R>
-        ensures { result ≡ opened file (source_of R.Source reader) }
+        ensures { result ≡ opened_window file (source_of R.Source reader) }
     {
         Window {
             reader,
@@ -74,7 +74,7 @@ impl<R: Source> Window<R> {
         ensures answer { Needs n self.old result self.new }
         ensures asked { length self.old.shown < n → IsWithin self.old.most n (length self.new.shown) }
         ensures offset { self.new.offset ≡ self.old.offset }
-        ensures keeps { Keeps self.old self.new }
+        ensures keeps { WindowKeeps self.old self.new }
     {
         if self.broken.is_none() && n <= self.end - self.start {
             return Ok(true);
@@ -99,7 +99,7 @@ impl<R: Source> Window<R> {
         ensures answer { Needs n self.old result self.new }
         ensures asked { length self.old.shown < n → IsWithin self.old.most n (length self.new.shown) }
         ensures offset { self.new.offset ≡ self.old.offset }
-        ensures keeps { Keeps self.old self.new }
+        ensures keeps { WindowKeeps self.old self.new }
     {
         match self.broken {
             Some(offset) => Err(Fault::Read {
@@ -118,7 +118,7 @@ impl<R: Source> Window<R> {
         ensures answer { Needs n self.old result self.new }
         ensures asked { length self.old.shown < n → IsWithin self.old.most n (length self.new.shown) }
         ensures offset { self.new.offset ≡ self.old.offset }
-        ensures keeps { Keeps self.old self.new }
+        ensures keeps { WindowKeeps self.old self.new }
     {
         let (end, filling) = read_on(&mut self.reader, &mut self.buffer, self.start, self.end, n)?;
         self.start = 0;
@@ -150,7 +150,7 @@ impl<R: Source> Window<R> {
     pub fn pass(&mut self, n: usize)
         requires there { n ≤ length self.old.shown }
         requires limit { self.old.offset + n ≤ 2 ^ 40 }
-        ensures passes { Passes n self.old self.new }
+        ensures passes { WindowPasses n self.old self.new }
         ensures held { self.new.held ≤ 524288 }
     {
         self.start += n;
@@ -166,7 +166,7 @@ impl<R: Source> Window<R> {
         ensures answer { Skips n self.old result self.new }
         ensures asked { length self.old.shown < n
             → IfOk result (λ all. IsTrue all → IsWithin self.old.most 0 (length self.new.shown)) }
-        ensures keeps { Keeps self.old self.new }
+        ensures keeps { WindowKeeps self.old self.new }
     {
         if let Some(offset) = self.broken {
             return Err(Fault::Read {

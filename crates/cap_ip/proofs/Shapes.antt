@@ -6,8 +6,9 @@ use Rattle.std.proofs.lemmas.Bool.Decides.{nat_tests}
 use Rattle.cap_ip.specs.Fields.{data_length, offset}
 use Rattle.cap_ip.specs.declared.headers.Fragment.{Fragment}
 use Rattle.cap_ip.specs.Header.{HeaderFields, IsPiece, IsWellFormed}
-use Rattle.cap_ip.specs.Read.{ended, fields_of, fragment_of, data_of, lacks_data, is_misfit, is_partial, Reading}
-use Rattle.cap_ip.specs.Read.{IfFound, IsShaped}
+use Rattle.cap_ip.specs.Read.{ended_in_header, fields_of, fragment_of, data_of, lacks_data, is_misfit, is_partial}
+use Rattle.cap_ip.specs.Read.{Reading}
+use Rattle.cap_ip.specs.Read.{IfFound, IsShapedPacket}
 
 -- what the fifth step leaves, over plain values
 pub IsPiece-fits : (fragment more : Bool) (start len : ℕ) → start % 8 ≡ 0
@@ -28,8 +29,8 @@ unfolding fields_of fragment_of is_misfit offset
 IsWellFormed-fields_of bytes bounded fits = grind arith
 
 -- a packet that ends inside its header answers no header
-pub IfFound-ended : (whole : Bool) (P : HeaderFields → List ℕ → Type 0) → IfFound (ended whole) P
-unfolding ended
+pub IfFound-ended : (whole : Bool) (P : HeaderFields → List ℕ → Type 0) → IfFound (ended_in_header whole) P
+unfolding ended_in_header
 IfFound-ended whole P = grind arith
 
 -- the part of a list that stands between two places
@@ -43,7 +44,7 @@ pub le-whole : (fragment : Bool) (piece : Fragment) (held total : ℕ) → IsSom
 le-whole fragment piece held total some whole = grind arith
 
 pub IsShaped-found : (bytes : List ℕ) → IsWellFormed (fields_of bytes) → is_partial bytes ≡ false
-    → IsShaped (fields_of bytes) (data_of bytes)
+    → IsShapedPacket (fields_of bytes) (data_of bytes)
 unfolding fields_of fragment_of data_of data_length is_partial lacks_data
 IsShaped-found bytes form whole = grind (arith, length-take, length-part, le-whole)
 

@@ -16,14 +16,14 @@ pub data Reading : Type 0 where
   cut : Reading
 
 -- the value of an answer: the same for equal bytes, wherever they lie
-abbrev pub seen : HeaderOr → Reading
-seen (variant.Header header data_bytes) = Reading.found header data_bytes.now
-seen variant.Bad = Reading.bad
-seen variant.Cut = Reading.cut
+abbrev pub header_seen : HeaderOr → Reading
+header_seen (variant.Header header data_bytes) = Reading.found header data_bytes.now
+header_seen variant.Bad = Reading.bad
+header_seen variant.Cut = Reading.cut
 
 -- a datagram is named by these four (RFC 791, 3.2)
-unfoldable pub key_of : List ℕ → Key
-key_of bytes =
+unfoldable pub packet_key : List ℕ → Key
+packet_key bytes =
     record {
       source = source bytes;
       destination = destination bytes;
@@ -40,7 +40,7 @@ fragment_of bytes =
 unfoldable pub fields_of : List ℕ → HeaderFields
 fields_of bytes =
     record {
-      key = key_of bytes;
+      key = packet_key bytes;
       service = service bytes;
       time_to_live = time_to_live bytes;
       data_length = data_length bytes;
@@ -52,8 +52,8 @@ unfoldable pub data_of : List ℕ → List ℕ
 data_of bytes = take (data_length bytes) (drop (header_length bytes) bytes)
 
 -- what a packet is that ends inside its header
-unfoldable pub ended : Bool → Reading
-ended whole = if whole then Reading.bad else Reading.cut
+unfoldable pub ended_in_header : Bool → Reading
+ended_in_header whole = if whole then Reading.bad else Reading.cut
 
 -- the version isn't 4, or the header is shorter than its least, or longer than header and data
 unfoldable pub is_malformed : List ℕ → Bool
@@ -83,16 +83,16 @@ is_partial bytes = is_fragment bytes && lacks_data bytes
 -- the first of seven steps that holds
 unfoldable pub read_of : List ℕ → Bool → Reading
 read_of bytes whole =
-    if nat_lt (length bytes) 20 then ended whole  -- 1
+    if nat_lt (length bytes) 20 then ended_in_header whole  -- 1
     else (if is_malformed bytes then Reading.bad  -- 2
-    else (if nat_lt (length bytes) (header_length bytes) then ended whole  -- 3
+    else (if nat_lt (length bytes) (header_length bytes) then ended_in_header whole  -- 3
     else (if is_overstated bytes whole then Reading.bad  -- 4
     else (if is_misfit bytes then Reading.bad  -- 5
     else (if is_partial bytes then Reading.cut  -- 6
     else Reading.found (fields_of bytes) (data_of bytes))))))  -- 7
 
 -- a well-formed header, whose data isn't longer than it says, and is whole if it is a fragment
-pub record IsShaped (header : HeaderFields) (captured : List ℕ) : Type 0 where
+pub record IsShapedPacket (header : HeaderFields) (captured : List ℕ) : Type 0 where
   pub form : IsWellFormed header
   pub within : length captured ≤ header.data_length
   pub whole : IsSome header.fragment → length captured ≡ header.data_length

@@ -21,5 +21,5 @@ unfoldable pub header_with : HeaderFields → ℕ → ℕ → List ℕ
 header_with header size checksum = checked (front_of header size) checksum (back_of header)
 
 -- the header of a datagram of that many bytes of data, with its checksum
-unfoldable pub header_bytes : HeaderFields → ℕ → List ℕ
-header_bytes header size = header_with header size (checksum_of (header_with header size 0))
+unfoldable pub ipv4_header_bytes : HeaderFields → ℕ → List ℕ
+ipv4_header_bytes header size = header_with header size (checksum_of (header_with header size 0))

@@ -3,7 +3,8 @@ ghost use Rattle.std.specs.Prelude.{◌≡◌, ◌≤◌, false, length};
 ghost use Rattle.std.specs.Bool.{OnFalse};
 ghost use Rattle.cap_ip.specs.Fields.{header_length, total_length};
 ghost use Rattle.cap_ip.specs.Header.{IsWellFormed};
-ghost use Rattle.cap_ip.specs.Read.{seen, ended, key_of, fragment_of, is_malformed, lacks_data, is_overstated};
+ghost use Rattle.cap_ip.specs.Read.{header_seen, ended_in_header, packet_key, fragment_of, is_malformed, lacks_data};
+ghost use Rattle.cap_ip.specs.Read.{is_overstated};
 ghost use Rattle.cap_ip.specs.Read.{is_misfit, is_partial, fields_of, data_of, read_of};
 
 use crate::fields::{
@@ -89,17 +90,17 @@ pub enum HeaderOr<'a> {
 }
 
 // What a packet is that ends inside its header.
-#[tactic(auto, unfolding(crate::specs::Read::ended))]
+#[tactic(auto, unfolding(crate::specs::Read::ended_in_header))]
 fn ended<'a>(whole: bool) -> HeaderOr<'a>
-    ensures { seen result ≡ ended whole }
+    ensures { header_seen result ≡ ended_in_header whole }
 {
     if whole { HeaderOr::Bad } else { HeaderOr::Cut }
 }
 
-#[tactic(auto, unfolding(crate::specs::Read::key_of))]
+#[tactic(auto, unfolding(crate::specs::Read::packet_key))]
 fn key_of(bytes: &[u8]) -> Key
     requires { 20 ≤ length bytes.now }
-    ensures { result ≡ key_of bytes.now }
+    ensures { result ≡ packet_key bytes.now }
 {
     Key {
         source: source(bytes),
@@ -218,7 +219,7 @@ fn header_of(bytes: &[u8]) -> Header
 impl Header {
     ghost use Rattle.std.specs.Prelude.{IfSome};
     ghost use Rattle.cap_ip.specs.Header.{IsPiece};
-    ghost use Rattle.cap_ip.specs.Read.{IfFound, IsShaped};
+    ghost use Rattle.cap_ip.specs.Read.{IfFound, IsShapedPacket};
 
     /// The header at the front of a packet's bytes, with the captured part of its data.
     /// `captured_whole` says that no byte of the packet is missing after them.
@@ -240,8 +241,8 @@ impl Header {
     #[tactic(auto, unfolding(crate::specs::Read::read_of))]
     #[inline(always)]
     pub fn read(bytes: &[u8], captured_whole: bool) -> HeaderOr<'_>
-        ensures value { seen result ≡ read_of bytes.now captured_whole }
-        ensures shaped { IfFound (seen result) IsShaped }
+        ensures value { header_seen result ≡ read_of bytes.now captured_whole }
+        ensures shaped { IfFound (header_seen result) IsShapedPacket }
     {
         if bytes.len() < usize::from(LEAST_HEADER) {
             return ended(captured_whole);

@@ -1,6 +1,6 @@
 //! IPv4 headers as they are written (RFC 791, 3.1).
 ghost use Rattle.std.specs.Prelude.{◌≡◌, ◌≤◌};
-ghost use Rattle.cap_ip.specs.Written.{header_with, header_bytes};
+ghost use Rattle.cap_ip.specs.Written.{header_with, ipv4_header_bytes};
 
 use crate::checksums::header_checksum;
 use crate::headers::Header;
@@ -53,10 +53,10 @@ fn header_with(header: &Header, size: u16, checksum: u16) -> [u8; 20]
 impl Header {
     /// The bytes of a header that says the same of a whole datagram of `size` bytes of data, at most 65,515: without
     /// options, without flags, at offset 0, with its checksum.
-    #[tactic(auto, unfolding(crate::specs::Written::header_bytes))]
+    #[tactic(auto, unfolding(crate::specs::Written::ipv4_header_bytes))]
     pub fn to_bytes(&self, size: u16) -> [u8; 20]
         requires { size ≤ 65515 }
-        ensures { result ≡ header_bytes self.now size }
+        ensures { result ≡ ipv4_header_bytes self.now size }
     {
         let checksum = header_checksum(&header_with(self, size, 0));
         header_with(self, size, checksum)

@@ -13,24 +13,25 @@ use Rattle.cap_time.proofs.StampForms.{stamp_plus-alike}
 use Rattle.cap_ip.specs.declared.headers.Key.{Key}
 use Rattle.cap_join.specs.ByteMap.{completes}
 use Rattle.cap_join.specs.Completed.{if_complete, completed_of}
-use Rattle.cap_join.specs.inner.EqualClocks.{IsSameTime}
+use Rattle.cap_join.specs.inner.EqualClocks.{IsSameClock}
 use Rattle.cap_join.specs.Fragments.{Piece}
 use Rattle.cap_join.specs.Frames.{is_before, is_too_old, wait}
-use Rattle.cap_join.specs.History.{Event, arrives, flushes, OpenGroup, State, same_key, key_of, opened, with_piece}
+use Rattle.cap_join.specs.History.{Event, arrives, flushes, OpenGroup, OpenState, same_key, fragment_key}
+use Rattle.cap_join.specs.History.{group_opened_by, with_piece}
 use Rattle.cap_join.specs.History.{live_at, group_at, without, extended, without_oldest, trimmed, pieces_with}
-use Rattle.cap_join.specs.History.{opens_with, gives_up_with, state_of, step, joined_pieces}
+use Rattle.cap_join.specs.History.{opens_with, gives_up_with, open_groups_after, step, joined_pieces}
 use Rattle.cap_join.proofs.OpenGroups.{total}
 
 -- ---- clocks
 
-pub cmp_same : (a b c d : Option Stamp) → IsSameTime a b → IsSameTime c d
+pub cmp_same : (a b c d : Option Stamp) → IsSameClock a b → IsSameClock c d
     → option_cmp stamp_cmp a c ≡ option_cmp stamp_cmp b d
 cmp_same a b c d e f = total.congr a b c e ∙ alike_right total c d b f
 
-pub before_same : (a b c d : Option Stamp) → IsSameTime a b → IsSameTime c d → is_before a c ≡ is_before b d
+pub before_same : (a b c d : Option Stamp) → IsSameClock a b → IsSameClock c d → is_before a c ≡ is_before b d
 before_same a b c d e f = ap is_lt (cmp_same a b c d e f)
 
-old_same : (a b c d : Option Stamp) → IsSameTime a b → IsSameTime c d → is_too_old a c ≡ is_too_old b d
+old_same : (a b c d : Option Stamp) → IsSameClock a b → IsSameClock c d → is_too_old a c ≡ is_too_old b d
 old_same None None c d e f = refl
 old_same None (Some b) c d e f = grind (arith, true≢false)
 old_same (Some a) None c d e f = grind (arith, true≢false)
@@ -48,7 +49,7 @@ pub record IsAlikeness (R : Piece → Piece → Type 0) : Type 0 where
 
 -- Two events are of fragments that are alike, at clocks of one time, or of one key.
 abbrev pub IsAlikeEvent : (Piece → Piece → Type 0) → Event → Event → Type 0
-IsAlikeEvent R (arrives clock p) (arrives other q) = IsSameTime clock other × R p q
+IsAlikeEvent R (arrives clock p) (arrives other q) = IsSameClock clock other × R p q
 IsAlikeEvent R (arrives clock p) (flushes key) = ⊥
 IsAlikeEvent R (flushes key) (arrives clock p) = ⊥
 IsAlikeEvent R (flushes key) (flushes other) = key ≡ other
@@ -56,7 +57,7 @@ IsAlikeEvent R (flushes key) (flushes other) = key ≡ other
 -- Two open groups have fragments that are alike, and differ at most in the form of their clocks.
 record IsSameGroup (R : Piece → Piece → Type 0) (o q : OpenGroup) : Type 0 where
   key : o.key ≡ q.key
-  clock : IsSameTime o.clock q.clock
+  clock : IsSameClock o.clock q.clock
   place : o.place ≡ q.place
   pieces : AllZip R o.pieces q.pieces
 
@@ -76,13 +77,13 @@ record SameStep (R : Piece → Piece → Type 0) (limit : ℕ) (c d : Option Sta
   gave : gives_up_with limit p g os ≡ gives_up_with limit r k qs
   joined : AllZip R (pieces_with p g) (pieces_with r k)
 
-record SameState (R : Piece → Piece → Type 0) (s t : State) : Type 0 where
+record SameState (R : Piece → Piece → Type 0) (s t : OpenState) : Type 0 where
   opens : Same R s.opens t.opens
   given_up : s.given_up ≡ t.given_up
 
 -- one more fragment
 record SameArrival (R : Piece → Piece → Type 0) (limit : ℕ) (c d : Option Stamp) (p r : Piece)
-    (s t : State) : Type 0 where
+    (s t : OpenState) : Type 0 where
   state : SameState R (step limit (arrives c p) s) (step limit (arrives d r) t)
   joined : AllZip R (joined_pieces c p s) (joined_pieces d r t)
 
@@ -90,9 +91,10 @@ record SameArrival (R : Piece → Piece → Type 0) (limit : ℕ) (c d : Option 
 -- alike.
 pub record AlikeGroups (R : Piece → Piece → Type 0) (limit : ℕ) (es fs : List Event) : Type 0 where
   pub completed : AllZip (AllZip R) (completed_of limit es) (completed_of limit fs)
-  pub given_up : (state_of limit es).given_up ≡ (state_of limit fs).given_up
-  pub joined : (clock other : Option Stamp) (p q : Piece) → IsSameTime clock other → R p q
-      → AllZip R (joined_pieces clock p (state_of limit es)) (joined_pieces other q (state_of limit fs))
+  pub given_up : (open_groups_after limit es).given_up ≡ (open_groups_after limit fs).given_up
+  pub joined : (clock other : Option Stamp) (p q : Piece) → IsSameClock clock other → R p q
+      → AllZip R (joined_pieces clock p (open_groups_after limit es))
+      (joined_pieces other q (open_groups_after limit fs))
 
 pub zip-both : {A : Type 0} (R : A → A → Type 0) (xs ys us vs : List A) → AllZip R xs ys → AllZip R us vs
     → AllZip R (xs ++ us) (ys ++ vs)
@@ -102,7 +104,7 @@ zip-both R xs ys us vs h k = grind arith
 module _ (R : Piece → Piece → Type 0) (alike : IsAlikeness R) where
   -- ---- groups
 
-  same-key : (p r : Piece) → R p r → key_of p ≡ key_of r
+  same-key : (p r : Piece) → R p r → fragment_key p ≡ fragment_key r
   same-key p r l = ap (λ header. header.key) (alike.header p r l)
 
   same-filter : (s t : OpenGroup → Bool) → ((o q : OpenGroup) → IsSameGroup R o q → s o ≡ t q)
@@ -111,8 +113,8 @@ module _ (R : Piece → Piece → Type 0) (alike : IsAlikeness R) where
   same-filter s t same os qs h = grind arith
 
   with_same : (p r : Piece) → R p r → (o q : OpenGroup) → IsSameGroup R o q
-      → IsSameGroup R (if same_key (key_of p) o.key then with_piece p o else o)
-      (if same_key (key_of r) q.key then with_piece r q else q)
+      → IsSameGroup R (if same_key (fragment_key p) o.key then with_piece p o else o)
+      (if same_key (fragment_key r) q.key then with_piece r q else q)
   with_same p r l o q s = grind arith
 
   same-extended : (p r : Piece) → R p r → (os qs : List OpenGroup) → Same R os qs
@@ -147,11 +149,11 @@ module _ (R : Piece → Piece → Type 0) (alike : IsAlikeness R) where
   same-without key other e os qs h = same-filter (λ o. not (same_key key o.key)) (λ o. not (same_key other o.key))
       (λ o q s. λ i. not (same_key (e i) (s.key i))) os qs h
 
-  same-live : (c d : Option Stamp) (os qs : List OpenGroup) → IsSameTime c d → Same R os qs
+  same-live : (c d : Option Stamp) (os qs : List OpenGroup) → IsSameClock c d → Same R os qs
       → Same R (live_at c os) (live_at d qs)
   same-live c d os qs e h = grind (arith, same-filter, old_same)
 
-  same-step : (limit : ℕ) (c d : Option Stamp) (p r : Piece) (os qs : List OpenGroup) → IsSameTime c d → R p r
+  same-step : (limit : ℕ) (c d : Option Stamp) (p r : Piece) (os qs : List OpenGroup) → IsSameClock c d → R p r
       → Same R os qs → (g k : Option OpenGroup) → SameOption R g k
       → SameStep R limit c d p r os qs g k
   same-step limit c d p r os qs e l h None None s = record {
@@ -161,8 +163,8 @@ module _ (R : Piece → Piece → Type 0) (alike : IsAlikeness R) where
     joined = (l, tt);
   }
     where
-      by : (b f : Bool) → b ≡ f → Same R (if b then os else trimmed limit os ++ opened c p ∷ [])
-          (if f then qs else trimmed limit qs ++ opened d r ∷ [])
+      by : (b f : Bool) → b ≡ f → Same R (if b then os else trimmed limit os ++ group_opened_by c p ∷ [])
+          (if f then qs else trimmed limit qs ++ group_opened_by d r ∷ [])
       by b f x = grind (arith, AllZip-push, same-trimmed, same-key, alike, true≢false)
   same-step limit c d p r os qs e l h None (Some k) s = absurd s
   same-step limit c d p r os qs e l h (Some g) None s = absurd s
@@ -173,28 +175,30 @@ module _ (R : Piece → Piece → Type 0) (alike : IsAlikeness R) where
     joined = (l, s.pieces);
   }
     where
-      by : (b f : Bool) → b ≡ f → Same R (if b then without (key_of p) os else extended p os)
-          (if f then without (key_of r) qs else extended r qs)
+      by : (b f : Bool) → b ≡ f → Same R (if b then without (fragment_key p) os else extended p os)
+          (if f then without (fragment_key r) qs else extended r qs)
       by b f x = grind (arith, same-without, same-key, true≢false, same-extended)
 
   -- ---- events
 
-  arrival_same : (limit : ℕ) (c d : Option Stamp) (p r : Piece) (s t : State) → IsSameTime c d → R p r → SameState R s t
+  arrival_same : (limit : ℕ) (c d : Option Stamp) (p r : Piece) (s t : OpenState) → IsSameClock c d → R p r
+      → SameState R s t
       → SameArrival R limit c d p r s t
   unfolding step joined_pieces
   arrival_same limit c d p r s t e l h =
       let os = live_at c s.opens in
       let qs = live_at d t.opens in
       let live = same-live c d s.opens t.opens e h.opens in
-      let found = same-found (key_of p) (key_of r) (same-key p r l) os qs live in
-      let both = same-step limit c d p r os qs e l live (group_at (key_of p) os) (group_at (key_of r) qs) found in
+      let found = same-found (fragment_key p) (fragment_key r) (same-key p r l) os qs live in
+      let both = same-step limit c d p r os qs e l live (group_at (fragment_key p) os) (group_at (fragment_key r) qs)
+      found in
       record {
         state = record { opens = both.opens; given_up = λ i. h.given_up i + (if both.gave i then 1 else 0) };
         joined = both.joined;
       }
 
   -- one more event
-  step_same : (limit : ℕ) (e f : Event) (s t : State) → IsAlikeEvent R e f → SameState R s t
+  step_same : (limit : ℕ) (e f : Event) (s t : OpenState) → IsAlikeEvent R e f → SameState R s t
       → SameState R (step limit e s) (step limit f t)
   unfolding step
   step_same limit (arrives c p) (arrives d q) s t same h = (arrival_same limit c d p q s t same.0 same.1 h).state
@@ -203,17 +207,19 @@ module _ (R : Piece → Piece → Type 0) (alike : IsAlikeness R) where
   step_same limit e f s t same h = grind arith
 
   same-state : (limit : ℕ) (es fs : List Event) → AllZip (IsAlikeEvent R) es fs
-      → SameState R (state_of limit es) (state_of limit fs)
-  unfolding state_of
-  same-state limit (e ∷ es) (f ∷ fs) h = step_same limit e f (state_of limit es) (state_of limit fs) h.0
+      → SameState R (open_groups_after limit es) (open_groups_after limit fs)
+  unfolding open_groups_after
+  same-state limit (e ∷ es) (f ∷ fs) h = step_same limit e f (open_groups_after limit es) (open_groups_after limit fs)
+      h.0
       (same-state limit es fs h.1)
   same-state limit es fs h = grind arith
 
   same-joined : (limit : ℕ) (es fs : List Event) → AllZip (IsAlikeEvent R) es fs → (c d : Option Stamp) (p q : Piece)
-      → IsSameTime c d → R p q
-      → AllZip R (joined_pieces c p (state_of limit es)) (joined_pieces d q (state_of limit fs))
+      → IsSameClock c d → R p q
+      → AllZip R (joined_pieces c p (open_groups_after limit es)) (joined_pieces d q (open_groups_after limit fs))
   same-joined limit es fs h c d p q e l =
-      (arrival_same limit c d p q (state_of limit es) (state_of limit fs) e l (same-state limit es fs h)).joined
+      (arrival_same limit c d p q (open_groups_after limit es) (open_groups_after limit fs) e l
+      (same-state limit es fs h)).joined
 
   pub if_complete-alike : (ps qs : List Piece) → AllZip R ps qs → AllZip (AllZip R) (if_complete ps) (if_complete qs)
   if_complete-alike ps qs h = grind arith

@@ -8,9 +8,10 @@ use Rattle.cap_ip.specs.declared.headers.Key.{Key}
 use Rattle.cap_join.specs.Fragments.{Piece}
 use Rattle.cap_join.specs.ByteMap.{completes}
 use Rattle.cap_join.specs.Frames.{is_before, is_too_old}
-use Rattle.cap_join.specs.History.{Event, arrives, flushes, OpenGroup, State, same_key, key_of, opened, with_piece}
+use Rattle.cap_join.specs.History.{Event, arrives, flushes, OpenGroup, OpenState, same_key, fragment_key}
+use Rattle.cap_join.specs.History.{group_opened_by, with_piece}
 use Rattle.cap_join.specs.History.{live_at, group_at, without, extended, trimmed, pieces_with, opens_with}
-use Rattle.cap_join.specs.History.{gives_up_with, state_of, step, joined_pieces}
+use Rattle.cap_join.specs.History.{gives_up_with, open_groups_after, step, joined_pieces}
 use Rattle.cap_join.specs.Places.{Mark, fragment, whole, unless_given, goes_on, group_by, first_at, going_on, lowest}
 use Rattle.cap_join.specs.Places.{given_up_at, mark_of, marks, one_if, times_given_up, latest_clock, next_place}
 use Rattle.cap_join.specs.Places.{AreInOrder, Agree}
@@ -62,12 +63,13 @@ one_flush : (own : ℕ) (key k : Key) (o : Option OpenGroup) → ((g : OpenGroup
 one_flush own key k o keyed = grind arith
 
 -- a fragment that joins the group o
-module _ (p : Piece) (o : OpenGroup) (ms : List Mark) (mine : o.key ≡ key_of p) (on : goes_on (key_of p) ms ≡ Some o)
+module _ (p : Piece) (o : OpenGroup) (ms : List Mark) (mine : o.key ≡ fragment_key p)
+    (on : goes_on (fragment_key p) ms ≡ Some o)
     (n : ℕ) where
   here : (key : Key) → same_key key o.key ≡ true → goes_on key ms ≡ Some o
   here key e = ap (λ (k : Key). goes_on k ms) (same_key-is key o.key e ∙ mine) ∙ on
 
-  self : same_key (key_of p) o.key ≡ true
+  self : same_key (fragment_key p) o.key ≡ true
   self = grind arith
 
   one_more : completes (p ∷ o.pieces) ≡ false → (own : ℕ) (key : Key) → own < n
@@ -82,13 +84,13 @@ module _ (p : Piece) (o : OpenGroup) (ms : List Mark) (mine : o.key ≡ key_of p
 
   one_done : completes (p ∷ o.pieces) ≡ true → (own : ℕ) (key : Key) → own < n
       → first_at own (goes_on key (fragment n (with_piece p o) None ∷ ms))
-      ≡ without (key_of p) (first_at own (goes_on key ms))
+      ≡ without (fragment_key p) (first_at own (goes_on key ms))
   one_done done own key lt = joined (goes_on key ms) (goes_on-key key ms) (here key)
     where
       joined : (x : Option OpenGroup) → ((g : OpenGroup) → x ≡ Some g → key ≡ g.key)
           → (same_key key o.key ≡ true → x ≡ Some o)
           → first_at own (if same_key key o.key then (if completes (p ∷ o.pieces) then None else Some (with_piece p o))
-          else unless_given None x) ≡ without (key_of p) (first_at own x)
+          else unless_given None x) ≡ without (fragment_key p) (first_at own x)
       joined x keyed found = grind arith
 
 but_push : (gave : Option ℕ) (xs ys : List OpenGroup) → but_gone gave (xs ++ ys) ≡ but_gone gave xs ++ but_gone gave ys
@@ -97,13 +99,14 @@ but_push gave xs ys = filter-push (λ o. not (gone gave o.place)) xs ys
 -- a fragment that opens a group
 one_opened : (clock : Option Stamp) (p : Piece) (gave : Option ℕ) (ms : List Mark) → completes (p ∷ []) ≡ false
     → (own : ℕ) (key : Key) → own < p.stamped.place
-    → first_at own (goes_on key (fragment p.stamped.place (opened clock p) gave ∷ ms))
-    ≡ but_gone gave (without (key_of p) (first_at own (goes_on key ms)))
+    → first_at own (goes_on key (fragment p.stamped.place (group_opened_by clock p) gave ∷ ms))
+    ≡ but_gone gave (without (fragment_key p) (first_at own (goes_on key ms)))
 one_opened clock p gave ms done own key lt = new (goes_on key ms) (goes_on-key key ms)
   where
     new : (x : Option OpenGroup) → ((g : OpenGroup) → x ≡ Some g → key ≡ g.key)
-        → first_at own (if same_key key (key_of p) then (if completes (p ∷ []) then None else Some (opened clock p))
-        else unless_given gave x) ≡ but_gone gave (without (key_of p) (first_at own x))
+        → first_at own (if same_key key (fragment_key p) then
+        (if completes (p ∷ []) then None else Some (group_opened_by clock p))
+        else unless_given gave x) ≡ but_gone gave (without (fragment_key p) (first_at own x))
     new None keyed = grind arith
     new (Some g) keyed = grind (arith, nat_tests, same_key-sym)
 
@@ -123,7 +126,8 @@ append_none (o ∷ os) = ap (λ (l : List OpenGroup). o ∷ l) (append_none os)
 
 pub extended_push : (p : Piece) (xs ys : List OpenGroup) → extended p (xs ++ ys) ≡ extended p xs ++ extended p ys
 extended_push p [] ys = refl
-extended_push p (o ∷ xs) ys = ap (λ (l : List OpenGroup). (if same_key (key_of p) o.key then with_piece p o else o) ∷ l)
+extended_push p (o ∷ xs) ys = ap (λ (l : List OpenGroup).
+    (if same_key (fragment_key p) o.key then with_piece p o else o) ∷ l)
     (extended_push p xs ys)
 
 -- ---- the induction
@@ -133,7 +137,7 @@ as_number b = if b then 1 else 0
 
 -- What holds of the open groups after some events, and of what is known by places: what is found at a clock from the
 -- latest one on is what goes on and isn't too old.
-pub record Holds (s : State) (ms : List Mark) (c : Option Stamp) (n : ℕ) : Type 0 where
+pub record Holds (s : OpenState) (ms : List Mark) (c : Option Stamp) (n : ℕ) : Type 0 where
   pub apart : IsApart s.opens
   pub up : Up 0 n s.opens
   pub below : AreBelow n ms
@@ -156,7 +160,7 @@ Holds-none = record {
   given_up = refl;
 }
 
-module _ (s : State) (ms : List Mark) (c : Option Stamp) (n : ℕ) (h : Holds s ms c n) where
+module _ (s : OpenState) (ms : List Mark) (c : Option Stamp) (n : ℕ) (h : Holds s ms c n) where
   Holds-flush : (k : Key) → Holds (record { opens = without k s.opens; given_up = s.given_up }) (whole k ∷ ms) c n
   Holds-flush k = record {
     apart = apart-filter (λ o. not (same_key k o.key)) s.opens h.apart;
@@ -195,34 +199,37 @@ module _ (s : State) (ms : List Mark) (c : Option Stamp) (n : ℕ) (h : Holds s 
     up0 = up-filter (λ o. not (is_too_old o.clock clock)) 0 n s.opens h.up
 
     -- it opens a group, and one may be given up for it
-    Holds-opened : (gave : Option ℕ) → completes (p ∷ []) ≡ false → group_at (key_of p) (live_at clock s.opens) ≡ None
+    Holds-opened : (gave : Option ℕ) → completes (p ∷ []) ≡ false
+        → group_at (fragment_key p) (live_at clock s.opens) ≡ None
         → Holds (record {
-          opens = but_gone gave (live_at clock s.opens) ++ opened clock p ∷ [];
+          opens = but_gone gave (live_at clock s.opens) ++ group_opened_by clock p ∷ [];
           given_up = s.given_up + one_if gave;
         })
-        (fragment p.stamped.place (opened clock p) gave ∷ ms) clock (p.stamped.place + 1)
+        (fragment p.stamped.place (group_opened_by clock p) gave ∷ ms) clock (p.stamped.place + 1)
     Holds-opened gave alone none = record {
-      apart = apart-push (opened clock p) (but_gone gave (live_at clock s.opens)) absent
+      apart = apart-push (group_opened_by clock p) (but_gone gave (live_at clock s.opens)) absent
           (apart-filter (λ o. not (gone gave o.place)) (live_at clock s.opens) apart0);
-      up = up-push 0 n (opened clock p) (but_gone gave (live_at clock s.opens)) (omega arith) place
+      up = up-push 0 n (group_opened_by clock p) (but_gone gave (live_at clock s.opens)) (omega arith) place
           (up-filter (λ o. not (gone gave o.place)) 0 n (live_at clock s.opens) up0);
       below = (omega arith, AreBelow-wider n (p.stamped.place + 1) ms (omega arith) h.below);
       goes = λ key now late.
           ap (group_at key) (filter-push (λ o. not (is_too_old o.clock now)) (but_gone gave (live_at clock s.opens))
-          (opened clock p ∷ []) ∙ ap (λ (l : List OpenGroup). l ++ live_at now (opened clock p ∷ []))
+          (group_opened_by clock p ∷ []) ∙ ap (λ (l : List OpenGroup). l ++ live_at now (group_opened_by clock p ∷ []))
           (staying now late))
-          ∙ found key now late (same_key key (key_of p)) refl (is_too_old clock now) refl;
+          ∙ found key now late (same_key key (fragment_key p)) refl (is_too_old clock now) refl;
       among = λ now late.
-          filter-push (λ o. not (is_too_old o.clock now)) (but_gone gave (live_at clock s.opens)) (opened clock p ∷ [])
-          ∙ ap (λ (l : List OpenGroup). l ++ live_at now (opened clock p ∷ [])) (rest_among now late)
-          ∙ sym (filter-push (λ o. not (is_too_old o.clock now)) (but_gone gave (without (key_of p) (going_on ms ms)))
-          (opened clock p ∷ []))
+          filter-push (λ o. not (is_too_old o.clock now)) (but_gone gave (live_at clock s.opens))
+          (group_opened_by clock p ∷ [])
+          ∙ ap (λ (l : List OpenGroup). l ++ live_at now (group_opened_by clock p ∷ [])) (rest_among now late)
+          ∙ sym (filter-push (λ o. not (is_too_old o.clock now))
+          (but_gone gave (without (fragment_key p) (going_on ms ms)))
+          (group_opened_by clock p ∷ []))
           ∙ sym (ap (live_at now) (λ i. changed i ++ newest i));
       given_up = ap (λ (x : ℕ). x + one_if gave) h.given_up;
     }
       where
-        absent : group_at (key_of p) (but_gone gave (live_at clock s.opens)) ≡ None
-        absent = group_at-filter-none (key_of p) (λ o. not (gone gave o.place)) (live_at clock s.opens) none
+        absent : group_at (fragment_key p) (but_gone gave (live_at clock s.opens)) ≡ None
+        absent = group_at-filter-none (fragment_key p) (λ o. not (gone gave o.place)) (live_at clock s.opens) none
 
         -- what stays of the groups before
         staying : (now : Option Stamp) → is_before now clock ≡ false
@@ -231,15 +238,15 @@ module _ (s : State) (ms : List Mark) (c : Option Stamp) (n : ℕ) (h : Holds s 
             (live_at clock s.opens) ∙ ap (but_gone gave) (live_now now late)
 
         absent_now : (now : Option Stamp) → is_before now clock ≡ false
-            → group_at (key_of p) (but_gone gave (live_at now s.opens)) ≡ None
-        absent_now now late = ap (group_at (key_of p)) (sym (staying now late))
-            ∙ group_at-filter-none (key_of p) (λ o. not (is_too_old o.clock now))
+            → group_at (fragment_key p) (but_gone gave (live_at now s.opens)) ≡ None
+        absent_now now late = ap (group_at (fragment_key p)) (sym (staying now late))
+            ∙ group_at-filter-none (fragment_key p) (λ o. not (is_too_old o.clock now))
             (but_gone gave (live_at clock s.opens)) absent
 
         found : (key : Key) (now : Option Stamp) → is_before now clock ≡ false → (b : Bool)
-            → same_key key (key_of p) ≡ b → (t : Bool) → is_too_old clock now ≡ t
-            → group_at key (but_gone gave (live_at now s.opens) ++ live_at now (opened clock p ∷ []))
-            ≡ live_option now (goes_on key (fragment p.stamped.place (opened clock p) gave ∷ ms))
+            → same_key key (fragment_key p) ≡ b → (t : Bool) → is_too_old clock now ≡ t
+            → group_at key (but_gone gave (live_at now s.opens) ++ live_at now (group_opened_by clock p ∷ []))
+            ≡ live_option now (goes_on key (fragment p.stamped.place (group_opened_by clock p) gave ∷ ms))
         found key now late true e t old =
             grind (arith, but_gone, goes_on, same_key-is, absent_now, append_none, group_at-push-none)
         found key now late false e t old =
@@ -253,41 +260,42 @@ module _ (s : State) (ms : List Mark) (c : Option Stamp) (n : ℕ) (h : Holds s 
             )
 
         -- by places: the groups before, and this one
-        changed : going_on (fragment p.stamped.place (opened clock p) gave ∷ ms) ms
-            ≡ but_gone gave (without (key_of p) (going_on ms ms))
-        changed = going_on-change (λ l. but_gone gave (without (key_of p) l)) refl
-            (λ a b. ap (but_gone gave) (filter-push (λ o. not (same_key (key_of p) o.key)) a b)
-            ∙ but_push gave (without (key_of p) a) (without (key_of p) b))
-            (fragment p.stamped.place (opened clock p) gave ∷ ms) ms n
+        changed : going_on (fragment p.stamped.place (group_opened_by clock p) gave ∷ ms) ms
+            ≡ but_gone gave (without (fragment_key p) (going_on ms ms))
+        changed = going_on-change (λ l. but_gone gave (without (fragment_key p) l)) refl
+            (λ a b. ap (but_gone gave) (filter-push (λ o. not (same_key (fragment_key p) o.key)) a b)
+            ∙ but_push gave (without (fragment_key p) a) (without (fragment_key p) b))
+            (fragment p.stamped.place (group_opened_by clock p) gave ∷ ms) ms n
             (λ own key lt. one_opened clock p gave ms alone own key (omega arith)) ms h.below
 
         newest : (if p.stamped.place == p.stamped.place then first_at p.stamped.place
-            (goes_on (key_of p) (fragment p.stamped.place (opened clock p) gave ∷ ms)) else []) ≡ opened clock p ∷ []
+            (goes_on (fragment_key p) (fragment p.stamped.place (group_opened_by clock p) gave ∷ ms)) else [])
+            ≡ group_opened_by clock p ∷ []
         newest = grind arith
 
         rest_among : (now : Option Stamp) → is_before now clock ≡ false
             → live_at now (but_gone gave (live_at clock s.opens))
-            ≡ live_at now (but_gone gave (without (key_of p) (going_on ms ms)))
+            ≡ live_at now (but_gone gave (without (fragment_key p) (going_on ms ms)))
         rest_among now late =
             staying now late
-            ∙ ap (but_gone gave) (sym (without_absent (key_of p) (live_at now s.opens)
-            (ap (group_at (key_of p)) (sym (live_now now late))
-            ∙ group_at-filter-none (key_of p) (λ o. not (is_too_old o.clock now)) (live_at clock s.opens) none))
-            ∙ ap (without (key_of p)) (h.among now (after now late))
-            ∙ filter-commute (λ o. not (same_key (key_of p) o.key)) (λ o. not (is_too_old o.clock now))
+            ∙ ap (but_gone gave) (sym (without_absent (fragment_key p) (live_at now s.opens)
+            (ap (group_at (fragment_key p)) (sym (live_now now late))
+            ∙ group_at-filter-none (fragment_key p) (λ o. not (is_too_old o.clock now)) (live_at clock s.opens) none))
+            ∙ ap (without (fragment_key p)) (h.among now (after now late))
+            ∙ filter-commute (λ o. not (same_key (fragment_key p) o.key)) (λ o. not (is_too_old o.clock now))
             (going_on ms ms))
             ∙ filter-commute (λ o. not (gone gave o.place)) (λ o. not (is_too_old o.clock now))
-            (without (key_of p) (going_on ms ms))
+            (without (fragment_key p) (going_on ms ms))
 
     -- it joins the group o
-    module _ (o : OpenGroup) (on : goes_on (key_of p) ms ≡ Some o)
-        (found : group_at (key_of p) (live_at clock s.opens) ≡ Some o) where
-      mine : o.key ≡ key_of p
-      mine = sym (goes_on-key (key_of p) ms o on)
+    module _ (o : OpenGroup) (on : goes_on (fragment_key p) ms ≡ Some o)
+        (found : group_at (fragment_key p) (live_at clock s.opens) ≡ Some o) where
+      mine : o.key ≡ fragment_key p
+      mine = sym (goes_on-key (fragment_key p) ms o on)
 
       not_first : (o.place == p.stamped.place) ≡ false
       not_first = (let low : (0 ≤ o.place) × (o.place < n) =
-          up-found (key_of p) 0 n o (live_at clock s.opens) up0 found in grind (arith, nat_tests))
+          up-found (fragment_key p) 0 n o (live_at clock s.opens) up0 found in grind (arith, nat_tests))
 
       below_more : AreBelow (p.stamped.place + 1) (fragment p.stamped.place (with_piece p o) None ∷ ms)
       below_more = (omega arith, AreBelow-wider n (p.stamped.place + 1) ms (omega arith) h.below)
@@ -304,31 +312,34 @@ module _ (s : State) (ms : List Mark) (c : Option Stamp) (n : ℕ) (h : Holds s 
 
       -- and completes it
       Holds-done : completes (p ∷ o.pieces) ≡ true → Holds
-          (record { opens = without (key_of p) (live_at clock s.opens); given_up = s.given_up + 0 })
+          (record { opens = without (fragment_key p) (live_at clock s.opens); given_up = s.given_up + 0 })
           (fragment p.stamped.place (with_piece p o) None ∷ ms) clock (p.stamped.place + 1)
       Holds-done done = record {
-        apart = apart-filter (λ o. not (same_key (key_of p) o.key)) (live_at clock s.opens) apart0;
-        up = Up-wider 0 n 0 (p.stamped.place + 1) (without (key_of p) (live_at clock s.opens)) (omega arith)
-            (omega arith) (up-filter (λ o. not (same_key (key_of p) o.key)) 0 n (live_at clock s.opens) up0);
+        apart = apart-filter (λ o. not (same_key (fragment_key p) o.key)) (live_at clock s.opens) apart0;
+        up = Up-wider 0 n 0 (p.stamped.place + 1) (without (fragment_key p) (live_at clock s.opens)) (omega arith)
+            (omega arith) (up-filter (λ o. not (same_key (fragment_key p) o.key)) 0 n (live_at clock s.opens) up0);
         below = below_more;
         goes = λ key now late. ap (group_at key) (commute now late) ∙ by key now late (same_key key o.key) refl;
         among = λ now late.
-            commute now late ∙ ap (without (key_of p)) (h.among now (after now late))
-            ∙ filter-commute (λ o. not (same_key (key_of p) o.key)) (λ o. not (is_too_old o.clock now)) (going_on ms ms)
+            commute now late ∙ ap (without (fragment_key p)) (h.among now (after now late))
+            ∙ filter-commute (λ o. not (same_key (fragment_key p) o.key)) (λ o. not (is_too_old o.clock now))
+            (going_on ms ms)
             ∙ ap (live_at now) (sym (no_newest (going_on (fragment p.stamped.place (with_piece p o) None ∷ ms) ms)
-            ∙ going_on-change (without (key_of p)) refl (filter-push (λ o. not (same_key (key_of p) o.key)))
+            ∙ going_on-change (without (fragment_key p)) refl (filter-push (λ o. not (same_key (fragment_key p) o.key)))
             (fragment p.stamped.place (with_piece p o) None ∷ ms) ms p.stamped.place
             (one_done p o ms mine on p.stamped.place done) ms wider));
         given_up = ap (λ (x : ℕ). x + 0) h.given_up;
       }
         where
           commute : (now : Option Stamp) → is_before now clock ≡ false
-              → live_at now (without (key_of p) (live_at clock s.opens)) ≡ without (key_of p) (live_at now s.opens)
-          commute now late = filter-commute (λ o. not (is_too_old o.clock now)) (λ o. not (same_key (key_of p) o.key))
-              (live_at clock s.opens) ∙ ap (without (key_of p)) (live_now now late)
+              → live_at now (without (fragment_key p) (live_at clock s.opens))
+              ≡ without (fragment_key p) (live_at now s.opens)
+          commute now late = filter-commute (λ o. not (is_too_old o.clock now))
+              (λ o. not (same_key (fragment_key p) o.key))
+              (live_at clock s.opens) ∙ ap (without (fragment_key p)) (live_now now late)
 
           by : (key : Key) (now : Option Stamp) → is_before now clock ≡ false → (b : Bool) → same_key key o.key ≡ b
-              → group_at key (without (key_of p) (live_at now s.opens))
+              → group_at key (without (fragment_key p) (live_at now s.opens))
               ≡ live_option now (goes_on key (fragment p.stamped.place (with_piece p o) None ∷ ms))
           by key now late true e = grind (arith, group_at-without-same, mine)
           by key now late false e = grind (arith, mine, h.goes key now (after now late), group_at-without-other)
@@ -367,15 +378,15 @@ module _ (s : State) (ms : List Mark) (c : Option Stamp) (n : ℕ) (h : Holds s 
               (goes_on key ms))) e
               ∙ ap (λ (b : Bool). live_option now (if b then None else Some (with_piece p o))) done)
             where
-              old : (t : Bool) → is_too_old o.clock now ≡ t → group_at (key_of p)
+              old : (t : Bool) → is_too_old o.clock now ≡ t → group_at (fragment_key p)
                   (extended p (live_at now (live_at clock s.opens))) ≡ live_option now (Some (with_piece p o))
               old true t =
-                  group_at-extended-none (key_of p) p (live_at now (live_at clock s.opens))
-                  (group_at-live-old (key_of p) now o (live_at clock s.opens) apart0 found t)
+                  group_at-extended-none (fragment_key p) p (live_at now (live_at clock s.opens))
+                  (group_at-live-old (fragment_key p) now o (live_at clock s.opens) apart0 found t)
                   ∙ sym (ap (λ (b : Bool). if b then None else Some (with_piece p o)) t)
               old false t =
                   group_at-extended p o (live_at now (live_at clock s.opens))
-                  (group_at-live (key_of p) now o (live_at clock s.opens) found (ap not t))
+                  (group_at-live (fragment_key p) now o (live_at clock s.opens) found (ap not t))
                   ∙ sym (ap (λ (b : Bool). if b then None else Some (with_piece p o)) t)
           by key now late false e =
               grind (arith, mine, h.goes key now (after now late), live_now now late, group_at-extended-other)
@@ -385,75 +396,76 @@ module _ (s : State) (ms : List Mark) (c : Option Stamp) (n : ℕ) (h : Holds s 
 
     -- what a fragment makes of the state and of what is known by places: it opens a group
     arrives_new : (limit : ℕ) → 0 < limit → completes (p ∷ []) ≡ false
-        → group_at (key_of p) (live_at clock s.opens) ≡ None → group_by clock p (goes_on (key_of p) ms) ≡ opened clock p
+        → group_at (fragment_key p) (live_at clock s.opens) ≡ None
+        → group_by clock p (goes_on (fragment_key p) ms) ≡ group_opened_by clock p
         → Holds (record {
-          opens = opens_with limit clock p (group_at (key_of p) (live_at clock s.opens)) (live_at clock s.opens);
-          given_up = s.given_up + (if gives_up_with limit p (group_at (key_of p) (live_at clock s.opens))
+          opens = opens_with limit clock p (group_at (fragment_key p) (live_at clock s.opens)) (live_at clock s.opens);
+          given_up = s.given_up + (if gives_up_with limit p (group_at (fragment_key p) (live_at clock s.opens))
               (live_at clock s.opens) then 1 else 0);
         }) (mark_of limit clock p ms ∷ ms) clock (p.stamped.place + 1)
     arrives_new limit some alone none group =
         let gave : Option ℕ = if not (nat_lt (length (live_at clock s.opens)) limit) then lowest
         (live_at clock s.opens) else None in
-        let opens_is : but_gone gave (live_at clock s.opens) ++ opened clock p ∷ []
-        ≡ opens_with limit clock p (group_at (key_of p) (live_at clock s.opens)) (live_at clock s.opens) =
+        let opens_is : but_gone gave (live_at clock s.opens) ++ group_opened_by clock p ∷ []
+        ≡ opens_with limit clock p (group_at (fragment_key p) (live_at clock s.opens)) (live_at clock s.opens) =
         sym (ap (λ (x : Option OpenGroup). opens_with limit clock p x (live_at clock s.opens)) none
         ∙ ap (λ (b : Bool). if b then live_at clock s.opens else trimmed limit (live_at clock s.opens)
-        ++ opened clock p ∷ []) alone
-        ∙ ap (λ (l : List OpenGroup). l ++ opened clock p ∷ [])
+        ++ group_opened_by clock p ∷ []) alone
+        ∙ ap (λ (l : List OpenGroup). l ++ group_opened_by clock p ∷ [])
         (trimmed-but limit 0 n (live_at clock s.opens) some up0)) in
         let count_is : one_if gave
-        ≡ (if gives_up_with limit p (group_at (key_of p) (live_at clock s.opens))
+        ≡ (if gives_up_with limit p (group_at (fragment_key p) (live_at clock s.opens))
         (live_at clock s.opens) then 1 else 0) =
         sym (ap (λ (x : Option OpenGroup). as_number (gives_up_with limit p x (live_at clock s.opens))) none
         ∙ ap (λ (b : Bool). as_number (not b && not (nat_lt (length (live_at clock s.opens)) limit))) alone
         ∙ given_some limit 0 n (live_at clock s.opens) some up0) in
-        let mark_is : fragment p.stamped.place (opened clock p) gave ≡ mark_of limit clock p ms =
-        sym (ap (λ (l : List OpenGroup). fragment p.stamped.place (group_by clock p (goes_on (key_of p) ms))
-        (given_up_at limit p.stamped.place (group_by clock p (goes_on (key_of p) ms)) l))
+        let mark_is : fragment p.stamped.place (group_opened_by clock p) gave ≡ mark_of limit clock p ms =
+        sym (ap (λ (l : List OpenGroup). fragment p.stamped.place (group_by clock p (goes_on (fragment_key p) ms))
+        (given_up_at limit p.stamped.place (group_by clock p (goes_on (fragment_key p) ms)) l))
         (sym (h.among clock later))
         ∙ ap (λ (g : OpenGroup). fragment p.stamped.place g
         (given_up_at limit p.stamped.place g (live_at clock s.opens))) group
-        ∙ ap (λ (b : Bool). fragment p.stamped.place (opened clock p)
+        ∙ ap (λ (b : Bool). fragment p.stamped.place (group_opened_by clock p)
         (if b && not (nat_lt (length (live_at clock s.opens)) limit) then lowest
         (live_at clock s.opens) else None)) itself) in
         subst (λ (m : Mark). Holds (record {
-          opens = opens_with limit clock p (group_at (key_of p) (live_at clock s.opens)) (live_at clock s.opens);
-          given_up = s.given_up + (if gives_up_with limit p (group_at (key_of p) (live_at clock s.opens))
+          opens = opens_with limit clock p (group_at (fragment_key p) (live_at clock s.opens)) (live_at clock s.opens);
+          given_up = s.given_up + (if gives_up_with limit p (group_at (fragment_key p) (live_at clock s.opens))
               (live_at clock s.opens) then 1 else 0);
         }) (m ∷ ms) clock (p.stamped.place + 1)) mark_is
         (subst (λ (x : ℕ). Holds
         (record {
-          opens = opens_with limit clock p (group_at (key_of p) (live_at clock s.opens))
+          opens = opens_with limit clock p (group_at (fragment_key p) (live_at clock s.opens))
               (live_at clock s.opens);
           given_up = s.given_up + x;
         })
-        (fragment p.stamped.place (opened clock p) gave ∷ ms) clock (p.stamped.place + 1)) count_is
+        (fragment p.stamped.place (group_opened_by clock p) gave ∷ ms) clock (p.stamped.place + 1)) count_is
         (subst (λ (l : List OpenGroup). Holds (record { opens = l; given_up = s.given_up + one_if gave })
-        (fragment p.stamped.place (opened clock p) gave ∷ ms) clock (p.stamped.place + 1)) opens_is
+        (fragment p.stamped.place (group_opened_by clock p) gave ∷ ms) clock (p.stamped.place + 1)) opens_is
         (Holds-opened gave alone none)))
 
     -- or it joins one
-    arrives_more : (limit : ℕ) (o : OpenGroup) → goes_on (key_of p) ms ≡ Some o
-        → group_at (key_of p) (live_at clock s.opens) ≡ Some o → is_too_old o.clock clock ≡ false
+    arrives_more : (limit : ℕ) (o : OpenGroup) → goes_on (fragment_key p) ms ≡ Some o
+        → group_at (fragment_key p) (live_at clock s.opens) ≡ Some o → is_too_old o.clock clock ≡ false
         → Holds (record {
-          opens = opens_with limit clock p (group_at (key_of p) (live_at clock s.opens)) (live_at clock s.opens);
-          given_up = s.given_up + (if gives_up_with limit p (group_at (key_of p) (live_at clock s.opens))
+          opens = opens_with limit clock p (group_at (fragment_key p) (live_at clock s.opens)) (live_at clock s.opens);
+          given_up = s.given_up + (if gives_up_with limit p (group_at (fragment_key p) (live_at clock s.opens))
               (live_at clock s.opens) then 1 else 0);
         }) (mark_of limit clock p ms ∷ ms) clock (p.stamped.place + 1)
     arrives_more limit o on found fresh = grind (arith, goes_on, lowest, not_first, Holds-done, Holds-more)
 
     Holds-arrives : (limit : ℕ) → 0 < limit → completes (p ∷ []) ≡ false
         → Holds (record {
-          opens = opens_with limit clock p (group_at (key_of p) (live_at clock s.opens)) (live_at clock s.opens);
-          given_up = s.given_up + (if gives_up_with limit p (group_at (key_of p) (live_at clock s.opens))
+          opens = opens_with limit clock p (group_at (fragment_key p) (live_at clock s.opens)) (live_at clock s.opens);
+          given_up = s.given_up + (if gives_up_with limit p (group_at (fragment_key p) (live_at clock s.opens))
               (live_at clock s.opens) then 1 else 0);
         }) (mark_of limit clock p ms ∷ ms) clock (p.stamped.place + 1)
     Holds-arrives limit some alone = grind (arith, arrives_new, arrives_more)
 
 -- after any events in order
 pub holds : (limit : ℕ) (es : List Event) → 0 < limit → AreInOrder es
-    → Holds (state_of limit es) (marks limit es) (latest_clock es) (next_place es)
-unfolding state_of step
+    → Holds (open_groups_after limit es) (marks limit es) (latest_clock es) (next_place es)
+unfolding open_groups_after step
 holds limit [] some order = Holds-none
 holds limit (arrives clock p ∷ es) some order = search (holds limit es some order.3, Holds-arrives)
 holds limit (flushes key ∷ es) some order = search (holds limit es some order, Holds-flush)

@@ -3,7 +3,7 @@ use Rattle.std.proofs.Common.{◌≡◌, ℕ, ◌+◌, ◌%◌, ◌<◌, ◌≤�
 use Rattle.std.proofs.lemmas.List.{get_or-drop}
 use Rattle.std.specs.Prelude.{slice_index}
 use Rattle.cap_bytes.specs.Number.{number}
-use Rattle.cap_join.specs.Holes.{Span, is_within, in_hole, word_at, IsHole, IsChain, kept}
+use Rattle.cap_join.specs.Holes.{Span, is_within, in_hole, word_at, IsHole, IsChain, kept_hole}
 
 -- a number stays if its four bytes do
 pub word_at-same : (xs ys : List ℕ) (at : ℕ) → ((k : ℕ) → at ≤ k → k < at + 4 → slice_index ys k ≡ slice_index xs k)
@@ -49,7 +49,7 @@ in_hole-above xs low high at (s ∷ ss) i h above =
 
 -- what is kept of a hole
 pub in_hole-kept : (from to : ℕ) (ss : List Span) (i : ℕ)
-    → in_hole (kept from to ss) i ≡ (is_within from to i || in_hole ss i)
+    → in_hole (kept_hole from to ss) i ≡ (is_within from to i || in_hole ss i)
 in_hole-kept from to ss i = grind arith
 
 -- a described hole in front of a chain
@@ -74,5 +74,5 @@ kept-chain from to next low middle high xs ys ss some begins ends end_is next_is
       subst (λ (n : ℕ). IsChain ys to high n ss) (sym next_is) rest,
     )
 
-pub kept-some : (from to : ℕ) (ss : List Span) → from < to → kept from to ss ≡ record { from = from; to = to } ∷ ss
+pub kept-some : (from to : ℕ) (ss : List Span) → from < to → kept_hole from to ss ≡ record { from = from; to = to } ∷ ss
 kept-some from to ss some = grind arith

@@ -12,11 +12,12 @@ use Rattle.cap_ip.specs.declared.headers.Fragment.{Fragment}
 use Rattle.cap_join.specs.declared.datagrams.Stamped.{Stamped}
 use Rattle.cap_join.specs.declared.datagrams.Datagram.{Datagram}
 use Rattle.cap_join.specs.Holes.{Span, in_hole, IsChain}
-use Rattle.cap_join.specs.Fragments.{Piece, piece_of, end_of, IsShaped, AreShaped}
-use Rattle.cap_join.specs.ByteMap.{is_covered, covers_below, total_of, header_of, byte_at, blocks, completes, data_of}
+use Rattle.cap_join.specs.Fragments.{Piece, piece_of, end_of, IsShapedFragment, AreShaped}
+use Rattle.cap_join.specs.ByteMap.{is_covered, covers_below, total_of, joined_header, byte_at, block_count, completes}
+use Rattle.cap_join.specs.ByteMap.{joined_data}
 use Rattle.cap_join.specs.ByteMap.{greatest_end}
 use Rattle.cap_join.specs.inner.Buffers.{Maps}
-use Rattle.cap_join.specs.Frames.{timed, earlier, later}
+use Rattle.cap_join.specs.Frames.{timed, earlier_stamped, later_stamped}
 use Rattle.cap_join.specs.inner.Groups.{GroupState, IsGroupOf, IsDatagramOf}
 use Rattle.cap_join.proofs.Chains.{in_hole-below}
 use Rattle.cap_join.proofs.Punching.{IsChain-here}
@@ -44,15 +45,15 @@ module _ (header : HeaderFields) (bytes : List ℕ) (stamped : Stamped) (f : Fra
   unfolding piece_of
   piece_of-stamped = refl
 
-  pub IsShaped-piece_of : IsPiece (length bytes) f → IsShaped (piece_of header bytes stamped)
+  pub IsShaped-piece_of : IsPiece (length bytes) f → IsShapedFragment (piece_of header bytes stamped)
   IsShaped-piece_of shape = grind (arith, piece_of-bytes, piece_of-start, piece_of-more)
 
 -- a group with one more fragment
 pub IsGroupOf-more : (s t : GroupState) (p : Piece) (ps : List Piece) → IsGroupOf s ps → Maps t.buffer t.hole (p ∷ ps)
     → t.total ≡ (if p.more then s.total else Some (end_of p)) → t.header ≡ (if p.start == 0 then p.header else s.header)
     → t.frames ≡ s.frames + 1 → t.bytes ≡ s.bytes + p.stamped.original
-    → t.first ≡ earlier s.first (timed p.stamped p.stamped.time)
-    → t.last ≡ later s.last (timed p.stamped p.stamped.time)
+    → t.first ≡ earlier_stamped s.first (timed p.stamped p.stamped.time)
+    → t.last ≡ later_stamped s.last (timed p.stamped p.stamped.time)
     → IsGroupOf t (p ∷ ps)
 IsGroupOf-more s t p ps g maps total header frames bytes first last = grind arith
 
@@ -90,7 +91,7 @@ flipped x e = grind arith
 
 -- a datagram is complete if no hole begins below its length
 module _ (xs : List ℕ) (hole n : ℕ) (ps : List Piece) (m : Maps xs hole ps) (reached : n ≤ greatest_end ps) where
-  covered_below : n ≤ hole → (k : ℕ) → k < blocks n → is_covered ps k ≡ true
+  covered_below : n ≤ hole → (k : ℕ) → k < block_count n → is_covered ps k ≡ true
   covered_below h k p =
       let short : 8 * k < length xs = omega (arith, m.length_is) in
       let low : 8 * k < hole = omega arith in
@@ -104,32 +105,32 @@ module _ (xs : List ℕ) (hole n : ℕ) (ps : List Piece) (m : Maps xs hole ps) 
   uncovered_first [] e chain h = absurd (omega (arith, chain, greatest_end-short ps m.shaped))
   uncovered_first (s ∷ ss) e chain h = grind arith
 
-  pub covers_below-hole : nat_le n hole ≡ covers_below ps (blocks n)
+  pub covers_below-hole : nat_le n hole ≡ covers_below ps (block_count n)
   covers_below-hole = grind (arith, cases_lt, covers_below-some, uncovered_first, covers_below-all, covered_below)
 
 pub completes-none : (ps : List Piece) → total_of ps ≡ None → false ≡ completes ps
 unfolding completes
-completes-none ps h = sym (ap (λ (o : Option ℕ). option_map_or (λ n. covers_below ps (blocks n)) o false) h)
+completes-none ps h = sym (ap (λ (o : Option ℕ). option_map_or (λ n. covers_below ps (block_count n)) o false) h)
 
-pub completes-some : (ps : List Piece) (n : ℕ) → total_of ps ≡ Some n → covers_below ps (blocks n) ≡ completes ps
+pub completes-some : (ps : List Piece) (n : ℕ) → total_of ps ≡ Some n → covers_below ps (block_count n) ≡ completes ps
 unfolding completes
-completes-some ps n h = sym (ap (λ (o : Option ℕ). option_map_or (λ n. covers_below ps (blocks n)) o false) h)
+completes-some ps n h = sym (ap (λ (o : Option ℕ). option_map_or (λ n. covers_below ps (block_count n)) o false) h)
 
-data_of-some : (ps : List Piece) (n : ℕ) → total_of ps ≡ Some n → map (byte_at ps) (range_with_len 0 n) ≡ data_of ps
-unfolding data_of
+data_of-some : (ps : List Piece) (n : ℕ) → total_of ps ≡ Some n → map (byte_at ps) (range_with_len 0 n) ≡ joined_data ps
+unfolding joined_data
 data_of-some ps n h = sym (ap (λ (o : Option ℕ). option_map_or (λ n. map (byte_at ps) (range_with_len 0 n)) o []) h)
 
 -- the front of the buffer up to the length is the data
 pub Maps-data : (xs : List ℕ) (hole n : ℕ) (ps : List Piece) → Maps xs hole ps → total_of ps ≡ Some n
-    → completes ps ≡ true → take n xs ≡ data_of ps
+    → completes ps ≡ true → take n xs ≡ joined_data ps
 Maps-data xs hole n ps m total done =
     let reached : (n ≤ greatest_end ps) × (0 < n) = total_of-reached ps n m.shaped total in
-    let all : covers_below ps (blocks n) ≡ true = completes-some ps n total ∙ done in
+    let all : covers_below ps (block_count n) ≡ true = completes-some ps n total ∙ done in
     let size : length (take n xs) ≡ n = length-take n xs
     ∙ shorter n (length xs) (omega (arith, m.length_is, reached.0)) in
     fill_by_all (byte_at ps) (take n xs) n 0 size
     (λ k h. get_or-take n xs k 0 h ∙ m.filled k (omega (arith, m.length_is, reached.0))
-    (covers_below-each ps (blocks n) (k / 8) all (omega arith)))
+    (covers_below-each ps (block_count n) (k / 8) all (omega arith)))
     ∙ data_of-some ps n total
   where
     shorter : (a b : ℕ) → a ≤ b → min a b ≡ a
@@ -137,7 +138,7 @@ Maps-data xs hole n ps m total done =
 
 -- if the first block is covered, a fragment begins at 0
 pub header_of-covered : (ps : List Piece) (d : HeaderFields) → is_covered ps 0 ≡ true
-    → IfSome (header_of ps) (λ h. d ≡ h) → header_of ps ≡ Some d
+    → IfSome (joined_header ps) (λ h. d ≡ h) → joined_header ps ≡ Some d
 header_of-covered [] d h e = absurd (true≢false (sym h))
 header_of-covered (p ∷ ps) d h e = grind (arith, header_of-covered ps d)
 
@@ -150,9 +151,9 @@ IsDatagramOf-group s d ps g done header payload frames bytes first last = by (to
     by None is = absurd (true≢false (sym done ∙ sym (completes-none ps is)))
     by (Some n) is =
         let reached : (n ≤ greatest_end ps) × (0 < n) = total_of-reached ps n g.maps.shaped is in
-        let all : covers_below ps (blocks n) ≡ true = completes-some ps n is ∙ done in
+        let all : covers_below ps (block_count n) ≡ true = completes-some ps n is ∙ done in
         record {
-          header = header_of-covered ps s.header (covers_below-each ps (blocks n) 0 all (omega (arith, reached.1)))
+          header = header_of-covered ps s.header (covers_below-each ps (block_count n) 0 all (omega (arith, reached.1)))
               g.header ∙ ap Some (sym header);
           payload = payload n (g.total ∙ is) ∙ Maps-data s.buffer s.hole n ps g.maps is done;
           frames = frames ∙ g.frames;
@@ -163,12 +164,14 @@ IsDatagramOf-group s d ps g done header payload frames bytes first last = by (to
 
 pub IsGroupOf-put : (s t : GroupState) (header : HeaderFields) (bytes : List ℕ) (stamped : Stamped) (f : Fragment)
     → header.fragment ≡ Some f → IsPiece (length bytes) f
-    → ((p : Piece) (ps : List Piece) → p.start ≡ f.start → p.bytes ≡ bytes → IsShaped p → Maps s.buffer s.hole ps
+    → ((p : Piece) (ps : List Piece) → p.start ≡ f.start → p.bytes ≡ bytes → IsShapedFragment p
+    → Maps s.buffer s.hole ps
     → Maps t.buffer t.hole (p ∷ ps))
     → t.total ≡ (if f.more then s.total else Some (f.start + f.length))
     → t.header ≡ (if f.start == 0 then header else s.header)
     → t.frames ≡ s.frames + 1 → t.bytes ≡ s.bytes + stamped.original
-    → t.first ≡ earlier s.first (timed stamped stamped.time) → t.last ≡ later s.last (timed stamped stamped.time)
+    → t.first ≡ earlier_stamped s.first (timed stamped stamped.time)
+    → t.last ≡ later_stamped s.last (timed stamped stamped.time)
     → (ps : List Piece) → IsGroupOf s ps → IsGroupOf t (piece_of header bytes stamped ∷ ps)
 unfolding piece_of
 IsGroupOf-put s t header bytes stamped f is shape maps total head frames sum first last ps g =

@@ -6,7 +6,7 @@ use Rattle.std.proofs.Common.{max, ◌||◌, not}
 use Rattle.std.specs.Prelude.{slice_index}
 use Rattle.std.proofs.lemmas.Bool.{cases_lt}
 use Rattle.cap_join.specs.Holes.{Span, is_within, in_hole, ChangesWithin, Punched}
-use Rattle.cap_join.specs.Fragments.{Piece, end_of, IsShaped, AreShaped}
+use Rattle.cap_join.specs.Fragments.{Piece, end_of, IsShapedFragment, AreShaped}
 use Rattle.cap_join.specs.ByteMap.{holds, is_covered, byte_at, greatest_end, rounded}
 use Rattle.cap_join.specs.inner.Buffers.{Maps, Grown}
 use Rattle.cap_join.proofs.Punching.{unchanged, or_false_right, or_false, within-below}
@@ -36,7 +36,7 @@ pub outside_after : (a e b : ℕ) (old mid new : List ℕ) (ss : List Span) (fir
 outside_after a e b old mid new ss first le u w k h = grind arith
 
 module _ (p : Piece) (ps : List Piece) (end hole0 hole1 hole2 : ℕ) (xs0 xs1 xs2 xs3 : List ℕ)
-    (shaped : IsShaped p) (end_is : end ≡ rounded (end_of p)) (m : Maps xs0 hole0 ps)
+    (shaped : IsShapedFragment p) (end_is : end ≡ rounded (end_of p)) (m : Maps xs0 hole0 ps)
     (g : Grown end xs0 m.spans hole1 xs1)
     (u : Punched p.start end xs1 g.spans 0 (length xs1) hole2 xs2)
     (w : ChangesWithin p.start (end_of p) xs2 xs3)

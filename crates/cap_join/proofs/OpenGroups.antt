@@ -14,7 +14,8 @@ use Rattle.cap_time.specs.inner.StampLaws.{stamp_cmp_total}
 use Rattle.cap_ip.specs.declared.headers.Key.{Key}
 use Rattle.cap_join.specs.Fragments.{Piece}
 use Rattle.cap_join.specs.Frames.{is_before, is_too_old, wait}
-use Rattle.cap_join.specs.History.{OpenGroup, same_key, key_of, live_at, group_at, without, extended, without_oldest}
+use Rattle.cap_join.specs.History.{OpenGroup, same_key, fragment_key, live_at, group_at, without, extended}
+use Rattle.cap_join.specs.History.{without_oldest}
 use Rattle.cap_join.specs.History.{trimmed}
 use Rattle.cap_join.specs.Places.{place_in, lowest, one_if}
 use Rattle.cap_join.proofs.Entries.{same_key-is}
@@ -102,7 +103,7 @@ pub group_at-without-other : (key k : Key) (os : List OpenGroup) → same_key ke
 group_at-without-other key k os h = group_at-filter-kept key (λ o. not (same_key k o.key)) os
     (λ o e. ap not (apart_keys key k o h e))
 
-pub group_at-extended-other : (key : Key) (p : Piece) (os : List OpenGroup) → same_key key (key_of p) ≡ false
+pub group_at-extended-other : (key : Key) (p : Piece) (os : List OpenGroup) → same_key key (fragment_key p) ≡ false
     → group_at key (extended p os) ≡ group_at key os
 group_at-extended-other key p [] h = refl
 group_at-extended-other key p (o ∷ os) h = grind (arith, group_at-extended-other key p os h)

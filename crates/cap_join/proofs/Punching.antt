@@ -3,7 +3,7 @@ use Rattle.std.proofs.Common.{◌≡◌, ℕ, ◌+◌, ◌%◌, ◌<◌, ◌≤�
 use Rattle.std.proofs.Common.{subst, arith, max, min, ◌&&◌, ◌||◌, not}
 use Rattle.std.specs.Prelude.{slice_index}
 use Rattle.cap_join.specs.Holes.{Span, is_within, in_hole, no_hole, word_at, IsHole, IsChain, HasHoles, ChangesWithin}
-use Rattle.cap_join.specs.Holes.{kept, Punched, Appended}
+use Rattle.cap_join.specs.Holes.{kept_hole, Punched, Appended}
 use Rattle.cap_join.proofs.Changes.{ChangesWithin-trans, ChangesWithin-wider}
 use Rattle.cap_join.proofs.Chains.{IsHole-block, IsChain-same, IsChain-lower, in_hole-below, in_hole-kept}
 
@@ -118,10 +118,10 @@ module _ (a b low high at end next rest right result : ℕ) (s : Span) (ss : Lis
       → ChangesWithin from to mid1 mid2 → ((i : ℕ) → from ≤ i → i < to → slice_index mid2 i ≡ 0)
       → ChangesWithin b end mid2 mid3
       → ((low middle high : ℕ) (ss : List Span) → low ≤ b → low ≤ middle → end ≤ middle → end ≤ high
-      → IsChain mid2 middle high rest ss → IsChain mid3 low high right (kept b end ss))
+      → IsChain mid2 middle high rest ss → IsChain mid3 low high right (kept_hole b end ss))
       → ChangesWithin at left mid3 new
       → ((low middle high : ℕ) (ss : List Span) → low ≤ at → low ≤ middle → left ≤ middle → left ≤ high
-      → IsChain mid3 middle high right ss → IsChain new low high result (kept at left ss))
+      → IsChain mid3 middle high right ss → IsChain new low high result (kept_hole at left ss))
       → Punched a b old (s ∷ ss) low high result new
   Punched-hole range near hole end_is tail behind from_is to_is left_is cleared zeros right_within right_chain
       left_within left_chain =
@@ -131,11 +131,11 @@ module _ (a b low high at end next rest right result : ℕ) (s : Span) (ss : Lis
       let within : s.to ≤ high = hole.within in
       let chain2 : IsChain mid2 s.to high rest behind.spans =
       IsChain-same mid1 mid2 s.to high rest behind.spans (λ k p. cleared.above k (omega arith)) behind.chain in
-      let chain3 : IsChain mid3 (max at left) high right (kept b end behind.spans) =
+      let chain3 : IsChain mid3 (max at left) high right (kept_hole b end behind.spans) =
       right_chain (max at left) s.to high behind.spans (omega arith) (omega arith) (omega arith)
       (omega arith) chain2 in
-      let chain4 : IsChain new low high result (kept at left (kept b end behind.spans)) =
-      left_chain low (max at left) high (kept b end behind.spans) (omega arith) (omega arith) (omega arith)
+      let chain4 : IsChain new low high result (kept_hole at left (kept_hole b end behind.spans)) =
+      left_chain low (max at left) high (kept_hole b end behind.spans) (omega arith) (omega arith) (omega arith)
       (omega arith) chain3 in
       let later : ChangesWithin at end mid1 new =
       ChangesWithin-trans at end mid1 mid3 new
@@ -151,9 +151,9 @@ module _ (a b low high at end next rest right result : ℕ) (s : Span) (ss : Lis
       ∙ ap (λ (x : Bool). (x || in_hole ss i) && not (is_within a b i)) (span i) in
       record {
         length_is = left_within.length_is ∙ (right_within.length_is ∙ (cleared.length_is ∙ behind.length_is));
-        spans = kept at left (kept b end behind.spans);
+        spans = kept_hole at left (kept_hole b end behind.spans);
         chain = chain4;
-        holes = λ i. in_hole-kept at left (kept b end behind.spans) i
+        holes = λ i. in_hole-kept at left (kept_hole b end behind.spans) i
             ∙ ap (λ (x : Bool). is_within at left i || x) (in_hole-kept b end behind.spans i
             ∙ ap (λ (x : Bool). is_within b end i || x) (behind.holes i)) ∙ holes i;
         kept_bytes = λ i p. unchanged at end mid1 new later i
@@ -182,11 +182,11 @@ pub Appended-last : (low high at result : ℕ) (old new : List ℕ) (ss : List S
     → IsChain old low high at ss
     → ChangesWithin high (length old) old new
     → ((low middle upper : ℕ) (ss : List Span) → low ≤ high → low ≤ middle → length old ≤ middle → length old ≤ upper
-    → IsChain old middle upper no_hole ss → IsChain new low upper result (kept high (length old) ss))
+    → IsChain old middle upper no_hole ss → IsChain new low upper result (kept_hole high (length old) ss))
     → Appended old ss low high result new
 Appended-last low high at result old new [] le past some short chain within described = record {
   length_is = within.length_is;
-  spans = kept high (length old) [];
+  spans = kept_hole high (length old) [];
   chain = described low (length old) (length old) [] le (omega arith) (omega arith) (omega arith) refl;
   holes = λ i. in_hole-kept high (length old) [] i ∙ or_false (is_within high (length old) i);
   kept_bytes = λ i p q. within.below i p;
@@ -199,7 +199,7 @@ pub Appended-hole : (low high at end next rest result : ℕ) (s : Span) (ss : Li
     → Appended old ss s.to high rest mid
     → ChangesWithin at end mid new
     → ((low middle high : ℕ) (ss : List Span) → low ≤ at → low ≤ middle → end ≤ middle → end ≤ high
-    → IsChain mid middle high rest ss → IsChain new low high result (kept at end ss))
+    → IsChain mid middle high rest ss → IsChain new low high result (kept_hole at end ss))
     → Appended old (s ∷ ss) low high result new
 Appended-hole low high at end next rest result s ss old mid new some hole end_is tail behind within described =
     let here : at ≡ s.from = hole.here in
@@ -209,7 +209,7 @@ Appended-hole low high at end next rest result s ss old mid new some hole end_is
     let span : (i : ℕ) → is_within at end i ≡ is_within s.from s.to i = λ i j. is_within (here j) (end_is j) i in
     record {
       length_is = within.length_is ∙ behind.length_is;
-      spans = kept at end behind.spans;
+      spans = kept_hole at end behind.spans;
       chain = described low s.to (length old) behind.spans (omega arith) (omega arith) (omega arith)
           (omega arith) behind.chain;
       holes = λ i. grind (arith, in_hole-kept, or_assoc);

@@ -1,4 +1,4 @@
--- What a fragment makes of the table: what `Puts` says, case by case, and that it stays a table.
+-- What a fragment makes of the table: what `PutsFragment` says, case by case, and that it stays a table.
 use Rattle.std.proofs.Common.{◌≡◌, ℕ, ◌+◌, ◌≤◌, ◌<◌, ◌^◌, Bool, true, false, List, [], ◌∷◌, ◌++◌, length, refl, sym}
 use Rattle.std.proofs.Common.{◌∙◌, ap, subst, arith, not, true≢false, Option, Some, None, length-append}
 use Rattle.std.specs.Prelude.{nat_lt, if◌then◌else◌, filter, remove, IsSomeAnd}
@@ -12,10 +12,11 @@ use Rattle.cap_join.specs.Fragments.{Piece}
 use Rattle.cap_join.specs.ByteMap.{completes}
 use Rattle.cap_join.specs.Frames.{is_too_old}
 use Rattle.cap_join.specs.inner.Groups.{GroupState, IsGroupOf, IsDatagramOf}
-use Rattle.cap_join.specs.History.{OpenGroup, same_key, key_of, opened, live_at, group_at, without, extended}
+use Rattle.cap_join.specs.History.{OpenGroup, same_key, fragment_key, group_opened_by, live_at, group_at, without}
+use Rattle.cap_join.specs.History.{extended}
 use Rattle.cap_join.specs.History.{without_oldest, trimmed, pieces_with, opens_with, gives_up_with}
 use Rattle.cap_join.specs.Joiners.{Entry, IsEntryOf, AreEntriesOf, Rises, IsTable, open_limit}
-use Rattle.cap_join.specs.inner.Tables.{entry_at, live_entries, has_live, PutsAt, Puts}
+use Rattle.cap_join.specs.inner.Tables.{entry_at, live_entries, has_live, PutsAt, PutsFragment}
 use Rattle.cap_join.proofs.Entries.{lengths, live_group, no_live, AreEntriesOf-live, Found}
 use Rattle.cap_join.proofs.Steps.{AreEntriesOf-put, live_at-extended, without-extended, AreEntriesOf-without}
 use Rattle.cap_join.proofs.Steps.{AreEntriesOf-push, AreEntriesOf-oldest, Rises-wider, Rises-filter, Rises-set_value}
@@ -67,11 +68,11 @@ module _ (clock : Option Stamp) (p : Piece) (es : List Entry) (apart : IsDistinc
   live = live_at clock os
 
   -- what the group is that a fragment joins
-  joins : (complete : Bool) (mid : List Entry) (a : PutsAt (key_of p) p es complete mid)
-      → has_live (key_of p) clock es ≡ true → Found (key_of p) a.before (live_at clock os)
-  joins complete mid a is = live_group (key_of p) clock a.before es os h a.was is
+  joins : (complete : Bool) (mid : List Entry) (a : PutsAt (fragment_key p) p es complete mid)
+      → has_live (fragment_key p) clock es ≡ true → Found (fragment_key p) a.before (live_at clock os)
+  joins complete mid a is = live_group (fragment_key p) clock a.before es os h a.was is
 
-  entries_after : (complete : Bool) (mid : List Entry) (a : PutsAt (key_of p) p es complete mid)
+  entries_after : (complete : Bool) (mid : List Entry) (a : PutsAt (fragment_key p) p es complete mid)
       → AreEntriesOf (live_entries clock mid) (extended p (live_at clock os))
   entries_after complete mid a =
       subst (λ (l : List OpenGroup). AreEntriesOf (live_entries clock mid) l) (live_at-extended clock p os)
@@ -80,16 +81,17 @@ module _ (clock : Option Stamp) (p : Piece) (es : List Entry) (apart : IsDistinc
       (AreEntriesOf-put p a.before a.after es os h apart a.was a.group a.clock a.place)))
 
   -- the group isn't complete yet
-  pub Puts-kept : (mid new : List Entry) → has_live (key_of p) clock es ≡ true → PutsAt (key_of p) p es false mid
-      → new ≡ live_entries clock mid → Puts clock p os Kept false new
+  pub Puts-kept : (mid new : List Entry) → has_live (fragment_key p) clock es ≡ true
+      → PutsAt (fragment_key p) p es false mid
+      → new ≡ live_entries clock mid → PutsFragment clock p os Kept false new
   Puts-kept mid new is a new_is =
       let f = joins false mid a is in
       let done : false ≡ completes (p ∷ f.open_group.pieces) =
       a.done (p ∷ f.open_group.pieces) (a.group f.open_group.pieces f.group) in
-      let after : opens_with open_limit clock p (group_at (key_of p) (live_at clock os)) (live_at clock os)
+      let after : opens_with open_limit clock p (group_at (fragment_key p) (live_at clock os)) (live_at clock os)
       ≡ extended p (live_at clock os) =
       ap (λ (g : Option OpenGroup). opens_with open_limit clock p g (live_at clock os)) f.found
-      ∙ ap (λ (b : Bool). if b then without (key_of p) (live_at clock os) else extended p (live_at clock os))
+      ∙ ap (λ (b : Bool). if b then without (fragment_key p) (live_at clock os) else extended p (live_at clock os))
       (sym done) in
       record {
         groups = subst (AreEntriesOf new) (sym after) (subst
@@ -100,35 +102,37 @@ module _ (clock : Option Stamp) (p : Piece) (es : List Entry) (apart : IsDistinc
       }
 
   -- it is complete, and is taken out
-  pub Puts-joined : (mid late new : List Entry) (s : GroupState) (d : Datagram) → has_live (key_of p) clock es ≡ true
-      → PutsAt (key_of p) p es true mid → late ≡ live_entries clock mid
-      → IsDistinct same_key (keys_of late) → Some s ≡ entry_at (key_of p) late
-      → new ≡ remove_entry (same_key (key_of p)) late
+  pub Puts-joined : (mid late new : List Entry) (s : GroupState) (d : Datagram)
+      → has_live (fragment_key p) clock es ≡ true
+      → PutsAt (fragment_key p) p es true mid → late ≡ live_entries clock mid
+      → IsDistinct same_key (keys_of late) → Some s ≡ entry_at (fragment_key p) late
+      → new ≡ remove_entry (same_key (fragment_key p)) late
       → ((ps : List Piece) → IsGroupOf s ps → completes ps ≡ true → IsDatagramOf d ps)
-      → Puts clock p os (Joined d) false new
+      → PutsFragment clock p os (Joined d) false new
   Puts-joined mid late new s d is a late_is late_apart taken new_is datagram =
       let f = joins true mid a is in
       let done : true ≡ completes (p ∷ f.open_group.pieces) =
       a.done (p ∷ f.open_group.pieces) (a.group f.open_group.pieces f.group) in
-      let after : opens_with open_limit clock p (group_at (key_of p) (live_at clock os)) (live_at clock os)
-      ≡ without (key_of p) (live_at clock os) =
+      let after : opens_with open_limit clock p (group_at (fragment_key p) (live_at clock os)) (live_at clock os)
+      ≡ without (fragment_key p) (live_at clock os) =
       ap (λ (g : Option OpenGroup). opens_with open_limit clock p g (live_at clock os)) f.found
-      ∙ ap (λ (b : Bool). if b then without (key_of p) (live_at clock os) else extended p (live_at clock os))
+      ∙ ap (λ (b : Bool). if b then without (fragment_key p) (live_at clock os) else extended p (live_at clock os))
       (sym done) in
-      let same : s ≡ a.after = some_is (taken ∙ ap (entry_at (key_of p)) late_is
-      ∙ found_after (key_of p) p clock es mid true a is) in
+      let same : s ≡ a.after = some_is (taken ∙ ap (entry_at (fragment_key p)) late_is
+      ∙ found_after (fragment_key p) p clock es mid true a is) in
       let group : IsGroupOf s (p ∷ f.open_group.pieces) =
       subst (λ (x : GroupState). IsGroupOf x (p ∷ f.open_group.pieces)) (sym same)
       (a.group f.open_group.pieces f.group) in
-      let whole : completes (pieces_with p (group_at (key_of p) (live_at clock os))) ≡ true =
+      let whole : completes (pieces_with p (group_at (fragment_key p) (live_at clock os))) ≡ true =
       ap (λ (g : Option OpenGroup). completes (pieces_with p g)) f.found ∙ sym done in
       let entries : AreEntriesOf late (extended p (live_at clock os)) =
       subst (λ (l : List Entry). AreEntriesOf l (extended p (live_at clock os))) (sym late_is)
       (entries_after true mid a) in
       record {
         groups = subst (AreEntriesOf new) (sym (after ∙ sym (without-extended p (live_at clock os))))
-            (subst (λ (l : List Entry). AreEntriesOf l (without (key_of p) (extended p (live_at clock os))))
-            (sym new_is) (AreEntriesOf-without (key_of p) late (extended p (live_at clock os)) entries late_apart));
+            (subst (λ (l : List Entry). AreEntriesOf l (without (fragment_key p) (extended p (live_at clock os))))
+            (sym new_is) (AreEntriesOf-without (fragment_key p) late (extended p (live_at clock os)) entries
+            late_apart));
         gives_up = sym (ap (λ (g : Option OpenGroup). gives_up_with open_limit p g (live_at clock os)) f.found);
         answers = (
           whole,
@@ -141,23 +145,26 @@ module _ (clock : Option Stamp) (p : Piece) (es : List Entry) (apart : IsDistinc
       some_is e = cc
 
   -- a fragment that is a whole datagram by itself
-  pub Puts-alone : (new : List Entry) (d : Datagram) → has_live (key_of p) clock es ≡ false → completes (p ∷ []) ≡ true
-      → IsDatagramOf d (p ∷ []) → new ≡ live_entries clock es → Puts clock p os (Joined d) false new
+  pub Puts-alone : (new : List Entry) (d : Datagram) → has_live (fragment_key p) clock es ≡ false
+      → completes (p ∷ []) ≡ true
+      → IsDatagramOf d (p ∷ []) → new ≡ live_entries clock es → PutsFragment clock p os (Joined d) false new
   Puts-alone new d is done datagram new_is = grind (arith, no_live, AreEntriesOf-live)
 
   -- a fragment that opens a group
   pub Puts-opened : (mid late new : List Entry) (s : GroupState) (gave_up : Bool) (high : ℕ)
-      → has_live (key_of p) clock es ≡ false → completes (p ∷ []) ≡ false → Rises 0 high es
+      → has_live (fragment_key p) clock es ≡ false → completes (p ∷ []) ≡ false → Rises 0 high es
       → IsGroupOf s (p ∷ []) → s.clock ≡ clock → s.place ≡ p.stamped.place
       → mid ≡ live_entries clock es → gave_up ≡ not (nat_lt (length mid) open_limit)
-      → late ≡ (if gave_up then remove mid 0 else mid) → new ≡ late ++ (key_of p, s) ∷ []
-      → Puts clock p os Kept gave_up new
+      → late ≡ (if gave_up then remove mid 0 else mid) → new ≡ late ++ (fragment_key p, s) ∷ []
+      → PutsFragment clock p os Kept gave_up new
   Puts-opened mid late new s gave_up high is done rises group clock_is place_is mid_is gave_up_is late_is new_is =
-      let none : group_at (key_of p) (live_at clock os) ≡ None = no_live (key_of p) clock es os h apart is in
-      let after : opens_with open_limit clock p (group_at (key_of p) (live_at clock os)) (live_at clock os)
-      ≡ trimmed open_limit (live_at clock os) ++ opened clock p ∷ [] =
+      let none : group_at (fragment_key p) (live_at clock os)
+      ≡ None = no_live (fragment_key p) clock es os h apart is in
+      let after : opens_with open_limit clock p (group_at (fragment_key p) (live_at clock os)) (live_at clock os)
+      ≡ trimmed open_limit (live_at clock os) ++ group_opened_by clock p ∷ [] =
       ap (λ (g : Option OpenGroup). opens_with open_limit clock p g (live_at clock os)) none
-      ∙ ap (λ (b : Bool). if b then live_at clock os else trimmed open_limit (live_at clock os) ++ opened clock p
+      ∙ ap (λ (b : Bool). if b then live_at clock os else trimmed open_limit (live_at clock os)
+      ++ group_opened_by clock p
       ∷ []) done in
       let entries : AreEntriesOf mid (live_at clock os) =
       subst (λ (l : List Entry). AreEntriesOf l (live_at clock os)) (sym mid_is)
@@ -170,7 +177,7 @@ module _ (clock : Option Stamp) (p : Piece) (es : List Entry) (apart : IsDistinc
       let trim : AreEntriesOf late (trimmed open_limit (live_at clock os)) =
       subst (λ (l : List Entry). AreEntriesOf l (trimmed open_limit (live_at clock os))) (sym late_is)
       (by mid (live_at clock os) entries rising gave_up (nat_lt (length (live_at clock os)) open_limit) test) in
-      let entry : IsEntryOf (key_of p, s) (opened clock p) =
+      let entry : IsEntryOf (fragment_key p, s) (group_opened_by clock p) =
       record { key = refl; clock = clock_is; place = place_is; group = group } in
       record {
         groups = grind (arith, AreEntriesOf-push);

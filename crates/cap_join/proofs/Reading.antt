@@ -2,7 +2,7 @@
 use Rattle.std.proofs.Common.{◌≡◌, ℕ, ◌+◌, ◌<◌, ◌≤◌, Bool, true, List, [], ◌∷◌, length, refl, sym, ◌∙◌, ap, subst}
 use Rattle.std.proofs.Common.{arith, ◌&&◌, ◌||◌, not, inl, inr}
 use Rattle.std.specs.Prelude.{slice_index}
-use Rattle.cap_join.specs.Holes.{Span, is_within, in_hole, no_hole, word_at, IsHole, IsChain, HasHoles, Begins}
+use Rattle.cap_join.specs.Holes.{Span, is_within, in_hole, no_hole, word_at, IsHole, IsChain, HasHoles, BeginsHole}
 use Rattle.cap_join.specs.Holes.{ChangesWithin, Punched, Continues, Appended}
 use Rattle.cap_join.proofs.Chains.{word_at-same, IsHole-block, IsChain-same, IsChain-lower, in_hole-below}
 use Rattle.cap_join.proofs.Punching.{FirstHole, or_false_left, or_false_right, or_assoc, unchanged}
@@ -12,8 +12,8 @@ pub record Reached (xs : List ℕ) (below last high : ℕ) (ss : List Span) : Ty
   pub tail : List Span
   pub low : ℕ
   pub chain : IsChain xs low high (word_at xs (last + 4)) tail
-  pub begins : Begins below last ss
-  pub further : (x : ℕ) → Begins below x tail → Begins below x ss
+  pub begins : BeginsHole below last ss
+  pub further : (x : ℕ) → BeginsHole below x tail → BeginsHole below x ss
 
 pub Reached-first : (xs : List ℕ) (below at low high : ℕ) (ss : List Span) → at < no_hole → word_at xs at ≤ below
     → IsChain xs low high at ss → Reached xs below at high ss
@@ -26,14 +26,15 @@ pub Reached-next : (xs : List ℕ) (below last next high : ℕ) (ss : List Span)
 Reached-next xs below last next high ss is near whole r =
     by r.tail (subst (λ (n : ℕ). IsChain xs r.low high n r.tail) (sym is) r.chain) r.further
   where
-    by : (tail : List Span) → IsChain xs r.low high next tail → ((x : ℕ) → Begins below x tail → Begins below x ss)
+    by : (tail : List Span) → IsChain xs r.low high next tail
+        → ((x : ℕ) → BeginsHole below x tail → BeginsHole below x ss)
         → Reached xs below next high ss
     by [] chain further = absurd (omega (arith, chain))
     by (s ∷ tail) chain further = grind arith
 
 -- a hole that lies below a place lies above the chain's lowest
 Begins-low : (xs : List ℕ) (below last low high at : ℕ) (ss : List Span) → IsChain xs low high at ss
-    → Begins below last ss → low ≤ below
+    → BeginsHole below last ss → low ≤ below
 Begins-low xs below last low high at [] chain b = absurd b
 Begins-low xs below last low high at (s ∷ ss) chain (inl p) = grind arith
 Begins-low xs below last low high at (s ∷ ss) chain (inr b) =
@@ -41,7 +42,7 @@ Begins-low xs below last low high at (s ∷ ss) chain (inr b) =
 
 -- the holes from one of them on
 pub HasHoles-begins : (xs : List ℕ) (below last low high at : ℕ) (ss : List Span) → IsChain xs low high at ss
-    → Begins below last ss → HasHoles xs high last
+    → BeginsHole below last ss → HasHoles xs high last
 HasHoles-begins xs below last low high at [] chain b = absurd b
 HasHoles-begins xs below last low high at (s ∷ ss) chain (inl p) = record {
   spans = s ∷ ss;
@@ -86,14 +87,14 @@ Punched-skip a b low high at s ss old new hole below tail behind =
 
 -- a chain's first hole is one of its holes
 begins_here : (xs : List ℕ) (low high at : ℕ) (ss : List Span) → at < no_hole → IsChain xs low high at ss
-    → Begins high at ss
+    → BeginsHole high at ss
 begins_here xs low high at [] near chain = absurd (omega (arith, chain))
 begins_here xs low high at (s ∷ ss) near chain = inl (sym chain.0.here, chain.0.within)
 
 -- What is left once a range is filled, if one of the holes that are left is known.
 pub record PunchedFrom (a b : ℕ) (old : List ℕ) (ss : List Span) (low high at last : ℕ) (new : List ℕ) : Type 0 where
   pub punched : Punched a b old ss low high at new
-  pub begins : Begins high last punched.spans
+  pub begins : BeginsHole high last punched.spans
 
 PunchedFrom-skip : (a b low high at last : ℕ) (s : Span) (ss : List Span) (old new : List ℕ) → IsHole old low high at s
     → s.to ≤ a → IsChain old s.to high (word_at old (s.from + 4)) ss
@@ -108,7 +109,7 @@ PunchedFrom-skip a b low high at last s ss old new hole below tail behind =
 
 -- A range is filled from the last hole below it on, which stays.
 pub Punched-behind : (a b low high at last : ℕ) (ss : List Span) (old new : List ℕ) → last < no_hole
-    → IsChain old low high at ss → Begins a last ss
+    → IsChain old low high at ss → BeginsHole a last ss
     → ((low : ℕ) (ss : List Span) → IsChain old low high last ss → Punched a b old ss low high last new)
     → PunchedFrom a b old ss low high at last new
 Punched-behind a b low high at last [] old new near chain begins from = absurd begins
@@ -144,7 +145,7 @@ Appended-skip low high at s ss old new short hole tail behind =
 -- The same with a hole added after them.
 pub record AppendedFrom (old : List ℕ) (ss : List Span) (low high at last : ℕ) (new : List ℕ) : Type 0 where
   pub appended : Appended old ss low high at new
-  pub begins : Begins (length old) last appended.spans
+  pub begins : BeginsHole (length old) last appended.spans
 
 AppendedFrom-skip : (low high at last : ℕ) (s : Span) (ss : List Span) (old new : List ℕ) → high ≤ length old
     → IsHole old low high at s → IsChain old s.to high (word_at old (s.from + 4)) ss
@@ -158,7 +159,7 @@ AppendedFrom-skip low high at last s ss old new short hole tail behind =
 
 -- A hole is added after the last one, which stays.
 pub Appended-behind : (below low high at last : ℕ) (ss : List Span) (old new : List ℕ) → last < no_hole
-    → high ≤ length old → low ≤ high → IsChain old low high at ss → Begins below last ss
+    → high ≤ length old → low ≤ high → IsChain old low high at ss → BeginsHole below last ss
     → ((low : ℕ) (ss : List Span) → low ≤ high → IsChain old low high last ss → Appended old ss low high last new)
     → AppendedFrom old ss low high at last new
 Appended-behind below low high at last [] old new near short le chain begins from = absurd begins

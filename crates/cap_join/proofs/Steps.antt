@@ -10,20 +10,21 @@ use Rattle.cap_ip.specs.declared.headers.Key.{Key}
 use Rattle.cap_time.specs.declared.stamps.Stamp.{Stamp}
 use Rattle.cap_join.specs.Fragments.{Piece}
 use Rattle.cap_join.specs.inner.Groups.{GroupState, IsGroupOf}
-use Rattle.cap_join.specs.History.{OpenGroup, same_key, key_of, with_piece, live_at, group_at, without, extended}
+use Rattle.cap_join.specs.History.{OpenGroup, same_key, fragment_key, with_piece, live_at, group_at, without, extended}
 use Rattle.cap_join.specs.History.{without_oldest}
 use Rattle.cap_join.specs.Joiners.{Entry, IsEntryOf, AreEntriesOf, Rises}
 use Rattle.cap_join.specs.inner.Tables.{entry_at}
 use Rattle.cap_join.proofs.Entries.{alone, key_test}
 
 -- without a group of its key a fragment changes no group
-extended-none : (p : Piece) (es : List Entry) (os : List OpenGroup) → AreEntriesOf es os → entry_at (key_of p) es ≡ None
+extended-none : (p : Piece) (es : List Entry) (os : List OpenGroup) → AreEntriesOf es os
+    → entry_at (fragment_key p) es ≡ None
     → AreEntriesOf es (extended p os)
-extended-none p (e ∷ es) (o ∷ os) h none = by (same_key (key_of p) e.0) (key_test (key_of p) e o h.0) none
+extended-none p (e ∷ es) (o ∷ os) h none = by (same_key (fragment_key p) e.0) (key_test (fragment_key p) e o h.0) none
     (extended-none p es os h.1)
   where
-    by : (b : Bool) → same_key (key_of p) o.key ≡ b → cond b (Some e.1) (entry_at (key_of p) es) ≡ None
-        → (entry_at (key_of p) es ≡ None → AreEntriesOf es (extended p os))
+    by : (b : Bool) → same_key (fragment_key p) o.key ≡ b → cond b (Some e.1) (entry_at (fragment_key p) es) ≡ None
+        → (entry_at (fragment_key p) es ≡ None → AreEntriesOf es (extended p os))
         → AreEntriesOf (e ∷ es) (extended p (o ∷ os))
     by b is n rest = grind arith
 extended-none p es os h none = grind arith
@@ -31,19 +32,22 @@ extended-none p es os h none = grind arith
 -- a fragment that is put into the group of its key
 pub AreEntriesOf-put : (p : Piece) (before after : GroupState) (es : List Entry) (os : List OpenGroup)
     → AreEntriesOf es os → IsDistinct same_key (keys_of es)
-    → entry_at (key_of p) es ≡ Some before → ((ps : List Piece) → IsGroupOf before ps → IsGroupOf after (p ∷ ps))
+    → entry_at (fragment_key p) es ≡ Some before → ((ps : List Piece) → IsGroupOf before ps → IsGroupOf after (p ∷ ps))
     → after.clock ≡ before.clock → after.place ≡ before.place
-    → AreEntriesOf (set_value (same_key (key_of p)) es after) (extended p os)
+    → AreEntriesOf (set_value (same_key (fragment_key p)) es after) (extended p os)
 AreEntriesOf-put p before after (e ∷ es) (o ∷ os) h apart was group clock place =
-    by (same_key (key_of p) e.0) (key_test (key_of p) e o h.0) (alone (key_of p) e es apart) was
+    by (same_key (fragment_key p) e.0) (key_test (fragment_key p) e o h.0) (alone (fragment_key p) e es apart) was
     (λ was. AreEntriesOf-put p before after es os h.1
     (IsDistinct-tail same_key e.0 (keys_of es) apart) was group clock place)
   where
-    by : (b : Bool) → same_key (key_of p) o.key ≡ b → (b ≡ true → entry_at (key_of p) es ≡ None)
-        → cond b (Some e.1) (entry_at (key_of p) es) ≡ Some before
-        → (entry_at (key_of p) es ≡ Some before → AreEntriesOf (set_value (same_key (key_of p)) es after)
+    by : (b : Bool) → same_key (fragment_key p) o.key ≡ b → (b ≡ true → entry_at (fragment_key p) es ≡ None)
+        → cond b (Some e.1) (entry_at (fragment_key p) es) ≡ Some before
+        → (entry_at (fragment_key p) es ≡ Some before → AreEntriesOf (set_value (same_key (fragment_key p)) es after)
         (extended p os))
-        → AreEntriesOf (cond b ((e.0, after) ∷ es) (e ∷ set_value (same_key (key_of p)) es after)) (extended p (o ∷ os))
+        → AreEntriesOf (cond b ((
+          e.0,
+          after,
+        ) ∷ es) (e ∷ set_value (same_key (fragment_key p)) es after)) (extended p (o ∷ os))
     by b is lone n rest = grind (arith, extended-none)
 AreEntriesOf-put p before after es os h apart was group clock place = grind arith
 
@@ -54,13 +58,14 @@ live_at-extended now p [] = refl
 live_at-extended now p (o ∷ os) = grind (arith, live_at-extended now p os)
 
 -- nor any key
-pub without-extended : (p : Piece) (os : List OpenGroup) → without (key_of p) (extended p os) ≡ without (key_of p) os
+pub without-extended : (p : Piece) (os : List OpenGroup)
+    → without (fragment_key p) (extended p os) ≡ without (fragment_key p) os
 without-extended p [] = refl
 without-extended p (o ∷ os) = grind (arith, without-extended p os)
 
 -- the group of its key has it
-pub group_at-extended : (p : Piece) (o : OpenGroup) (os : List OpenGroup) → group_at (key_of p) os ≡ Some o
-    → group_at (key_of p) (extended p os) ≡ Some (with_piece p o)
+pub group_at-extended : (p : Piece) (o : OpenGroup) (os : List OpenGroup) → group_at (fragment_key p) os ≡ Some o
+    → group_at (fragment_key p) (extended p os) ≡ Some (with_piece p o)
 group_at-extended p o [] h = cc
 group_at-extended p o (q ∷ os) h = grind (arith, group_at-extended p o os)
 

@@ -7,7 +7,7 @@ use Rattle.cap_ip.specs.declared.headers.Fragment.{Fragment}
 use Rattle.cap_join.specs.ByteMap.{completes}
 use Rattle.cap_join.specs.Fragments.{Piece, piece_of}
 use Rattle.cap_join.specs.inner.Groups.{IsDatagramOf}
-use Rattle.cap_join.specs.History.{Event, arrives, flushes, joined_pieces, state_of}
+use Rattle.cap_join.specs.History.{Event, arrives, flushes, joined_pieces, open_groups_after}
 use Rattle.cap_join.specs.Joiners.{open_limit}
 use Rattle.cap_join.specs.declared.arrivals.Arrived.{Arrived}
 use Rattle.cap_join.specs.declared.arrivals.Arrived.TheVariants as as_
@@ -19,19 +19,19 @@ event_of None header captured clock stamped = flushes header.key
 event_of (Some fragment) header captured clock stamped = arrives clock (piece_of header captured stamped)
 
 -- the events after a packet of which that was read: one that is bad or cut is none
-abbrev pub events_with : Reading → Option Stamp → Stamped → List Event → List Event
-events_with (found header captured) clock stamped events =
+abbrev pub events_with_reading : Reading → Option Stamp → Stamped → List Event → List Event
+events_with_reading (found header captured) clock stamped events =
     event_of header.fragment header captured clock stamped ∷ events
-events_with bad clock stamped events = events
-events_with cut clock stamped events = events
+events_with_reading bad clock stamped events = events
+events_with_reading cut clock stamped events = events
 
 -- A whole datagram came, with its header and the captured part of its data.
-abbrev pub IsWhole : HeaderFields → List ℕ → Arrived → Type 0
-IsWhole header captured as_.Bad = ⊥
-IsWhole header captured as_.Cut = ⊥
-IsWhole header captured (as_.Whole h bytes) = (h ≡ header) × (bytes.now ≡ captured)
-IsWhole header captured as_.Kept = ⊥
-IsWhole header captured (as_.Joined d) = ⊥
+abbrev pub IsWholeArrival : HeaderFields → List ℕ → Arrived → Type 0
+IsWholeArrival header captured as_.Bad = ⊥
+IsWholeArrival header captured as_.Cut = ⊥
+IsWholeArrival header captured (as_.Whole h bytes) = (h ≡ header) × (bytes.now ≡ captured)
+IsWholeArrival header captured as_.Kept = ⊥
+IsWholeArrival header captured (as_.Joined d) = ⊥
 
 -- A fragment came: a datagram exactly if its group completes.
 abbrev pub IsFragmentOf : List Piece → Arrived → Type 0
@@ -56,9 +56,9 @@ IsCut as_.Kept = ⊥
 IsCut (as_.Joined d) = ⊥
 
 abbrev pub IsDatagram : Option Fragment → HeaderFields → List ℕ → Option Stamp → Stamped → List Event → Arrived → Type 0
-IsDatagram None header captured clock stamped events arrived = IsWhole header captured arrived
+IsDatagram None header captured clock stamped events arrived = IsWholeArrival header captured arrived
 IsDatagram (Some fragment) header captured clock stamped events arrived =
-    IsFragmentOf (joined_pieces clock (piece_of header captured stamped) (state_of open_limit events)) arrived
+    IsFragmentOf (joined_pieces clock (piece_of header captured stamped) (open_groups_after open_limit events)) arrived
 
 -- What a packet is, of which that was read, after some events.
 abbrev pub IsArrived : Reading → Option Stamp → Stamped → List Event → Arrived → Type 0

@@ -27,9 +27,9 @@ total_of [] = None
 total_of (p ∷ ps) = if p.more then total_of ps else Some (end_of p)
 
 -- the datagram's header: that of the latest fragment that begins at 0
-abbrev pub header_of : List Piece → Option HeaderFields
-header_of [] = None
-header_of (p ∷ ps) = if p.start == 0 then Some p.header else header_of ps
+abbrev pub joined_header : List Piece → Option HeaderFields
+joined_header [] = None
+joined_header (p ∷ ps) = if p.start == 0 then Some p.header else joined_header ps
 
 -- the byte at a place: that of the latest fragment that holds it, else 0
 abbrev pub byte_at : List Piece → ℕ → ℕ
@@ -37,16 +37,16 @@ byte_at [] i = 0
 byte_at (p ∷ ps) i = if holds p i then slice_index p.bytes (i - p.start) else byte_at ps i
 
 -- how many blocks some bytes take
-abbrev pub blocks : ℕ → ℕ
-blocks n = (n + 7) / 8
+abbrev pub block_count : ℕ → ℕ
+block_count n = (n + 7) / 8
 
 -- the length is known, and each block below it is covered
 unfoldable pub completes : List Piece → Bool
-completes ps = option_map_or (λ n. covers_below ps (blocks n)) (total_of ps) false
+completes ps = option_map_or (λ n. covers_below ps (block_count n)) (total_of ps) false
 
 -- the bytes below the length, if it is known
-unfoldable pub data_of : List Piece → List ℕ
-data_of ps = option_map_or (λ n. map (byte_at ps) (range_with_len 0 n)) (total_of ps) []
+unfoldable pub joined_data : List Piece → List ℕ
+joined_data ps = option_map_or (λ n. map (byte_at ps) (range_with_len 0 n)) (total_of ps) []
 
 -- the greatest end of the fragments
 abbrev pub greatest_end : List Piece → ℕ
@@ -55,4 +55,4 @@ greatest_end (p ∷ ps) = max (end_of p) (greatest_end ps)
 
 -- a number of bytes, rounded up to whole blocks
 abbrev pub rounded : ℕ → ℕ
-rounded n = 8 * blocks n
+rounded n = 8 * block_count n

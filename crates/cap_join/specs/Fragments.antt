@@ -29,7 +29,7 @@ end_of p = p.start + length p.bytes
 
 -- some data that begins at a whole block of 8 bytes, ends at one if more follow, and lies in the 65,515 bytes that a
 -- datagram's data can have
-pub record IsShaped (p : Piece) : Type 0 where
+pub record IsShapedFragment (p : Piece) : Type 0 where
   pub some : 0 < length p.bytes
   pub begins : p.start % 8 ≡ 0
   pub ends : IsTrue p.more → length p.bytes % 8 ≡ 0
@@ -37,4 +37,4 @@ pub record IsShaped (p : Piece) : Type 0 where
 
 abbrev pub AreShaped : List Piece → Type 0
 AreShaped [] = Unit {0}
-AreShaped (p ∷ ps) = IsShaped p × AreShaped ps
+AreShaped (p ∷ ps) = IsShapedFragment p × AreShaped ps

@@ -13,9 +13,9 @@ abbrev pub is_before : Option Stamp → Option Stamp → Bool
 is_before a b = is_lt (option_cmp stamp_cmp a b)
 
 -- the sum of the frames' original lengths
-abbrev pub original_bytes : List Piece → ℕ
-original_bytes [] = 0
-original_bytes (p ∷ ps) = original_bytes ps + p.stamped.original
+abbrev pub pieces_original : List Piece → ℕ
+pieces_original [] = 0
+pieces_original (p ∷ ps) = pieces_original ps + p.stamped.original
 
 -- a frame, if it has a time
 abbrev pub timed : Stamped → Option Stamp → Option Stamped
@@ -24,26 +24,26 @@ timed frame (Some time) = Some frame
 
 -- Of the frame of the least time so far, which has one, and one more after it, the one of the lesser time: of equal
 -- times the one that was there, whose place is lower.
-abbrev pub earlier : Option Stamped → Option Stamped → Option Stamped
-earlier first None = first
-earlier None (Some frame) = Some frame
-earlier (Some first) (Some frame) = if is_before frame.time first.time then Some frame else Some first
+abbrev pub earlier_stamped : Option Stamped → Option Stamped → Option Stamped
+earlier_stamped first None = first
+earlier_stamped None (Some frame) = Some frame
+earlier_stamped (Some first) (Some frame) = if is_before frame.time first.time then Some frame else Some first
 
 -- likewise of the frame of the greatest time
-abbrev pub later : Option Stamped → Option Stamped → Option Stamped
-later last None = last
-later None (Some frame) = Some frame
-later (Some last) (Some frame) = if is_before last.time frame.time then Some frame else Some last
+abbrev pub later_stamped : Option Stamped → Option Stamped → Option Stamped
+later_stamped last None = last
+later_stamped None (Some frame) = Some frame
+later_stamped (Some last) (Some frame) = if is_before last.time frame.time then Some frame else Some last
 
 -- the frame of the least time, of equal times that of the lowest place; none if no frame has a time
 abbrev pub first_frame : List Piece → Option Stamped
 first_frame [] = None
-first_frame (p ∷ ps) = earlier (first_frame ps) (timed p.stamped p.stamped.time)
+first_frame (p ∷ ps) = earlier_stamped (first_frame ps) (timed p.stamped p.stamped.time)
 
 -- the frame of the greatest time, of equal times that of the lowest place
 abbrev pub last_frame : List Piece → Option Stamped
 last_frame [] = None
-last_frame (p ∷ ps) = later (last_frame ps) (timed p.stamped p.stamped.time)
+last_frame (p ∷ ps) = later_stamped (last_frame ps) (timed p.stamped p.stamped.time)
 
 -- how many seconds a group waits for its fragments
 abbrev pub wait : ℕ

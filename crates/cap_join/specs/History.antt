@@ -21,8 +21,8 @@ same_key a b =
     && ((a.protocol == b.protocol) && (a.identification == b.identification)))
 
 -- the key of a fragment
-abbrev pub key_of : Piece → Key
-key_of p = p.header.key
+abbrev pub fragment_key : Piece → Key
+fragment_key p = p.header.key
 
 -- A group that isn't a whole datagram yet: its key, the clock and the place of its first fragment, and its fragments.
 pub record OpenGroup : Type 0 where
@@ -32,8 +32,8 @@ pub record OpenGroup : Type 0 where
   pub pieces : List Piece
 
 -- the group that a fragment opens
-abbrev pub opened : Option Stamp → Piece → OpenGroup
-opened clock p = record { key = key_of p; clock = clock; place = p.stamped.place; pieces = p ∷ [] }
+abbrev pub group_opened_by : Option Stamp → Piece → OpenGroup
+group_opened_by clock p = record { key = fragment_key p; clock = clock; place = p.stamped.place; pieces = p ∷ [] }
 
 -- a group with one more fragment
 abbrev pub with_piece : Piece → OpenGroup → OpenGroup
@@ -53,7 +53,7 @@ without key os = filter (λ o. not (same_key key o.key)) os
 
 -- the groups, that of the fragment's key with it
 abbrev pub extended : Piece → List OpenGroup → List OpenGroup
-extended p os = map (λ o. if same_key (key_of p) o.key then with_piece p o else o) os
+extended p os = map (λ o. if same_key (fragment_key p) o.key then with_piece p o else o) os
 
 -- the groups but the one whose first fragment has the lowest place
 abbrev pub without_oldest : List OpenGroup → List OpenGroup
@@ -71,8 +71,8 @@ pieces_with p (Some o) = p ∷ o.pieces
 -- the groups after a fragment, if the one that it joins is found among those that aren't too old: a group that
 -- completes is none
 abbrev pub opens_with : ℕ → Option Stamp → Piece → Option OpenGroup → List OpenGroup → List OpenGroup
-opens_with limit clock p None os = if completes (p ∷ []) then os else trimmed limit os ++ opened clock p ∷ []
-opens_with limit clock p (Some o) os = if completes (p ∷ o.pieces) then without (key_of p) os else extended p os
+opens_with limit clock p None os = if completes (p ∷ []) then os else trimmed limit os ++ group_opened_by clock p ∷ []
+opens_with limit clock p (Some o) os = if completes (p ∷ o.pieces) then without (fragment_key p) os else extended p os
 
 -- whether a group is given up for a fragment
 abbrev pub gives_up_with : ℕ → Piece → Option OpenGroup → List OpenGroup → Bool
@@ -80,29 +80,29 @@ gives_up_with limit p None os = not (completes (p ∷ [])) && not (nat_lt (lengt
 gives_up_with limit p (Some o) os = false
 
 -- The open groups, and how many were given up.
-pub record State : Type 0 where
+pub record OpenState : Type 0 where
   pub opens : List OpenGroup
   pub given_up : ℕ
 
 -- the fragments of the group that a fragment joins or opens, once it came at a clock
-unfoldable pub joined_pieces : Option Stamp → Piece → State → List Piece
-joined_pieces clock p s = pieces_with p (group_at (key_of p) (live_at clock s.opens))
+unfoldable pub joined_pieces : Option Stamp → Piece → OpenState → List Piece
+joined_pieces clock p s = pieces_with p (group_at (fragment_key p) (live_at clock s.opens))
 
 -- what one more event makes of the open groups, of which a number at most may be open
-unfoldable pub step : ℕ → Event → State → State
+unfoldable pub step : ℕ → Event → OpenState → OpenState
 step limit (arrives clock p) s =
     record {
-      opens = opens_with limit clock p (group_at (key_of p) (live_at clock s.opens)) (live_at clock s.opens);
-      given_up = s.given_up + (if gives_up_with limit p (group_at (key_of p) (live_at clock s.opens))
+      opens = opens_with limit clock p (group_at (fragment_key p) (live_at clock s.opens)) (live_at clock s.opens);
+      given_up = s.given_up + (if gives_up_with limit p (group_at (fragment_key p) (live_at clock s.opens))
           (live_at clock s.opens) then 1 else 0);
     }
 step limit (flushes key) s = record { opens = without key s.opens; given_up = s.given_up }
 
 -- the open groups after some events
-unfoldable pub state_of : ℕ → List Event → State
-state_of limit [] = record { opens = []; given_up = 0 }
-state_of limit (e ∷ es) = step limit e (state_of limit es)
+unfoldable pub open_groups_after : ℕ → List Event → OpenState
+open_groups_after limit [] = record { opens = []; given_up = 0 }
+open_groups_after limit (e ∷ es) = step limit e (open_groups_after limit es)
 
 -- the fragments of a key's open group after some events, none if it has none
 unfoldable pub group_of : ℕ → List Event → Key → Option OpenGroup
-group_of limit es key = group_at key (state_of limit es).opens
+group_of limit es key = group_at key (open_groups_after limit es).opens

@@ -44,9 +44,9 @@ IsChain bytes low high at (s ∷ ss) = IsHole bytes low high at s
     × IsChain bytes s.to high (word_at bytes (s.from + 4)) ss
 
 -- One of some holes begins at a place and lies below another whole.
-abbrev pub Begins : ℕ → ℕ → List Span → Type 0
-Begins below at [] = ⊥
-Begins below at (s ∷ ss) = ((s.from ≡ at) × (s.to ≤ below)) ⊎ Begins below at ss
+abbrev pub BeginsHole : ℕ → ℕ → List Span → Type 0
+BeginsHole below at [] = ⊥
+BeginsHole below at (s ∷ ss) = ((s.from ≡ at) × (s.to ≤ below)) ⊎ BeginsHole below at ss
 
 -- Some holes begin at a place.
 pub record HasHoles (bytes : List ℕ) (high at : ℕ) : Type 0 where
@@ -56,13 +56,13 @@ pub record HasHoles (bytes : List ℕ) (high at : ℕ) : Type 0 where
 -- A cursor is one of the holes, or names none.
 abbrev pub HasCursor : List ℕ → ℕ → ℕ → ℕ → Type 0
 HasCursor bytes high first cursor = (ss : List Span) → IsChain bytes 0 high first ss → cursor < no_hole
-    → Begins high cursor ss
+    → BeginsHole high cursor ss
 
 -- One of the holes begins at a place and lies below another whole.
 pub record IsBefore (bytes : List ℕ) (first below at : ℕ) : Type 0 where
   pub here : at < below
   pub whole : word_at bytes at ≤ below
-  pub begins : (high : ℕ) (ss : List Span) → high < no_hole → IsChain bytes 0 high first ss → Begins below at ss
+  pub begins : (high : ℕ) (ss : List Span) → high < no_hole → IsChain bytes 0 high first ss → BeginsHole below at ss
 
 -- Bytes change from a place up to another alone.
 pub record ChangesWithin (from to : ℕ) (old new : List ℕ) : Type 0 where
@@ -71,8 +71,8 @@ pub record ChangesWithin (from to : ℕ) (old new : List ℕ) : Type 0 where
   pub above : (i : ℕ) → to ≤ i → slice_index new i ≡ slice_index old i
 
 -- A place and the holes after it, if some bytes are left of a hole.
-abbrev pub kept : ℕ → ℕ → List Span → List Span
-kept from to ss = if nat_lt from to then record { from = from; to = to } ∷ ss else ss
+abbrev pub kept_hole : ℕ → ℕ → List Span → List Span
+kept_hole from to ss = if nat_lt from to then record { from = from; to = to } ∷ ss else ss
 
 -- What is left of some holes once a range is filled: the filled part of a hole is 0, and all else stays.
 pub record Punched (a b : ℕ) (old : List ℕ) (ss : List Span) (low high at : ℕ) (new : List ℕ) : Type 0 where

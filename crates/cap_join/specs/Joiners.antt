@@ -8,7 +8,7 @@ use Rattle.cap_join.specs.declared.datagrams.Put.TheVariants.{Kept, Joined}
 use Rattle.cap_join.specs.Fragments.{Piece}
 use Rattle.cap_join.specs.ByteMap.{completes, greatest_end, rounded}
 use Rattle.cap_join.specs.inner.Groups.{GroupState, IsGroupOf, IsDatagramOf}
-use Rattle.cap_join.specs.History.{Event, OpenGroup, same_key, state_of}
+use Rattle.cap_join.specs.History.{Event, OpenGroup, same_key, open_groups_after}
 
 -- a key with its group
 abbrev pub Entry : Type 0
@@ -41,9 +41,9 @@ AreEntriesOf (e ∷ es) [] = ⊥
 AreEntriesOf (e ∷ es) (o ∷ os) = IsEntryOf e o × AreEntriesOf es os
 
 -- A joiner stands for some events if it keeps the groups that are open after them.
-pub record StandsFor (j : JoinerState) (events : List Event) : Type 0 where
-  pub groups : AreEntriesOf j.groups (state_of open_limit events).opens
-  pub given_up : j.given_up ≡ (state_of open_limit events).given_up
+pub record JoinerStandsFor (j : JoinerState) (events : List Event) : Type 0 where
+  pub groups : AreEntriesOf j.groups (open_groups_after open_limit events).opens
+  pub given_up : j.given_up ≡ (open_groups_after open_limit events).given_up
 
 -- What a fragment's answer says: a datagram exactly if its group completes.
 abbrev pub IsAnswer : Put → List Piece → Type 0
@@ -61,9 +61,9 @@ spare_in [] = 0
 spare_in (e ∷ es) = (e.1.room - length e.1.buffer) + spare_in es
 
 -- the greatest length again, of open groups: the greatest end of a group's fragments, rounded up to whole blocks
-abbrev pub held_of : List OpenGroup → ℕ
-held_of [] = 0
-held_of (o ∷ os) = max (rounded (greatest_end o.pieces)) (held_of os)
+abbrev pub held_by_groups : List OpenGroup → ℕ
+held_by_groups [] = 0
+held_by_groups (o ∷ os) = max (rounded (greatest_end o.pieces)) (held_by_groups os)
 
 -- The groups' first fragments have rising places, from one up to another, and no group has more fragments than places.
 abbrev pub Rises : ℕ → ℕ → List Entry → Type 0

@@ -8,8 +8,9 @@ use Rattle.cap_ip.specs.declared.headers.Key.{Key}
 use Rattle.cap_join.specs.Fragments.{Piece}
 use Rattle.cap_join.specs.ByteMap.{completes}
 use Rattle.cap_join.specs.Frames.{is_before, is_too_old}
-use Rattle.cap_join.specs.History.{Event, arrives, flushes, OpenGroup, same_key, key_of, opened, with_piece, live_at}
-use Rattle.cap_join.specs.History.{state_of, joined_pieces}
+use Rattle.cap_join.specs.History.{Event, arrives, flushes, OpenGroup, same_key, fragment_key, group_opened_by}
+use Rattle.cap_join.specs.History.{with_piece, live_at}
+use Rattle.cap_join.specs.History.{open_groups_after, joined_pieces}
 
 -- What is known at an event. Of a fragment: its place; its group, which is all fragments up to it with the same first
 -- one, that one's clock and place; and the place that names the group which was given up there, if one was.
@@ -35,8 +36,8 @@ goes_on key (fragment own group gave ∷ ms) =
 -- A fragment's group: the one that goes on, unless the clock of its first fragment and 30 seconds are before the
 -- fragment's; else the fragment is its own first.
 abbrev pub group_by : Option Stamp → Piece → Option OpenGroup → OpenGroup
-group_by clock p None = opened clock p
-group_by clock p (Some group) = if is_too_old group.clock clock then opened clock p else with_piece p group
+group_by clock p None = group_opened_by clock p
+group_by clock p (Some group) = if is_too_old group.clock clock then group_opened_by clock p else with_piece p group
 
 -- the group that goes on, if its first fragment is the one at a place
 abbrev pub first_at : ℕ → Option OpenGroup → List OpenGroup
@@ -70,8 +71,8 @@ given_up_at limit own group os = if (group.place == own) && not (nat_lt (length 
 -- what is known at a fragment, from what is known before it
 abbrev pub mark_of : ℕ → Option Stamp → Piece → List Mark → Mark
 mark_of limit clock p ms =
-    fragment p.stamped.place (group_by clock p (goes_on (key_of p) ms))
-    (given_up_at limit p.stamped.place (group_by clock p (goes_on (key_of p) ms)) (open_before clock ms))
+    fragment p.stamped.place (group_by clock p (goes_on (fragment_key p) ms))
+    (given_up_at limit p.stamped.place (group_by clock p (goes_on (fragment_key p) ms)) (open_before clock ms))
 
 -- what is known at each of some events
 abbrev pub marks : ℕ → List Event → List Mark
@@ -112,10 +113,11 @@ AreInOrder (flushes key ∷ es) = AreInOrder es
 -- After events in order the step form gives each fragment the group that it has by places, and gives up as many groups.
 pub record Agree (limit : ℕ) (es : List Event) : Type 0 where
   pub groups : (clock : Option Stamp) (p : Piece) → is_before clock (latest_clock es) ≡ false
-      → joined_pieces clock p (state_of limit es) ≡ (group_by clock p (goes_on (key_of p) (marks limit es))).pieces
-  pub given_up : (state_of limit es).given_up ≡ times_given_up (marks limit es)
+      → joined_pieces clock p (open_groups_after limit es)
+      ≡ (group_by clock p (goes_on (fragment_key p) (marks limit es))).pieces
+  pub given_up : (open_groups_after limit es).given_up ≡ times_given_up (marks limit es)
   pub opens : (now : Option Stamp) → is_before now (latest_clock es) ≡ false
-      → live_at now (state_of limit es).opens ≡ open_before now (marks limit es)
+      → live_at now (open_groups_after limit es).opens ≡ open_before now (marks limit es)
 
 abbrev pub PlacesLaw : Type 0
 PlacesLaw = (limit : ℕ) (es : List Event) → 0 < limit → AreInOrder es → Agree limit es

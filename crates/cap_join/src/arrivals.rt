@@ -1,10 +1,10 @@
 //! IPv4 packets, as they come to a joiner.
 ghost use Rattle.std.specs.Prelude.{◌≡◌, List, ◌+◌, ◌≤◌, ◌<◌, ◌<ℤ◌, ◌^◌, pos, length, IfSome, IfOk, IfErr, OnOk, OnErr};
 ghost use Rattle.cap_time.specs.Stamp.{seconds_of};
-ghost use Rattle.cap_ip.specs.Read.{read_of, found, IsShaped};
-ghost use Rattle.cap_join.specs.Arrivals.{IsArrived, events_with};
+ghost use Rattle.cap_ip.specs.Read.{read_of, found, IsShapedPacket};
+ghost use Rattle.cap_join.specs.Arrivals.{IsArrived, events_with_reading};
 ghost use Rattle.cap_join.specs.History.{Event};
-ghost use Rattle.cap_join.specs.Joiners.{StandsFor};
+ghost use Rattle.cap_join.specs.Joiners.{JoinerStandsFor};
 ghost use Rattle.cap_join.specs.declared.datagrams.JoinFault.TheVariants.{Memory};
 
 use crate::datagrams::{Datagram, JoinFault, Put, Stamped};
@@ -43,10 +43,11 @@ impl Joiner {
         requires clock { IfSome clock (λ c. seconds_of c <ℤ pos (2 ^ 65)) }
         requires place { self.old.next ≤ stamped.place }
         requires last { stamped.place < 2 ^ 63 }
-        ensures answer { IfOk result (λ arrived. (events : List Event) → StandsFor self.old events →
+        ensures answer { IfOk result (λ arrived. (events : List Event) → JoinerStandsFor self.old events →
             IsArrived (read_of bytes.entry.now captured_whole) clock stamped events arrived) }
-        ensures stands { OnOk result ((events : List Event) → StandsFor self.old events →
-            StandsFor self.new (events_with (read_of bytes.entry.now captured_whole) clock stamped events)) }
+        ensures stands { OnOk result ((events : List Event) → JoinerStandsFor self.old events →
+            JoinerStandsFor self.new (events_with_reading (read_of bytes.entry.now captured_whole) clock stamped
+            events)) }
         ensures next { OnOk result (self.new.next ≤ stamped.place + 1) }
         ensures fault { IfErr result (λ e. e ≡ Memory) }
         ensures err { OnErr result (self.new ≡ self.old) }
@@ -69,14 +70,14 @@ fn take_datagram<'a>(
     captured: &'a [u8],
     stamped: Stamped,
 ) -> Result<Arrived<'a>, JoinFault>
-    requires shaped { IsShaped header captured.now }
+    requires shaped { IsShapedPacket header captured.now }
     requires clock { IfSome clock (λ c. seconds_of c <ℤ pos (2 ^ 65)) }
     requires place { joiner.old.next ≤ stamped.place }
     requires last { stamped.place < 2 ^ 63 }
-    ensures answer { IfOk result (λ arrived. (events : List Event) → StandsFor joiner.old events →
+    ensures answer { IfOk result (λ arrived. (events : List Event) → JoinerStandsFor joiner.old events →
         IsArrived (found header captured.now) clock stamped events arrived) }
-    ensures stands { OnOk result ((events : List Event) → StandsFor joiner.old events →
-        StandsFor joiner.new (events_with (found header captured.now) clock stamped events)) }
+    ensures stands { OnOk result ((events : List Event) → JoinerStandsFor joiner.old events →
+        JoinerStandsFor joiner.new (events_with_reading (found header captured.now) clock stamped events)) }
     ensures next { OnOk result (joiner.new.next ≤ stamped.place + 1) }
     ensures fault { IfErr result (λ e. e ≡ Memory) }
     ensures err { OnErr result (joiner.new ≡ joiner.old) }

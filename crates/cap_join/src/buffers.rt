@@ -1,7 +1,7 @@
 //! The buffer of a group of fragments.
 ghost use Rattle.std.specs.Prelude.{◌≡◌, ℕ, List, ◌∷◌, ◌+◌, ◌*◌, ◌<◌, ◌≤◌, ◌%◌, length, take, max, IfOk, OnOk, OnErr};
 ghost use Rattle.cap_join.specs.Holes.{Span, IsChain, HasHoles, HasCursor};
-ghost use Rattle.cap_join.specs.Fragments.{Piece, IsShaped};
+ghost use Rattle.cap_join.specs.Fragments.{Piece, IsShapedFragment};
 ghost use Rattle.cap_join.specs.inner.Buffers.{Maps, Grown};
 
 use crate::holes::{HoleList, add_hole, copy, fill};
@@ -58,7 +58,7 @@ fn put_piece(bytes: &mut [u8], part: Part, start: u32, end: u32, piece: &[u8]) -
     requires some { 0 < length piece.now }
     requires within { start + length piece.now ≤ end }
     requires last { end < start + length piece.now + 8 }
-    ensures maps { (p : Piece) (ps : List Piece) → p.start ≡ start → p.bytes ≡ piece.now → IsShaped p →
+    ensures maps { (p : Piece) (ps : List Piece) → p.start ≡ start → p.bytes ≡ piece.now → IsShapedFragment p →
         Maps (take part.held bytes.old) part.holes.first ps → Maps bytes.new result.first (p ∷ ps) }
     ensures cursor { HasCursor bytes.new (length bytes.new) result.first result.cursor }
 {
@@ -88,7 +88,7 @@ fn put_front(
     requires some { 0 < length piece.now }
     requires within { start + length piece.now ≤ end }
     requires last { end < start + length piece.now + 8 }
-    ensures maps { (p : Piece) (ps : List Piece) → p.start ≡ start → p.bytes ≡ piece.now → IsShaped p →
+    ensures maps { (p : Piece) (ps : List Piece) → p.start ≡ start → p.bytes ≡ piece.now → IsShapedFragment p →
         Maps (take part.held buffer.old) part.holes.first ps → Maps (take held buffer.new) result.first (p ∷ ps) }
     ensures cursor { HasCursor (take held buffer.new) held result.first result.cursor }
 {
@@ -113,7 +113,7 @@ pub(crate) fn put_data(
     requires some { 0 < length piece.now }
     requires within { start + length piece.now ≤ 65515 }
     ensures maps { IfOk result (λ at. (p : Piece) (ps : List Piece) → p.start ≡ start → p.bytes ≡ piece.now
-        → IsShaped p →
+        → IsShapedFragment p →
         Maps (take part.held buffer.old.items) part.holes.first ps
         → Maps (take at.held buffer.new.items) at.holes.first (p ∷ ps)) }
     ensures cursor { IfOk result

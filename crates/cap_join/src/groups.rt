@@ -6,7 +6,7 @@ ghost use Rattle.cap_join.specs.inner.Fitting.{FitsDatagram};
 ghost use Rattle.cap_join.specs.Fragments.{Piece};
 ghost use Rattle.cap_join.specs.inner.Incoming.{piece_in};
 ghost use Rattle.cap_join.specs.ByteMap.{completes};
-ghost use Rattle.cap_join.specs.Frames.{timed, earlier, later, is_too_old};
+ghost use Rattle.cap_join.specs.Frames.{timed, earlier_stamped, later_stamped, is_too_old};
 ghost use Rattle.cap_join.specs.inner.Ages.{deadline_of};
 ghost use Rattle.cap_join.specs.inner.Groups.{IsGroupOf, IsDatagramOf};
 
@@ -61,7 +61,7 @@ fn timed(frame: Stamped) -> Option<Stamped>
 
 // The one of the lesser time, of equal times the first.
 fn earlier(first: Option<Stamped>, frame: Option<Stamped>) -> Option<Stamped>
-    ensures { result ≡ earlier first frame }
+    ensures { result ≡ earlier_stamped first frame }
 {
     match frame {
         None => first,
@@ -80,7 +80,7 @@ fn earlier(first: Option<Stamped>, frame: Option<Stamped>) -> Option<Stamped>
 
 // The one of the greater time, of equal times the first.
 fn later(last: Option<Stamped>, frame: Option<Stamped>) -> Option<Stamped>
-    ensures { result ≡ later last frame }
+    ensures { result ≡ later_stamped last frame }
 {
     match frame {
         None => last,

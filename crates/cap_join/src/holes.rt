@@ -12,8 +12,9 @@
 //!    side is described anew;
 //! 4. its data is copied, also over bytes of earlier fragments.
 ghost use Rattle.std.specs.Prelude.{◌≡◌, ℕ, List, ◌+◌, ◌-◌, ◌<◌, ◌≤◌, ◌%◌, ◌^◌, length, slice_index, IsTrue, IfSome};
-ghost use Rattle.cap_join.specs.Holes.{Span, word_at, IsChain, HasHoles, Begins, HasCursor, IsBefore, ChangesWithin};
-ghost use Rattle.cap_join.specs.Holes.{kept, Punched, Continues, Appended};
+ghost use Rattle.cap_join.specs.Holes.{Span, word_at, IsChain, HasHoles, BeginsHole, HasCursor, IsBefore};
+ghost use Rattle.cap_join.specs.Holes.{ChangesWithin};
+ghost use Rattle.cap_join.specs.Holes.{kept_hole, Punched, Continues, Appended};
 
 use cap_bytes::{Order, put_u32, u32_at};
 
@@ -56,7 +57,7 @@ fn keep(bytes: &mut [u8], from: u32, to: u32, next: u32) -> u32
     ensures within { ChangesWithin from to bytes.old bytes.new }
     ensures place { from < to → result ≡ from }
     ensures chain { (low middle high : ℕ) (ss : List Span) → low ≤ from → low ≤ middle → to ≤ middle → to ≤ high →
-        IsChain bytes.old middle high next ss → IsChain bytes.new low high result (kept from to ss) }
+        IsChain bytes.old middle high next ss → IsChain bytes.new low high result (kept_hole from to ss) }
 {
     if from < to {
         let at = from as usize;
@@ -125,7 +126,7 @@ fn last_below(bytes: &[u8], at: u32, below: u32) -> u32
     requires short { length bytes.now < 2 ^ 17 }
     ensures first { result < below }
     ensures whole { word_at bytes.now result ≤ below }
-    ensures begins { (low high : ℕ) (ss : List Span) → IsChain bytes.now low high at ss → Begins below result ss }
+    ensures begins { (low high : ℕ) (ss : List Span) → IsChain bytes.now low high at ss → BeginsHole below result ss }
 {
     let mut last = at;
     while let Some(next) = next_below(bytes, last, below) {

@@ -4,8 +4,8 @@ ghost use Rattle.std.specs.Prelude.{IfSome, IfOk, IfErr, OnOk, OnErr};
 ghost use Rattle.cap_time.specs.Stamp.{seconds_of};
 ghost use Rattle.cap_join.specs.inner.Fitting.{FitsPut};
 ghost use Rattle.cap_join.specs.Fragments.{piece_of};
-ghost use Rattle.cap_join.specs.History.{Event, arrives, flushes, state_of, joined_pieces};
-ghost use Rattle.cap_join.specs.Joiners.{StandsFor, IsAnswer, most_bytes, spare_in, held_of, open_limit};
+ghost use Rattle.cap_join.specs.History.{Event, arrives, flushes, open_groups_after, joined_pieces};
+ghost use Rattle.cap_join.specs.Joiners.{JoinerStandsFor, IsAnswer, most_bytes, spare_in, held_by_groups, open_limit};
 ghost use Rattle.cap_join.specs.declared.datagrams.JoinFault.TheVariants.{Memory};
 
 use crate::datagrams::{Incoming, JoinFault, Put, Stamped};
@@ -42,17 +42,17 @@ impl Model for Joiner {
 
     ghost Value = { JoinerState };
 
-    ghost use Rattle.cap_join.specs.inner.JoinerView.{joiner_view, IsSoundInside};
+    ghost use Rattle.cap_join.specs.inner.JoinerView.{joiner_view, IsSoundJoinerInside};
 
     ghost view = { joiner_view };
 
-    ghost invariant = { IsSoundInside };
+    ghost invariant = { IsSoundJoinerInside };
 }
 
 impl Joiner {
     /// A joiner that was given nothing.
     pub fn new(alloc: Global) -> Joiner
-        ensures stands { StandsFor result [] }
+        ensures stands { JoinerStandsFor result [] }
         ensures next { result.next ≡ 0 }
     {
         Joiner {
@@ -81,10 +81,11 @@ impl Joiner {
         requires clock { IfSome clock (λ c. seconds_of c <ℤ pos (2 ^ 65)) }
         requires place { self.old.next ≤ stamped.place }
         requires last { stamped.place < 2 ^ 63 }
-        ensures answer { IfOk result (λ put. (events : List Event) → StandsFor self.old events →
-            IsAnswer put (joined_pieces clock (piece_of header.now bytes.now stamped) (state_of open_limit events))) }
-        ensures stands { OnOk result ((events : List Event) → StandsFor self.old events →
-            StandsFor self.new (arrives clock (piece_of header.now bytes.now stamped) ∷ events)) }
+        ensures answer { IfOk result (λ put. (events : List Event) → JoinerStandsFor self.old events →
+            IsAnswer put (joined_pieces clock (piece_of header.now bytes.now stamped)
+            (open_groups_after open_limit events))) }
+        ensures stands { OnOk result ((events : List Event) → JoinerStandsFor self.old events →
+            JoinerStandsFor self.new (arrives clock (piece_of header.now bytes.now stamped) ∷ events)) }
         ensures next { OnOk result (self.new.next ≡ stamped.place + 1) }
         ensures fits { IfOk result FitsPut }
         ensures fault { IfErr result (λ e. e ≡ Memory) }
@@ -118,7 +119,8 @@ impl Joiner {
     /// Drops the group of a key, as a whole datagram of that key does.
     #[inline(always)]
     pub fn flush(&mut self, key: Key)
-        ensures stands { (events : List Event) → StandsFor self.old events → StandsFor self.new (flushes key ∷ events) }
+        ensures stands { (events : List Event) → JoinerStandsFor self.old events
+            → JoinerStandsFor self.new (flushes key ∷ events) }
         ensures next { self.new.next ≡ self.old.next }
     {
         drop_group(&mut self.table, &mut self.spares, key);
@@ -128,8 +130,8 @@ impl Joiner {
     /// put.
     pub fn open_count(&self) -> usize
         ensures value { result ≡ length self.now.groups }
-        ensures stands { (events : List Event) → StandsFor self.now events
-            → result ≡ length (state_of open_limit events).opens }
+        ensures stands { (events : List Event) → JoinerStandsFor self.now events
+            → result ≡ length (open_groups_after open_limit events).opens }
         ensures bound { result ≤ 1024 }
     {
         match &self.table {
@@ -142,8 +144,8 @@ impl Joiner {
     /// rounded up to whole blocks of 8. At most 65,520; 0 if none is open.
     pub fn held_bytes(&self) -> usize
         ensures value { result ≡ most_bytes self.now.groups }
-        ensures stands { (events : List Event) → StandsFor self.now events
-            → result ≡ held_of (state_of open_limit events).opens }
+        ensures stands { (events : List Event) → JoinerStandsFor self.now events
+            → result ≡ held_by_groups (open_groups_after open_limit events).opens }
         ensures bound { result ≤ 65520 }
     {
         match &self.table {
@@ -168,8 +170,8 @@ impl Joiner {
     /// How many groups were given up.
     pub fn given_up(&self) -> u64
         ensures value { result ≡ self.now.given_up }
-        ensures stands { (events : List Event) → StandsFor self.now events
-            → result ≡ (state_of open_limit events).given_up }
+        ensures stands { (events : List Event) → JoinerStandsFor self.now events
+            → result ≡ (open_groups_after open_limit events).given_up }
     {
         self.given_up
     }

@@ -15,7 +15,7 @@ ghost use Rattle.cap_join.specs.Fragments.{Piece};
 ghost use Rattle.cap_join.specs.ByteMap.{completes};
 ghost use Rattle.cap_join.specs.inner.Groups.{IsGroupOf, IsDatagramOf};
 ghost use Rattle.cap_join.specs.inner.Ages.{NoneOld, IsDeadline, AreInTurn};
-ghost use Rattle.cap_join.specs.inner.Tables.{entries_of, entry_at, live_entries, has_live, PutsAt, Puts};
+ghost use Rattle.cap_join.specs.inner.Tables.{entries_of, entry_at, live_entries, has_live, PutsAt, PutsFragment};
 
 use crate::ages::{is_past, latest_of, sooner, stays_in_order};
 use crate::datagrams::{Datagram, Incoming, Put};
@@ -187,7 +187,7 @@ fn extend(
     requires table { IsTable (place_in incoming.now) groups.old }
     requires last { place_in incoming.now < 2 ^ 63 }
     ensures ok { IfOk result (λ put. (os : List OpenGroup) → AreEntriesOf groups.old os →
-        Puts clock (piece_in incoming.now) os put false groups.new) }
+        PutsFragment clock (piece_in incoming.now) os put false groups.new) }
     ensures fits { IfOk result FitsPut }
     ensures table { OnOk result (IsTable (place_in incoming.now + 1) groups.new) }
     ensures err { OnErr result (groups.new ≡ groups.old) }
@@ -278,7 +278,7 @@ fn open(
     requires clock { IfSome clock (λ c. seconds_of c <ℤ pos (2 ^ 65)) }
     requires table { IsTable (place_in incoming.now) groups.old }
     ensures ok { IfOk result (λ put. (os : List OpenGroup) → AreEntriesOf groups.old os →
-        Puts clock (piece_in incoming.now) os put.0 put.1 groups.new) }
+        PutsFragment clock (piece_in incoming.now) os put.0 put.1 groups.new) }
     ensures fits { IfOk result (λ put. FitsPut put.0) }
     ensures table { OnOk result (IsTable (place_in incoming.now + 1) groups.new) }
     ensures err { OnErr result (groups.new ≡ groups.old) }
@@ -310,7 +310,7 @@ fn put_into(
     requires table { IsTable (place_in incoming.now) groups.old }
     requires last { place_in incoming.now < 2 ^ 63 }
     ensures ok { IfOk result (λ put. (os : List OpenGroup) → AreEntriesOf groups.old os →
-        Puts clock (piece_in incoming.now) os put.0 put.1 groups.new) }
+        PutsFragment clock (piece_in incoming.now) os put.0 put.1 groups.new) }
     ensures fits { IfOk result (λ put. FitsPut put.0) }
     ensures table { OnOk result (IsTable (place_in incoming.now + 1) groups.new) }
     ensures err { OnErr result (groups.new ≡ groups.old) }
@@ -355,7 +355,7 @@ pub(crate) fn put_fragment(
     requires table { IsTable (place_in incoming.now) (entries_of table.old) }
     requires last { place_in incoming.now < 2 ^ 63 }
     ensures ok { IfOk result (λ put. (os : List OpenGroup) → AreEntriesOf (entries_of table.old) os →
-        Puts clock (piece_in incoming.now) os put.0 put.1 (entries_of table.new)) }
+        PutsFragment clock (piece_in incoming.now) os put.0 put.1 (entries_of table.new)) }
     ensures fits { IfOk result (λ put. FitsPut put.0) }
     ensures table { OnOk result (IsTable (place_in incoming.now + 1) (entries_of table.new)) }
     ensures err { OnErr result (entries_of table.new ≡ entries_of table.old) }

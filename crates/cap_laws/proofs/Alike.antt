@@ -6,7 +6,7 @@ use Rattle.std.specs.List.{AllZip}
 use Rattle.std.specs.Prelude.{nat_lt, if◌then◌else◌}
 use Rattle.cap_join.proofs.EqualClocks.{same-groups}
 use Rattle.cap_join.specs.Completed.{if_complete}
-use Rattle.cap_join.specs.inner.EqualClocks.{IsSameTime, IsSameEvent}
+use Rattle.cap_join.specs.inner.EqualClocks.{IsSameClock, IsSameEvent}
 use Rattle.cap_join.specs.Fragments.{Piece}
 use Rattle.cap_join.specs.History.{Event}
 use Rattle.cap_join.specs.Joiners.{open_limit}
@@ -15,17 +15,17 @@ use Rattle.cap_merge.specs.inner.Clocks.{clock_total}
 use Rattle.cap_merge.specs.Run.{Clocked}
 use Rattle.cap_source.specs.Feed.{Item, packet, refused}
 use Rattle.cap_talks.specs.table.Classes.{classes, classes_in, groups_of}
-use Rattle.cap_talks.specs.table.CountedUnits.{first_unit, unit_by, unit_at, listed, units_of}
+use Rattle.cap_talks.specs.table.CountedUnits.{first_unit, unit_by, unit_at, listed, counted_units}
 use Rattle.cap_talks.specs.talks.ReportText.{with_item, taken_after}
-use Rattle.cap_talks.specs.table.TakenText.{body_text, bytes_of, truncated_of}
-use Rattle.cap_talks.specs.table.Taken.{Taken, Look, plain, datagram, fragment, look, events_with, events_of}
+use Rattle.cap_talks.specs.table.TakenText.{body_text, taken_bytes, truncated_of}
+use Rattle.cap_talks.specs.table.Taken.{Taken, Look, plain, datagram, fragment, look, events_with_look, events_of}
 use Rattle.cap_time.specs.declared.stamps.Stamp.{Stamp}
 use Rattle.cap_laws.proofs.LikeReports.{LikeItems, RunsLike, refusals-like}
 use Rattle.cap_laws.specs.Reports.{SameReport}
 
 -- Two packets are alike.
 pub record IsAlike (x y : Taken) : Type 0 where
-  pub clock : IsSameTime x.clock y.clock
+  pub clock : IsSameClock x.clock y.clock
   pub interface : x.meta.interface ≡ y.meta.interface
   pub units : x.meta.units ≡ y.meta.units
   pub captured : x.meta.captured ≡ y.meta.captured
@@ -57,8 +57,8 @@ alike-look n m x y e h = grind arith
 
 -- ---- the groups of fragments
 
-events-with : (l : Look) (c d : Option Stamp) (es fs : List Event) → IsSameTime c d → AllZip IsSameEvent es fs
-    → AllZip IsSameEvent (events_with l c es) (events_with l d fs)
+events-with : (l : Look) (c d : Option Stamp) (es fs : List Event) → IsSameClock c d → AllZip IsSameEvent es fs
+    → AllZip IsSameEvent (events_with_look l c es) (events_with_look l d fs)
 events-with l c d es fs e h = grind arith
 
 alike-events : (xs ys : List Taken) → AreAlike xs ys → AllZip IsSameEvent (events_of xs) (events_of ys)
@@ -81,7 +81,8 @@ unfolding classes
 alike-classes xs ys h = ap (λ groups. classes_in groups xs) (alike-groups xs ys h)
     ∙ alike-classes_in (groups_of ys) xs ys h
 
-unit-by : (l : Look) (s : Stamped) (c d : Option Stamp) (es fs : List Event) → IsSameTime c d → AllZip IsSameEvent es fs
+unit-by : (l : Look) (s : Stamped) (c d : Option Stamp) (es fs : List Event) → IsSameClock c d
+    → AllZip IsSameEvent es fs
     → unit_by l s c es ≡ unit_by l s d fs
 unit-by (plain k) s c d es fs e h = refl
 unit-by (datagram header captured) s c d es fs e h = refl
@@ -92,14 +93,14 @@ alike-unit : (xs ys : List Taken) (x y : Taken) → AreAlike xs ys → IsAlike x
 unfolding unit_at
 alike-unit xs ys x y h k = grind (arith, alike-length, unit-by, alike-events, alike-look)
 
-alike-units : (xs ys : List Taken) → AreAlike xs ys → units_of xs ≡ units_of ys
-unfolding units_of
+alike-units : (xs ys : List Taken) → AreAlike xs ys → counted_units xs ≡ counted_units ys
+unfolding counted_units
 alike-units (x ∷ xs) (y ∷ ys) h = λ i. alike-units xs ys h.1 i ++ listed (alike-unit xs ys x y h.1 h.0 i)
 alike-units xs ys h = grind arith
 
 -- ---- the lines
 
-alike-bytes : (xs ys : List Taken) → AreAlike xs ys → bytes_of xs ≡ bytes_of ys
+alike-bytes : (xs ys : List Taken) → AreAlike xs ys → taken_bytes xs ≡ taken_bytes ys
 alike-bytes (x ∷ xs) (y ∷ ys) h = λ i. alike-bytes xs ys h.1 i + h.0.original i
 alike-bytes xs ys h = grind arith
 

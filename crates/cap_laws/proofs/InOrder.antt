@@ -12,15 +12,15 @@ use Rattle.cap_merge.proofs.RunLaws.{NeverFalls, run-rises}
 use Rattle.cap_time.specs.Clock.{clock_cmp}
 use Rattle.cap_merge.specs.inner.Clocks.{AtMost, clock_total, at_most-itself, at_most-trans}
 use Rattle.cap_merge.specs.Parts.{item_time, is_refusal}
-use Rattle.cap_merge.specs.Run.{Clocked, opened, run}
+use Rattle.cap_merge.specs.Run.{Clocked, opened_track, run}
 use Rattle.cap_source.specs.Feed.{Item, packet, refused}
 use Rattle.cap_time.specs.declared.stamps.Stamp.{Stamp}
 use Rattle.cap_join.proofs.ByPlaces.{agree}
 use Rattle.cap_join.proofs.Once.{completed}
 use Rattle.cap_join.specs.Completed.{if_complete}
 use Rattle.cap_join.specs.declared.datagrams.Stamped.{Stamped}
-use Rattle.cap_talks.specs.table.CountedUnits.{counted_in, first_unit, is_limit_by, refusal_at, unit_at, unit_by}
-use Rattle.cap_talks.specs.table.CountedUnits.{units_of}
+use Rattle.cap_talks.specs.table.CountedUnits.{counted_in, first_unit, is_limit_by, limit_refusal, unit_at, unit_by}
+use Rattle.cap_talks.specs.table.CountedUnits.{counted_units}
 use Rattle.cap_talks.proofs.LoneFragments.{no-lone}
 use Rattle.cap_talks.proofs.Recount.{place_of}
 use Rattle.cap_talks.specs.table.Classes.{classes, classes_in}
@@ -28,7 +28,7 @@ use Rattle.cap_laws.specs.InOrder.{ByPlaces, IsByPlaces, ReportByPlaces, refusal
 use Rattle.cap_laws.specs.InOrder.{text_by_places, unit_after, unit_by_places, units_at}
 use Rattle.cap_talks.specs.talks.InfoText.{or_else}
 use Rattle.cap_talks.specs.talks.ReportText.{refusal_after, refusal_here, with_item, taken_after}
-use Rattle.cap_talks.specs.table.Taken.{Taken, events_with, events_of, Look, plain, datagram, fragment, look}
+use Rattle.cap_talks.specs.table.Taken.{Taken, events_with_look, events_of, Look, plain, datagram, fragment, look}
 use Rattle.cap_talks.specs.table.Taken.{stamped_of}
 use Rattle.cap_talks.specs.table.TakenText.{body_by, body_text, files_part}
 
@@ -42,8 +42,8 @@ module _ (x : Taken) (place : ℕ) (es : List Event) (clock : Option Stamp) (ris
     (ordered : AreInOrder es) (late : AtMost (latest_clock es) clock)
     (below : next_place es ≤ place) where
   pub one_more : (l : Look) → look place x ≡ l
-      → AreInOrder (events_with l x.clock es) × AtMost (latest_clock (events_with l x.clock es)) x.clock
-      × (next_place (events_with l x.clock es) ≤ place + 1)
+      → AreInOrder (events_with_look l x.clock es) × AtMost (latest_clock (events_with_look l x.clock es)) x.clock
+      × (next_place (events_with_look l x.clock es) ≤ place + 1)
   one_more (plain c) is = (ordered, at_most-trans (latest_clock es) clock x.clock late rises, omega (arith, below))
   one_more (datagram header captured) is =
       (ordered, at_most-trans (latest_clock es) clock x.clock late rises, omega (arith, below))
@@ -106,11 +106,11 @@ module _ (xs : List Taken) (clock : Option Stamp) (stamped : Stamped) (ordered :
 
 record Places (xs : List Taken) (clock : Option Stamp) : Type 0 where
   ordered : Ordered xs clock
-  units : units_of xs ≡ units_at xs
+  units : counted_units xs ≡ units_at xs
 
 places-more : (x : Taken) (xs : List Taken) (clock : Option Stamp) → AtMost clock x.clock → Places xs clock
     → Places (x ∷ xs) x.clock
-unfolding units_of units_at unit_at
+unfolding counted_units units_at unit_at
 places-more x xs clock rises p =
     let late = at_most-trans (latest_clock (events_of xs)) clock x.clock p.ordered.late rises in
     record {
@@ -141,7 +141,7 @@ places-taken (a ∷ run) clock xs h p = places-taken run a.clock (with_item a.cl
     (places-item a.clock clock a.item xs h.0 p)
 
 places-none : Places [] None
-unfolding units_of units_at
+unfolding counted_units units_at
 places-none = record { ordered = ordered-none; units = refl }
 
 falls-take : (n : ℕ) (clock : Option Stamp) (run : List (Clocked Item)) → NeverFalls clock run
@@ -165,14 +165,14 @@ is-by-places xs clock p =
 
 pub by-places : ByPlaces
 by-places files n =
-    let r = run item_time is_refusal (map opened files) in
+    let r = run item_time is_refusal (map opened_track files) in
     let after = places-taken (take n r) None [] (falls-take n None r (run-rises item_time is_refusal files))
     places-none in
     is-by-places (taken_after [] (take n r)) after.0 after.1
 
 -- the refusal of a run
 limit-same : (x : Taken) (clock : Option Stamp) (xs : List Taken) → AtMost clock x.clock → Places xs clock
-    → is_limit_by (units_of xs) (unit_at xs x) ≡ is_limit_by (units_at xs) (unit_after xs x)
+    → is_limit_by (counted_units xs) (unit_at xs x) ≡ is_limit_by (units_at xs) (unit_after xs x)
 unfolding unit_at
 limit-same x clock xs rises p =
     let late = at_most-trans (latest_clock (events_of xs)) clock x.clock p.ordered.late rises in
@@ -182,7 +182,7 @@ limit-same x clock xs rises p =
 refusal-item : (c clock : Option Stamp) (i : Item) (xs : List Taken) → AtMost clock c → Places xs clock
     → refusal_here xs c i ≡ refusal_with xs c i
 refusal-item c clock (packet meta frame) xs rises p =
-    ap (λ b. if b then Some (refusal_at meta) else None)
+    ap (λ b. if b then Some (limit_refusal meta) else None)
     (limit-same (record { clock = c; meta = meta; frame = frame }) clock xs rises p)
 refusal-item c clock (refused r) xs rises p = refl
 
@@ -199,7 +199,7 @@ refusal-run (a ∷ run) clock xs h p =
 pub report-by-places : ReportByPlaces
 unfolding body_text text_by_places
 report-by-places count endings files =
-    let r = run item_time is_refusal (map opened files) in
+    let r = run item_time is_refusal (map opened_track files) in
     let rises = run-rises item_time is_refusal files in
     let after = places-taken r None [] rises places-none in
     let xs = taken_after [] r in

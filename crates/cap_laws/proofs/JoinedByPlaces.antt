@@ -6,16 +6,16 @@ use Rattle.cap_join.specs.Fragments.{Piece}
 use Rattle.cap_join.specs.History.{Event}
 use Rattle.cap_join.specs.Joiners.{open_limit}
 use Rattle.cap_join.specs.Places.{latest_clock, next_place, AreInOrder}
-use Rattle.cap_link.specs.Links.{network_of, is_whole}
+use Rattle.cap_link.specs.Links.{network_of, is_captured_whole}
 use Rattle.cap_merge.proofs.RunLaws.{NeverFalls, run-rises}
 use Rattle.cap_merge.specs.inner.Clocks.{AtMost, at_most-trans}
 use Rattle.cap_merge.specs.Parts.{item_time, is_refusal}
-use Rattle.cap_merge.specs.Run.{Clocked, opened, run}
+use Rattle.cap_merge.specs.Run.{Clocked, opened_track, run}
 use Rattle.cap_source.specs.Feed.{Item, packet, refused}
-use Rattle.cap_talks.specs.table.Taken.{Taken, look, events_with}
+use Rattle.cap_talks.specs.table.Taken.{Taken, look, events_with_look}
 use Rattle.cap_time.specs.declared.stamps.Stamp.{Stamp}
 use Rattle.cap_write.specs.Joined.{completed, datagram_at, events_after, events_here, group_after, items_here}
-use Rattle.cap_write.specs.Joined.{items_of_packet, items_with, joined_items, stamped_of}
+use Rattle.cap_write.specs.Joined.{items_of_packet, items_with_datagram, joined_items, stamped_of}
 use Rattle.cap_write.specs.Texts.{merged_bytes, merged_refusal}
 use Rattle.cap_laws.proofs.InOrder.{not_before, one_more}
 use Rattle.cap_laws.proofs.JoinedUnits.{events-carried}
@@ -31,11 +31,11 @@ record Ready (place : ℕ) (es : List Event) (clock : Option Stamp) : Type 0 whe
 
 -- the events with a packet are those of the report
 events-more : (place : ℕ) (es : List Event) (x : Taken)
-    → events_after place es x.clock x.meta x.frame ≡ events_with (look place x) x.clock es
+    → events_after place es x.clock x.meta x.frame ≡ events_with_look (look place x) x.clock es
 unfolding events_after look
 events-more place es x =
     events-carried x.clock (stamped_of place x.meta) es (network_of x.meta.interface.link x.frame x.meta.original)
-    (is_whole x.frame x.meta.original)
+    (is_captured_whole x.frame x.meta.original)
 
 ready-packet : (place : ℕ) (es : List Event) (clock : Option Stamp) (x : Taken) → AtMost clock x.clock
     → Ready place es clock
@@ -69,8 +69,8 @@ same-items : (place : ℕ) (es : List Event) (c clock : Option Stamp) (i : Item)
 unfolding items_of_packet completed completed_by_places
 same-items place es c clock (packet meta frame) rises r =
     let group = same-group es c clock rises r.order r.late in
-    λ i. items_with meta frame (datagram_at (network_of meta.interface.link frame meta.original)
-    (is_whole frame meta.original) (stamped_of place meta) (λ p. group p i))
+    λ i. items_with_datagram meta frame (datagram_at (network_of meta.interface.link frame meta.original)
+    (is_captured_whole frame meta.original) (stamped_of place meta) (λ p. group p i))
 same-items place es c clock (refused refusal) rises r = refl
 
 same-run : (run : List (Clocked Item)) (place : ℕ) (es : List Event) (clock : Option Stamp) → NeverFalls clock run
@@ -86,7 +86,7 @@ same-run (a ∷ run) place es clock h r =
 
 pub joined-by-places : JoinedByPlaces
 joined-by-places order files =
-    let r = run item_time is_refusal (map opened files) in
+    let r = run item_time is_refusal (map opened_track files) in
     let same = same-run r 0 [] None (run-rises item_time is_refusal files)
     (record { order = tt; late = refl; below = omega arith }) in
     record {

@@ -5,10 +5,11 @@ use Rattle.std.specs.List.{AllZip, range_with_len}
 use Rattle.std.specs.Option.{option_map_or}
 use Rattle.std.specs.Prelude.{◌==◌, map, if◌then◌else◌}
 use Rattle.cap_join.proofs.AlikeGroups.{AlikeGroups, IsAlikeEvent, IsAlikeness, alike-groups, before_same}
-use Rattle.cap_join.specs.ByteMap.{is_covered, covers_below, total_of, header_of, byte_at, blocks, completes, data_of}
-use Rattle.cap_join.specs.inner.EqualClocks.{IsSameTime}
+use Rattle.cap_join.specs.ByteMap.{is_covered, covers_below, total_of, joined_header, byte_at, block_count, completes}
+use Rattle.cap_join.specs.ByteMap.{joined_data}
+use Rattle.cap_join.specs.inner.EqualClocks.{IsSameClock}
 use Rattle.cap_join.specs.Fragments.{Piece}
-use Rattle.cap_join.specs.Frames.{original_bytes, timed, earlier, later, first_frame, last_frame}
+use Rattle.cap_join.specs.Frames.{pieces_original, timed, earlier_stamped, later_stamped, first_frame, last_frame}
 use Rattle.cap_join.specs.History.{Event}
 use Rattle.cap_join.specs.Holes.{is_within}
 use Rattle.cap_join.specs.declared.datagrams.Stamped.{Stamped}
@@ -18,7 +19,7 @@ use Rattle.cap_talks.specs.table.Classes.{has_place}
 
 -- Two frames have the same place and length, and the same time, maybe in another form.
 pub record IsLikeFrame (s t : Stamped) : Type 0 where
-  pub time : IsSameTime s.time t.time
+  pub time : IsSameClock s.time t.time
   pub place : s.place ≡ t.place
   pub original : s.original ≡ t.original
 
@@ -32,10 +33,12 @@ one-of : (s t x y : Stamped) → IsLikeFrame s t → IsLikeFrame x y → (b c : 
     → LikeFrames (if b then Some s else Some x) (if c then Some t else Some y)
 one-of s t x y h k b c e = grind arith
 
-earlier-like : (a b c d : Option Stamped) → LikeFrames a b → LikeFrames c d → LikeFrames (earlier a c) (earlier b d)
+earlier-like : (a b c d : Option Stamped) → LikeFrames a b → LikeFrames c d
+    → LikeFrames (earlier_stamped a c) (earlier_stamped b d)
 earlier-like a b c d h k = grind (arith, one-of, before_same)
 
-later-like : (a b c d : Option Stamped) → LikeFrames a b → LikeFrames c d → LikeFrames (later a c) (later b d)
+later-like : (a b c d : Option Stamped) → LikeFrames a b → LikeFrames c d
+    → LikeFrames (later_stamped a c) (later_stamped b d)
 later-like a b c d h k = grind (arith, one-of, before_same)
 
 -- ---- fragments
@@ -73,7 +76,7 @@ total-like (p ∷ ps) (q ∷ qs) h = λ i. if h.0.more i then total-like ps qs h
     (h.0.start i + length (h.0.bytes i))
 total-like ps qs h = grind arith
 
-pub header-like : (ps qs : List Piece) → Like ps qs → header_of ps ≡ header_of qs
+pub header-like : (ps qs : List Piece) → Like ps qs → joined_header ps ≡ joined_header qs
 header-like (p ∷ ps) (q ∷ qs) h = λ i. if h.0.start i == 0 then Some (h.0.header i) else header-like ps qs h.1 i
 header-like ps qs h = grind arith
 
@@ -83,14 +86,14 @@ byte-like ps qs h k = grind arith
 
 pub completes-like : (ps qs : List Piece) → Like ps qs → completes ps ≡ completes qs
 unfolding completes
-completes-like ps qs h = λ i. option_map_or (λ n. covers-like ps qs h (blocks n) i) (total-like ps qs h i) false
+completes-like ps qs h = λ i. option_map_or (λ n. covers-like ps qs h (block_count n) i) (total-like ps qs h i) false
 
-pub data-like : (ps qs : List Piece) → Like ps qs → data_of ps ≡ data_of qs
-unfolding data_of
+pub data-like : (ps qs : List Piece) → Like ps qs → joined_data ps ≡ joined_data qs
+unfolding joined_data
 data-like ps qs h = λ i. option_map_or (λ n. map (λ k. byte-like ps qs h k i) (range_with_len 0 n))
     (total-like ps qs h i) []
 
-pub original-like : (ps qs : List Piece) → Like ps qs → original_bytes ps ≡ original_bytes qs
+pub original-like : (ps qs : List Piece) → Like ps qs → pieces_original ps ≡ pieces_original qs
 original-like (p ∷ ps) (q ∷ qs) h = λ i. original-like ps qs h.1 i + h.0.stamped.original i
 original-like ps qs h = grind arith
 

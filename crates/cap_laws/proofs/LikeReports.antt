@@ -10,9 +10,9 @@ use Rattle.std.specs.Prelude.{nat_lt, if◌then◌else◌}
 use Rattle.cap_ip.specs.Header.{HeaderFields}
 use Rattle.cap_join.specs.Completed.{if_complete}
 use Rattle.cap_join.proofs.AlikeGroups.{if_complete-alike, zip-both}
-use Rattle.cap_join.specs.inner.EqualClocks.{IsSameTime}
+use Rattle.cap_join.specs.inner.EqualClocks.{IsSameClock}
 use Rattle.cap_join.specs.Fragments.{Piece, piece_of}
-use Rattle.cap_join.specs.History.{Event, joined_pieces, state_of}
+use Rattle.cap_join.specs.History.{Event, joined_pieces, open_groups_after}
 use Rattle.cap_join.specs.Joiners.{open_limit}
 use Rattle.cap_join.specs.declared.datagrams.Stamped.{Stamped}
 use Rattle.cap_link.specs.Seen.{Carried, ipv4, other_link, not_ipv4, short, cut as ends}
@@ -21,12 +21,13 @@ use Rattle.cap_merge.specs.Run.{Clocked}
 use Rattle.cap_source.specs.Feed.{Item, packet, refused}
 use Rattle.cap_talks.specs.table.Classes.{class_by, class_in, class_of, classes, classes_in, counts_of, group_class}
 use Rattle.cap_talks.specs.table.Classes.{groups_of, has_place}
-use Rattle.cap_talks.specs.table.CountedUnits.{unit_by, unit_at, listed, units_of, is_limit_at, counted_in}
+use Rattle.cap_talks.specs.table.CountedUnits.{unit_by, unit_at, listed, counted_units, is_limit_at, counted_in}
 use Rattle.cap_talks.specs.talks.ReportText.{with_item, taken_after, refusal_here}
-use Rattle.cap_talks.specs.table.TakenText.{body_text, bytes_of, truncated_of}
+use Rattle.cap_talks.specs.table.TakenText.{body_text, taken_bytes, truncated_of}
 use Rattle.cap_talks.specs.table.Rows.{is_refused, talk_limit}
-use Rattle.cap_talks.specs.table.Taken.{Taken, Look, plain, datagram, fragment, look_at, look, events_with, events_of}
-use Rattle.cap_talks.specs.table.Talks.{key_of, rows_of}
+use Rattle.cap_talks.specs.table.Taken.{Taken, Look, plain, datagram, fragment, look_at, look, events_with_look}
+use Rattle.cap_talks.specs.table.Taken.{events_of}
+use Rattle.cap_talks.specs.table.Talks.{talk_key, rows_of}
 use Rattle.cap_talks.specs.declared.table.classes.Class.TheVariants as class
 use Rattle.cap_talks.specs.declared.table.units.CountedUnit.{CountedUnit}
 use Rattle.cap_time.specs.declared.stamps.Stamp.{Stamp}
@@ -34,13 +35,13 @@ use Rattle.cap_laws.proofs.LikePieces.{IsLike, IsLikeFrame, Like, LikeEvent, dat
 use Rattle.cap_laws.proofs.LikePieces.{pieces-alike, place-like}
 use Rattle.cap_laws.proofs.LikeUnits.{LikeUnit, LikeUnits, first_unit-like, key-like, refused-like, rows-like}
 use Rattle.cap_laws.specs.Forms.{BodyParts, IsSameTalk, SameButForms, counts_text}
-use Rattle.cap_laws.specs.Reports.{Place, place_or, refused_after}
+use Rattle.cap_laws.specs.Reports.{Place, refusal_place_or, refused_after}
 
 -- Two packets have clocks of one time, and the same link, length, bytes and time, maybe in another form.
 pub record IsLikeTaken (x y : Taken) : Type 0 where
-  pub clock : IsSameTime x.clock y.clock
+  pub clock : IsSameClock x.clock y.clock
   pub link : x.meta.interface.link ≡ y.meta.interface.link
-  pub time : IsSameTime (meta_time x.meta) (meta_time y.meta)
+  pub time : IsSameClock (meta_time x.meta) (meta_time y.meta)
   pub original : x.meta.original ≡ y.meta.original
   pub frame : x.frame ≡ y.frame
 
@@ -93,9 +94,9 @@ taken-length = length_all_zip IsLikeTaken
 
 -- ---- the groups of fragments
 
-events-with : (l k : Look) (c d : Option Stamp) (es fs : List Event) → LikeLook l k → IsSameTime c d
+events-with : (l k : Look) (c d : Option Stamp) (es fs : List Event) → LikeLook l k → IsSameClock c d
     → AllZip LikeEvent es fs
-    → AllZip LikeEvent (events_with l c es) (events_with k d fs)
+    → AllZip LikeEvent (events_with_look l c es) (events_with_look k d fs)
 events-with l k c d es fs e t h = grind arith
 
 events-like : (xs ys : List Taken) → LikeTaken xs ys → AllZip LikeEvent (events_of xs) (events_of ys)
@@ -137,11 +138,11 @@ counted-like gs ks h = grind arith
 -- ---- units
 
 unit-by : (l k : Look) (s t : Stamped) (c d : Option Stamp) (es fs : List Event) → LikeLook l k → IsLikeFrame s t
-    → IsSameTime c d → AllZip LikeEvent es fs
+    → IsSameClock c d → AllZip LikeEvent es fs
     → LikeUnit (unit_by l s c es) (unit_by k t d fs)
 unit-by (fragment p) (fragment q) s t c d es fs e f u h =
-    let ps = joined_pieces c p (state_of open_limit es) in
-    let qs = joined_pieces d q (state_of open_limit fs) in
+    let ps = joined_pieces c p (open_groups_after open_limit es) in
+    let qs = joined_pieces d q (open_groups_after open_limit fs) in
     first_unit-like (if_complete ps) (if_complete qs)
     (if_complete-alike IsLike pieces-alike ps qs ((events-groups open_limit es fs h).joined c d p q u e))
 unit-by l k s t c d es fs e f u h = grind arith
@@ -154,17 +155,18 @@ unit-at xs ys x y h k = grind (arith, taken-length, unit-by, look-like, events-l
 listed-like : (u v : Option CountedUnit) → LikeUnit u v → LikeUnits (listed u) (listed v)
 listed-like u v h = grind arith
 
-units-like : (xs ys : List Taken) → LikeTaken xs ys → LikeUnits (units_of xs) (units_of ys)
-unfolding units_of
+units-like : (xs ys : List Taken) → LikeTaken xs ys → LikeUnits (counted_units xs) (counted_units ys)
+unfolding counted_units
 units-like (x ∷ xs) (y ∷ ys) h = search (units-like xs ys h.1, zip-both, listed, listed-like, unit-at)
 units-like xs ys h = grind arith
 
-talks-like : (xs ys : List Taken) → LikeTaken xs ys → AllZip IsSameTalk (rows_of (units_of xs)) (rows_of (units_of ys))
-talks-like xs ys h = rows-like (units_of xs) (units_of ys) (units-like xs ys h)
+talks-like : (xs ys : List Taken) → LikeTaken xs ys
+    → AllZip IsSameTalk (rows_of (counted_units xs)) (rows_of (counted_units ys))
+talks-like xs ys h = rows-like (counted_units xs) (counted_units ys) (units-like xs ys h)
 
 -- ---- the lines
 
-bytes-like : (xs ys : List Taken) → LikeTaken xs ys → bytes_of xs ≡ bytes_of ys
+bytes-like : (xs ys : List Taken) → LikeTaken xs ys → taken_bytes xs ≡ taken_bytes ys
 bytes-like (x ∷ xs) (y ∷ ys) h = λ i. bytes-like xs ys h.1 i + h.0.original i
 bytes-like xs ys h = grind arith
 
@@ -195,8 +197,8 @@ body-parts xs = refl
 -- ---- refusals
 
 limit-by : (xs ys : List Taken) (u v : Option CountedUnit) → LikeTaken xs ys → LikeUnit u v
-    → option_map_or (λ unit. is_refused talk_limit (rows_of (units_of xs)) (key_of unit)) u false
-    ≡ option_map_or (λ unit. is_refused talk_limit (rows_of (units_of ys)) (key_of unit)) v false
+    → option_map_or (λ unit. is_refused talk_limit (rows_of (counted_units xs)) (talk_key unit)) u false
+    ≡ option_map_or (λ unit. is_refused talk_limit (rows_of (counted_units ys)) (talk_key unit)) v false
 limit-by xs ys u v h k = grind (arith, refused-like, key-like, talks-like)
 
 limit-like : (xs ys : List Taken) (x y : Taken) → LikeTaken xs ys → IsLikeTaken x y
@@ -205,7 +207,7 @@ limit-like xs ys x y h k = limit-by xs ys (unit_at xs x) (unit_at ys y) h (unit-
 
 refused-here : (c d : Option Stamp) (a b : Item) (xs ys : List Taken) (p q : Option Place) → LikeItems c d a b
     → LikeTaken xs ys → p ≡ q
-    → place_or (length xs) (refusal_here xs c a) p ≡ place_or (length ys) (refusal_here ys d b) q
+    → refusal_place_or (length xs) (refusal_here xs c a) p ≡ refusal_place_or (length ys) (refusal_here ys d b) q
 refused-here c d (packet m f) (packet n g) xs ys p q h k e = grind (arith, limit-like, taken-length)
 refused-here c d a b xs ys p q h k e = grind arith
 

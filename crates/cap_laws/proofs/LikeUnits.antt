@@ -8,17 +8,19 @@ use Rattle.std.specs.Ordering.{is_lt, nat_cmp, ordering_then}
 use Rattle.std.specs.Prelude.{filter, is_some, map, option_and_then, if◌then◌else◌}
 use Rattle.cap_ip.specs.Header.{HeaderFields}
 use Rattle.cap_ip.specs.Transport.{transport_of}
-use Rattle.cap_join.specs.ByteMap.{header_of, data_of}
+use Rattle.cap_join.specs.ByteMap.{joined_header, joined_data}
 use Rattle.cap_join.proofs.AlikeGroups.{cmp_same}
 use Rattle.cap_join.specs.Fragments.{Piece}
-use Rattle.cap_join.specs.Frames.{original_bytes, first_frame, last_frame}
+use Rattle.cap_join.specs.Frames.{pieces_original, first_frame, last_frame}
 use Rattle.cap_join.specs.declared.datagrams.Stamped.{Stamped}
 use Rattle.cap_time.specs.Clock.{clock_cmp}
 use Rattle.cap_talks.specs.table.CountedUnits.{first_unit, group_unit, timed_frame, unit_of}
 use Rattle.cap_talks.specs.table.Rows.{is_refused}
-use Rattle.cap_talks.specs.table.Talks.{Talk, bytes_of, by_time, by_time_down, earlier_frame, frames_of, greatest_frame}
-use Rattle.cap_talks.specs.table.Talks.{key_of, keys_of, later_frame, least_frame, place_or, row_of, rows_of, same_talk}
-use Rattle.cap_talks.specs.table.Talks.{units_of}
+use Rattle.cap_talks.specs.table.Talks.{Talk, units_bytes, by_time, by_time_down, earlier_frame, frames_of}
+use Rattle.cap_talks.specs.table.Talks.{greatest_frame}
+use Rattle.cap_talks.specs.table.Talks.{talk_key, keys_of, later_frame, least_frame, place_or, row_of, rows_of}
+use Rattle.cap_talks.specs.table.Talks.{same_talk}
+use Rattle.cap_talks.specs.table.Talks.{units_of_talk}
 use Rattle.cap_talks.specs.table.Units.{ends_of}
 use Rattle.cap_talks.specs.declared.table.rows.TalkKey.{TalkKey}
 use Rattle.cap_talks.specs.declared.table.units.CountedUnit.{CountedUnit}
@@ -66,7 +68,7 @@ between ends protocol frames frames_again bytes bytes_again first first_again la
 -- the unit of a group of fragments, of which the data and the header are known
 abbrev unit_with : List Piece → List ℕ → Option HeaderFields → Option CountedUnit
 unit_with pieces bytes header =
-    option_and_then (λ h. option_map (unit_of h.key.protocol (length pieces) (original_bytes pieces)
+    option_and_then (λ h. option_map (unit_of h.key.protocol (length pieces) (pieces_original pieces)
     (timed_frame (first_frame pieces)) (timed_frame (last_frame pieces)))
     (ends_of h.key.source h.key.destination (transport_of h.key.protocol bytes (length bytes)))) header
 
@@ -76,7 +78,13 @@ with-like ps qs bytes header h = grind (arith, between, length_all_zip, original
 
 pub group-like : (ps qs : List Piece) → Like ps qs → LikeUnit (group_unit ps) (group_unit qs)
 unfolding group_unit
-group-like ps qs h = grind (arith, data-like, header-like, with-like, with-like ps qs (data_of ps) (header_of ps) h)
+group-like ps qs h = grind (
+  arith,
+  data-like,
+  header-like,
+  with-like,
+  with-like ps qs (joined_data ps) (joined_header ps) h,
+)
 
 pub first_unit-like : (gs ks : List (List Piece)) → AllZip Like gs ks → LikeUnit (first_unit gs) (first_unit ks)
 first_unit-like gs ks h = grind (arith, group-like)
@@ -86,7 +94,7 @@ first_unit-like gs ks h = grind (arith, group-like)
 abbrev pub LikeUnits : List CountedUnit → List CountedUnit → Type 0
 LikeUnits = AllZip IsLikeUnit
 
-pub key-like : (u v : CountedUnit) → IsLikeUnit u v → key_of u ≡ key_of v
+pub key-like : (u v : CountedUnit) → IsLikeUnit u v → talk_key u ≡ talk_key v
 key-like u v h = cc
 
 filtered : (s : CountedUnit → Bool) → ((u v : CountedUnit) → IsLikeUnit u v → s u ≡ s v) → (us vs : List CountedUnit)
@@ -99,7 +107,7 @@ keys-like (u ∷ us) (v ∷ vs) h = λ i. key-like u v h.0 i
     ∷ filter (λ key. not (same_talk (key-like u v h.0 i) key)) (keys-like us vs h.1 i)
 keys-like us vs h = grind arith
 
-bytes-like : (us vs : List CountedUnit) → LikeUnits us vs → bytes_of us ≡ bytes_of vs
+bytes-like : (us vs : List CountedUnit) → LikeUnits us vs → units_bytes us ≡ units_bytes vs
 bytes-like (u ∷ us) (v ∷ vs) h = λ i. h.0.bytes i + bytes-like us vs h.1 i
 bytes-like us vs h = grind arith
 
@@ -144,12 +152,12 @@ row-like : (key : TalkKey) (us vs : List CountedUnit) → LikeUnits us vs → Is
 row-like key us vs h = grind (arith, filtered, not, least-like, greatest-like, counts-like, bytes-like, place-like)
 
 rows-at : (keys : List TalkKey) (us vs : List CountedUnit) → LikeUnits us vs
-    → AllZip IsSameTalk (map (λ key. (key, row_of (units_of key us))) keys)
-    (map (λ key. (key, row_of (units_of key vs))) keys)
+    → AllZip IsSameTalk (map (λ key. (key, row_of (units_of_talk key us))) keys)
+    (map (λ key. (key, row_of (units_of_talk key vs))) keys)
 rows-at [] us vs h = tt
 rows-at (key ∷ keys) us vs h = (
-  row-like key (units_of key us) (units_of key vs)
-      (filtered (λ u. same_talk key (key_of u)) (λ u v k. ap (λ (x : TalkKey). same_talk key x)
+  row-like key (units_of_talk key us) (units_of_talk key vs)
+      (filtered (λ u. same_talk key (talk_key u)) (λ u v k. ap (λ (x : TalkKey). same_talk key x)
       (key-like u v k)) us vs h),
   rows-at keys us vs h,
 )

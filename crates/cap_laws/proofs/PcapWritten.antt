@@ -8,7 +8,7 @@ use Rattle.cap_merge.proofs.RunLaws.{ClocksAreTold, run-clocks}
 use Rattle.cap_time.specs.Clock.{clock_cmp, later}
 use Rattle.cap_merge.specs.Files.{clocked_run, run_of_lists}
 use Rattle.cap_merge.specs.Parts.{item_time, is_refusal}
-use Rattle.cap_merge.specs.Run.{Clocked, opened, run}
+use Rattle.cap_merge.specs.Run.{Clocked, opened_track, run}
 use Rattle.cap_source.specs.Feed.{Item, packet, refusal_of}
 use Rattle.cap_source.specs.Items.{file_first, file_items}
 use Rattle.cap_time.specs.declared.stamps.Stamp.{Stamp}
@@ -69,7 +69,7 @@ pcap-report again-law order tail tail_again bytes are none short =
     let both : AllZip SamePackets (run_of_lists (items ∷ [])) (run_of_lists (again ∷ [])) =
     subst (λ (xs : List Item). AllZip SamePackets xs (run_of_lists (again ∷ []))) (sym one)
     (subst (λ (ys : List Item). AllZip SamePackets items ys) (sym other) same) in
-    same-but-forms (clocked_run tail (bytes ∷ [])) (run item_time is_refusal (map opened (again ∷ [])))
-    (runs-like None None (run item_time is_refusal (map opened (items ∷ [])))
-    (run item_time is_refusal (map opened (again ∷ []))) refl
+    same-but-forms (clocked_run tail (bytes ∷ [])) (run item_time is_refusal (map opened_track (again ∷ [])))
+    (runs-like None None (run item_time is_refusal (map opened_track (items ∷ [])))
+    (run item_time is_refusal (map opened_track (again ∷ []))) refl
     (run-clocks item_time is_refusal (items ∷ [])) (run-clocks item_time is_refusal (again ∷ [])) both)

@@ -12,7 +12,7 @@ use Rattle.cap_source.specs.Items.{file_items}
 use Rattle.cap_write.specs.Numbering.{Origin, numbered, refusal_in, with_origin}
 use Rattle.cap_write.specs.Texts.{packets_bytes}
 use Rattle.cap_laws.specs.again.Laws.{instances, numbers}
-use Rattle.cap_laws.specs.again.Rounds.{FileRoundsLaw, MergeLaw, IsItemOf, IsMergeOf, numbered_files, run_of}
+use Rattle.cap_laws.specs.again.Rounds.{FileRoundsLaw, MergeLaw, IsItemOf, IsMergeOf, numbered_files, run_of_packets}
 use Rattle.cap_laws.proofs.FileNumbers.{file-numbered}
 use Rattle.cap_laws.proofs.Twins.{goes, refuses}
 use Rattle.cap_laws.specs.Rounds.{Group, IsMerged, group_bytes, refused_by, RoundsInBytes}
@@ -26,8 +26,8 @@ numbered-each : (tail : Tail) (file : ℕ) (files : List (List ℕ))
 numbered-each tail file [] = refl
 numbered-each tail file (bytes ∷ files) = grind (arith, numbered-each tail (file + 1) files, file-numbered)
 
-run-each : (tail : Tail) (files : List (List ℕ)) → run_of (items_each tail files) ≡ run_of_files tail files
-unfolding run_of run_of_files
+run-each : (tail : Tail) (files : List (List ℕ)) → run_of_packets (items_each tail files) ≡ run_of_files tail files
+unfolding run_of_packets run_of_files
 run-each tail files = ap run_of_lists (numbered-each tail 1 files)
 
 -- ---- a written file
@@ -70,7 +70,8 @@ rounds-in-bytes merge-law rounds-law order tail tail_again groups are =
     let files = flat_map (λ group. group.files) groups in
     let texts = map (group_bytes tail) groups in
     let law = rounds-law parts (items_each tail_again texts) (merges-of merge-law tail tail_again groups are) in
-    let whole : run_of (flat_map (λ lists. lists) parts) ≡ run_of_files tail files = ap run_of (all-files tail groups)
+    let whole : run_of_packets (flat_map (λ lists. lists) parts)
+    ≡ run_of_files tail files = ap run_of_packets (all-files tail groups)
     ∙ run-each tail files in
     let rounds = run-each tail_again texts in
     let packets : numbered [] (run_of_files tail_again texts) ≡ numbered [] (run_of_files tail files) =

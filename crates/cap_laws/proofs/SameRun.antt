@@ -9,7 +9,7 @@ use Rattle.cap_time.specs.Clock.{clock_cmp, later}
 use Rattle.cap_merge.specs.inner.Clocks.{clock_total}
 use Rattle.cap_merge.specs.Files.{run_of_lists}
 use Rattle.cap_merge.specs.Parts.{item_time, is_refusal}
-use Rattle.cap_merge.specs.Run.{Clocked, opened, run}
+use Rattle.cap_merge.specs.Run.{Clocked, opened_track, run}
 use Rattle.cap_source.specs.Feed.{Item}
 use Rattle.cap_time.specs.declared.stamps.Stamp.{Stamp}
 use Rattle.cap_write.specs.Numbering.{Origin, numbered, refusal_in}
@@ -67,7 +67,7 @@ back_again origins others files again is = record {
 -- Such runs are alike,
 pub rewritten-alike : (origins others : List Origin) (files again : List (List Item))
     → IsRewritten origins others files again
-    → RunsAlike (run item_time is_refusal (map opened files)) (run item_time is_refusal (map opened again))
+    → RunsAlike (run item_time is_refusal (map opened_track files)) (run item_time is_refusal (map opened_track again))
 rewritten-alike origins others files again is =
     grind (
       arith,
@@ -80,5 +80,5 @@ rewritten-alike origins others files again is =
 
 -- and have the same report.
 pub same-run : (origins others : List Origin) (files again : List (List Item)) → IsRewritten origins others files again
-    → SameReport (run item_time is_refusal (map opened files)) (run item_time is_refusal (map opened again))
+    → SameReport (run item_time is_refusal (map opened_track files)) (run item_time is_refusal (map opened_track again))
 same-run origins others files again is = search (same-report, rewritten-alike, back_again)

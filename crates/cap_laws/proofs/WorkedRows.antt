@@ -4,14 +4,15 @@ use Rattle.std.specs.Fmt.{digits}
 use Rattle.cap_bytes.specs.Number.{number}
 use Rattle.cap_ip.specs.Fields.{version, header_length, service, total_length, identification, more_fragments, offset}
 use Rattle.cap_ip.specs.Fields.{time_to_live, protocol, source, destination, data_length, is_fragment}
-use Rattle.cap_ip.specs.Read.{key_of, fragment_of, fields_of, data_of as header_data, ended, is_malformed, lacks_data}
+use Rattle.cap_ip.specs.Read.{packet_key, fragment_of, fields_of, data_of as header_data, ended_in_header, is_malformed}
+use Rattle.cap_ip.specs.Read.{lacks_data}
 use Rattle.cap_ip.specs.Read.{is_overstated, is_misfit, is_partial, read_of}
 use Rattle.cap_ip.specs.Transport.{ports_of, udp_length, udp_of, tcp_header_length, tcp_of, transport_of}
-use Rattle.cap_join.specs.ByteMap.{completes, data_of}
+use Rattle.cap_join.specs.ByteMap.{completes, joined_data}
 use Rattle.cap_join.specs.Fragments.{piece_of}
-use Rattle.cap_join.specs.History.{joined_pieces, step, state_of}
+use Rattle.cap_join.specs.History.{joined_pieces, step, open_groups_after}
 use Rattle.cap_link.specs.Links.{typed, raw, network_of}
-use Rattle.cap_link.specs.Tags.{is_tag, ended as tag_ended, payload, carried}
+use Rattle.cap_link.specs.Tags.{is_tag, ended_in_link as tag_ended, payload, carried}
 use Rattle.cap_talks.specs.counts.Counting.{counted}
 use Rattle.cap_talks.specs.table.Talks.{rows_of}
 use Rattle.cap_time.specs.Code.{units_of_code}
@@ -21,23 +22,27 @@ use Rattle.cap_talks.specs.table.Classes.{classes, group_class}
 use Rattle.cap_join.specs.Completed.{completed_of}
 use Rattle.cap_talks.specs.table.TakenText.{body_text, files_part}
 use Rattle.cap_talks.specs.table.Taken.{look, events_of}
-use Rattle.cap_talks.specs.table.CountedUnits.{group_unit, unit_at, units_of}
+use Rattle.cap_talks.specs.table.CountedUnits.{group_unit, unit_at, counted_units}
 use Rattle.cap_laws.specs.WorkedReport.{Overlapped, Tagged}
 
 pub overlapped : Overlapped
 unfolding digits number version header_length service total_length identification more_fragments offset time_to_live
-    protocol source destination data_length is_fragment key_of fragment_of fields_of header_data ended is_malformed
+    protocol source destination data_length is_fragment packet_key fragment_of fields_of header_data ended_in_header
+    is_malformed
     lacks_data is_overstated is_misfit is_partial read_of ports_of udp_length udp_of tcp_header_length tcp_of
-    transport_of completes data_of piece_of joined_pieces step state_of typed raw network_of counted rows_of
+    transport_of completes joined_data piece_of joined_pieces step open_groups_after typed raw network_of counted
+    rows_of
     units_of_code stamp_cmp stamp_in stamp_plus time_cmp time_at floor_of remainder_of classes group_class completed_of
-    body_text files_part look events_of group_unit unit_at units_of
+    body_text files_part look events_of group_unit unit_at counted_units
 overlapped = record { before = refl; after = refl; so_far = refl; done = refl }
 
 pub tagged : Tagged
 unfolding digits number version header_length service total_length identification more_fragments offset time_to_live
-    protocol source destination data_length is_fragment key_of fragment_of fields_of header_data ended is_malformed
+    protocol source destination data_length is_fragment packet_key fragment_of fields_of header_data ended_in_header
+    is_malformed
     lacks_data is_overstated is_misfit is_partial read_of ports_of udp_length udp_of tcp_header_length tcp_of
-    transport_of completes data_of piece_of joined_pieces step state_of typed raw network_of counted rows_of
+    transport_of completes joined_data piece_of joined_pieces step open_groups_after typed raw network_of counted
+    rows_of
     units_of_code stamp_cmp stamp_in stamp_plus time_cmp time_at floor_of remainder_of classes group_class completed_of
-    body_text files_part look events_of group_unit unit_at units_of is_tag tag_ended payload carried
+    body_text files_part look events_of group_unit unit_at counted_units is_tag tag_ended payload carried
 tagged = record { classes_are = refl; done = refl }

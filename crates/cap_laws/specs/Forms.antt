@@ -11,9 +11,9 @@ use Rattle.cap_merge.specs.Run.{Clocked}
 use Rattle.cap_source.specs.Feed.{Item}
 use Rattle.cap_source.specs.Items.{file_first, file_items}
 use Rattle.cap_talks.specs.table.Classes.{classes, counts_of}
-use Rattle.cap_talks.specs.table.CountedUnits.{units_of, joined_in, given_up_in}
+use Rattle.cap_talks.specs.table.CountedUnits.{counted_units, joined_in, given_up_in}
 use Rattle.cap_talks.specs.talks.ReportText.{taken_after}
-use Rattle.cap_talks.specs.table.TakenText.{body_text, bytes_of, truncated_of, total_text, frames_text, joined_text}
+use Rattle.cap_talks.specs.table.TakenText.{body_text, taken_bytes, truncated_of, total_text, frames_text, joined_text}
 use Rattle.cap_talks.specs.table.TalkLines.{talk_texts, talks_text}
 use Rattle.cap_talks.specs.table.Taken.{Taken}
 use Rattle.cap_talks.specs.table.Talks.{Talk, rows_of}
@@ -36,19 +36,20 @@ pub record IsSameTalk (talk again : Talk) : Type 0 where
 -- the lines `total`, `frames`, `joined` and `talks` of a report
 abbrev pub counts_text : List Taken → List ℕ
 counts_text xs =
-    total_text (length xs) (bytes_of xs) (truncated_of xs) ++ frames_text (counts_of (classes xs))
+    total_text (length xs) (taken_bytes xs) (truncated_of xs) ++ frames_text (counts_of (classes xs))
     ++ joined_text (joined_in xs) (given_up_in xs)
-    ++ talks_text (length (rows_of (units_of xs)))
+    ++ talks_text (length (rows_of (counted_units xs)))
 
 -- All lines but those of the files are these, and then those of the conversations.
 abbrev pub BodyParts : Type 0
-BodyParts = (xs : List Taken) → body_text xs ≡ counts_text xs ++ talk_texts (rows_of (units_of xs))
+BodyParts = (xs : List Taken) → body_text xs ≡ counts_text xs ++ talk_texts (rows_of (counted_units xs))
 
 -- The reports of two runs have the same such lines, and `talk` lines of the same conversations, one by one, or are
 -- refused at the same place by the same rule.
 pub record SameButForms (run again : List (Clocked Item)) : Type 0 where
   pub lines : counts_text (taken_after [] again) ≡ counts_text (taken_after [] run)
-  pub talks : AllZip IsSameTalk (rows_of (units_of (taken_after [] run))) (rows_of (units_of (taken_after [] again)))
+  pub talks : AllZip IsSameTalk (rows_of (counted_units (taken_after [] run)))
+      (rows_of (counted_units (taken_after [] again)))
   pub refused : refused_at again ≡ refused_at run
 
 -- The pcap file that is written of one file, if nothing is refused and it is at most 2^40 bytes long, has the file's

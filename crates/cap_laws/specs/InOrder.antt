@@ -5,19 +5,19 @@ use Rattle.cap_time.specs.declared.stamps.Stamp.{Stamp}
 use Rattle.cap_join.specs.declared.datagrams.Stamped.{Stamped}
 use Rattle.cap_join.specs.Fragments.{Piece}
 use Rattle.cap_join.specs.Frames.{is_before}
-use Rattle.cap_join.specs.History.{Event, key_of, live_at, state_of}
+use Rattle.cap_join.specs.History.{Event, fragment_key, live_at, open_groups_after}
 use Rattle.cap_talks.specs.table.CountedUnits.{counted_in, first_unit, given_up_in, is_limit_by, joined_in, listed}
-use Rattle.cap_talks.specs.table.CountedUnits.{refusal_at, units_of, whole_unit}
+use Rattle.cap_talks.specs.table.CountedUnits.{limit_refusal, counted_units, whole_unit}
 use Rattle.cap_talks.specs.declared.table.units.CountedUnit.{CountedUnit}
 use Rattle.cap_join.specs.Joiners.{open_limit}
 use Rattle.cap_join.specs.Places.{Mark, goes_on, group_by, latest_clock, marks, open_before, times_given_up}
 use Rattle.cap_merge.specs.Parts.{item_time, is_refusal}
-use Rattle.cap_merge.specs.Run.{Clocked, opened, run}
+use Rattle.cap_merge.specs.Run.{Clocked, opened_track, run}
 use Rattle.cap_source.specs.Feed.{Item, packet, refused}
 use Rattle.cap_source.specs.declared.feeds.FileEnd.{FileEnd}
 use Rattle.cap_talks.specs.declared.table.classes.Class.{Class}
 use Rattle.cap_talks.specs.table.Classes.{classes, classes_in}
-use Rattle.cap_join.specs.Completed.{completed_at, if_complete}
+use Rattle.cap_join.specs.Completed.{completed_pieces_at, if_complete}
 use Rattle.cap_talks.specs.talks.InfoText.{or_else}
 use Rattle.cap_talks.specs.talks.ReportText.{report_refusal, report_text, taken_after, with_item}
 use Rattle.cap_talks.specs.table.Taken.{Taken, events_of, Look, plain, datagram, fragment, look, stamped_of}
@@ -29,7 +29,7 @@ marks_of xs = marks open_limit (events_of xs)
 
 -- the groups that were completed among some packets, by places
 abbrev pub groups_at : List Taken → List (List Piece)
-groups_at xs = completed_at (marks_of xs)
+groups_at xs = completed_pieces_at (marks_of xs)
 
 -- the classes of some packets, if the groups are those by places
 abbrev pub classes_at : List Taken → List Class
@@ -40,7 +40,7 @@ abbrev pub unit_by_places : Look → Stamped → Option Stamp → List Event →
 unit_by_places (plain c) stamped clock events = None
 unit_by_places (datagram header captured) stamped clock events = whole_unit header captured stamped
 unit_by_places (fragment p) stamped clock events =
-    first_unit (if_complete (group_by clock p (goes_on (key_of p) (marks open_limit events))).pieces)
+    first_unit (if_complete (group_by clock p (goes_on (fragment_key p) (marks open_limit events))).pieces)
 
 abbrev pub unit_after : List Taken → Taken → Option CountedUnit
 unit_after xs x = unit_by_places (look (length xs) x) (stamped_of (length xs) x.meta) x.clock (events_of xs)
@@ -53,16 +53,16 @@ units_at (x ∷ xs) = units_at xs ++ listed (unit_after xs x)
 -- of some packets.
 pub record IsByPlaces (xs : List Taken) : Type 0 where
   pub classes_are : classes xs ≡ classes_at xs
-  pub units_are : units_of xs ≡ units_at xs
+  pub units_are : counted_units xs ≡ units_at xs
   pub joined : joined_in xs ≡ counted_in (groups_at xs)
   pub given_up : given_up_in xs ≡ times_given_up (marks_of xs)
   pub opens : (now : Option Stamp) → is_before now (latest_clock (events_of xs)) ≡ false
-      → live_at now (state_of open_limit (events_of xs)).opens ≡ open_before now (marks_of xs)
+      → live_at now (open_groups_after open_limit (events_of xs)).opens ≡ open_before now (marks_of xs)
 
 -- In every run all of these are those by places, after each of its items.
 abbrev pub ByPlaces : Type 0
 ByPlaces = (files : List (List Item)) (n : ℕ) → IsByPlaces
-    (taken_after [] (take n (run item_time is_refusal (map opened files))))
+    (taken_after [] (take n (run item_time is_refusal (map opened_track files))))
 
 -- the report of a run of `count` files with those endings, by places
 unfoldable pub text_by_places : ℕ → (ℕ → FileEnd) → List (Clocked Item) → List ℕ
@@ -75,7 +75,7 @@ text_by_places count endings run =
 abbrev pub refusal_with : List Taken → Option Stamp → Item → Option Refusal
 refusal_with xs clock (packet meta frame) =
     if is_limit_by (units_at xs) (unit_after xs (record { clock = clock; meta = meta; frame = frame })) then Some
-    (refusal_at meta) else None
+    (limit_refusal meta) else None
 refusal_with xs clock (refused refusal) = Some refusal
 
 -- the first refusal of a run after those packets, by places
@@ -92,4 +92,4 @@ pub record ReportsByPlaces (count : ℕ) (endings : ℕ → FileEnd) (run : List
 abbrev pub ReportByPlaces : Type 0
 ReportByPlaces =
     (count : ℕ) (endings : ℕ → FileEnd) (files : List (List Item))
-    → ReportsByPlaces count endings (run item_time is_refusal (map opened files))
+    → ReportsByPlaces count endings (run item_time is_refusal (map opened_track files))

@@ -3,34 +3,34 @@ use Rattle.std.specs.Prelude.{◌≡◌, ℕ, ◌+◌, List, [], ◌∷◌, ◌+
 use Rattle.cap_bytes.specs.declared.faults.Refusal.{Refusal}
 use Rattle.cap_bytes.specs.declared.numbers.Order.{Order}
 use Rattle.cap_join.specs.Fragments.{Piece}
-use Rattle.cap_join.specs.History.{Event, key_of}
+use Rattle.cap_join.specs.History.{Event, fragment_key}
 use Rattle.cap_join.specs.Joiners.{open_limit}
 use Rattle.cap_join.specs.Places.{goes_on, group_by, marks}
-use Rattle.cap_link.specs.Links.{network_of, is_whole}
+use Rattle.cap_link.specs.Links.{network_of, is_captured_whole}
 use Rattle.cap_merge.specs.Parts.{item_time, is_refusal}
-use Rattle.cap_merge.specs.Run.{Clocked, opened, run}
+use Rattle.cap_merge.specs.Run.{Clocked, opened_track, run}
 use Rattle.cap_source.specs.Feed.{Item, packet, refused}
 use Rattle.cap_source.specs.declared.packets.Meta.{Meta}
 use Rattle.cap_time.specs.declared.stamps.Stamp.{Stamp}
-use Rattle.cap_write.specs.Joined.{Complete, events_here, items_with, joined_bytes, joined_refusal, stamped_of}
+use Rattle.cap_write.specs.Joined.{Complete, events_here, items_with_datagram, joined_bytes, joined_refusal, stamped_of}
 use Rattle.cap_write.specs.Joined.{datagram_at}
 use Rattle.cap_write.specs.PcapRun.{joined_pcap_bytes, joined_pcap_refusal, run_bytes, run_refusal}
 use Rattle.cap_write.specs.Texts.{merged_bytes, merged_refusal}
 
 -- the fragments of a fragment's group, that one the latest, by what is known of those before it
 abbrev pub group_by_places : Option Stamp → List Event → Piece → List Piece
-group_by_places clock events p = (group_by clock p (goes_on (key_of p) (marks open_limit events))).pieces
+group_by_places clock events p = (group_by clock p (goes_on (fragment_key p) (marks open_limit events))).pieces
 
 -- the datagram that a packet completes, which has that place in the run and that clock
 unfoldable pub completed_by_places : ℕ → List Event → Option Stamp → Meta → List ℕ → Option Complete
 completed_by_places place events clock meta frame =
-    datagram_at (network_of meta.interface.link frame meta.original) (is_whole frame meta.original)
+    datagram_at (network_of meta.interface.link frame meta.original) (is_captured_whole frame meta.original)
     (stamped_of place meta) (group_by_places clock events)
 
 -- what is to be written of an item of that clock
 abbrev pub items_by_places : ℕ → List Event → Option Stamp → Item → List Item
 items_by_places place events clock (packet meta frame) =
-    items_with meta frame (completed_by_places place events clock meta frame)
+    items_with_datagram meta frame (completed_by_places place events clock meta frame)
 items_by_places place events clock (refused refusal) = refused refusal ∷ []
 
 -- what is to be written of a run, whose first packet has that place in it and comes after those events
@@ -63,4 +63,4 @@ pub record WritesByPlaces (order : Order) (run : List (Clocked Item)) : Type 0 w
 
 abbrev pub JoinedByPlaces : Type 0
 JoinedByPlaces = (order : Order) (files : List (List Item))
-    → WritesByPlaces order (run item_time is_refusal (map opened files))
+    → WritesByPlaces order (run item_time is_refusal (map opened_track files))

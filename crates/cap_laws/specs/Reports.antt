@@ -21,14 +21,14 @@ pub record Place : Type 0 where
   pub rule : Rule
 
 -- that of a refusal after that many packets, or else one further on
-abbrev pub place_or : ℕ → Option Refusal → Option Place → Option Place
-place_or taken None later = later
-place_or taken (Some refusal) later = Some (record { taken = taken; rule = refusal.rule })
+abbrev pub refusal_place_or : ℕ → Option Refusal → Option Place → Option Place
+refusal_place_or taken None later = later
+refusal_place_or taken (Some refusal) later = Some (record { taken = taken; rule = refusal.rule })
 
 -- where a run is refused first, after the packets that were taken
 unfoldable pub refused_after : List Taken → List (Clocked Item) → Option Place
 refused_after xs [] = None
-refused_after xs (x ∷ run) = place_or (length xs) (refusal_here xs x.clock x.item)
+refused_after xs (x ∷ run) = refusal_place_or (length xs) (refusal_here xs x.clock x.item)
     (refused_after (with_item x.clock x.item xs) run)
 
 abbrev pub refused_at : List (Clocked Item) → Option Place

@@ -25,15 +25,15 @@ pub record IsSameAtClock (clock clock_again : Option Stamp) (meta again : Meta)
   pub frame : bytes ≡ bytes_again
 
 -- two items of runs are such packets: neither is a refusal
-abbrev pub SameItems : Option Stamp → Option Stamp → Item → Item → Type 0
-SameItems clock clock_again (packet meta frame) (packet again frame_again) =
+abbrev pub AreSamePackets : Option Stamp → Option Stamp → Item → Item → Type 0
+AreSamePackets clock clock_again (packet meta frame) (packet again frame_again) =
     IsSameAtClock clock clock_again meta again frame frame_again
-SameItems clock clock_again (packet meta frame) (refused refusal) = ⊥
-SameItems clock clock_again (refused refusal) again = ⊥
+AreSamePackets clock clock_again (packet meta frame) (refused refusal) = ⊥
+AreSamePackets clock clock_again (refused refusal) again = ⊥
 
 -- two runs have as many items, and the items of one place are such packets
 abbrev pub SameRun : List (Clocked Item) → List (Clocked Item) → Type 0
-SameRun = AllZip (λ x y. SameItems x.clock y.clock x.item y.item)
+SameRun = AllZip (λ x y. AreSamePackets x.clock y.clock x.item y.item)
 
 -- The file that a merge of some files writes, if nothing is refused and it is at most 2^40 bytes long, has the run of
 -- the files.

@@ -12,18 +12,18 @@ use Rattle.cap_talks.specs.table.Taken.{Taken}
 use Rattle.cap_talks.specs.declared.table.classes.Class.TheVariants.{Bad, Unjoined, Counted}
 
 -- an interface of a link type (LINKTYPE registry): 1 is Ethernet, 101 IP alone
-abbrev pub interface_of : ℕ → Interface
-interface_of link = record { link = link; snaplen = 262144; resolution = microseconds; offset = pos 0 }
+abbrev pub worked_interface : ℕ → Interface
+worked_interface link = record { link = link; snaplen = 262144; resolution = microseconds; offset = pos 0 }
 
-abbrev pub meta_at : ℕ → ℕ → ℕ → Meta
-meta_at link seconds original =
+abbrev pub worked_meta : ℕ → ℕ → ℕ → Meta
+worked_meta link seconds original =
     record {
       file = 1;
       offset = 24;
       format = Pcap;
       skipped = 0;
       instance = 0;
-      interface = interface_of link;
+      interface = worked_interface link;
       units = Some (seconds * 1000000);
       captured = original;
       original = original;
@@ -33,8 +33,8 @@ meta_at link seconds original =
 abbrev pub taken_at : ℕ → ℕ → List ℕ → Taken
 taken_at link seconds frame =
     record {
-      clock = Some (stamp_in (seconds * 1000000) (interface_of link));
-      meta = meta_at link seconds (length frame);
+      clock = Some (stamp_in (seconds * 1000000) (worked_interface link));
+      meta = worked_meta link seconds (length frame);
       frame = frame;
     }
 

@@ -14,7 +14,7 @@ use Rattle.clap.specs.declared.builder.command.Command.{Command}
 use Rattle.clap.specs.declared.builder.command.Command.TheViews.{out-Command}
 use Rattle.cap_line.specs.Command.{AddsMade, AddsRule, IsCapt, IsConvert, IsJoin, IsMerge, printing_app}
 use Rattle.cap_line.specs.CommandLine.{Parses, IsJobOf, IsNoJob, IsRefused, fault_by}
-use Rattle.cap_line.specs.Jobs.{IsWhole}
+use Rattle.cap_line.specs.Jobs.{IsWholeJob}
 use Rattle.cap_line.specs.declared.jobs.Job.{Job}
 use Rattle.cap_line.specs.declared.faults.LineFault.{LineFault}
 use Rattle.cap_line.specs.declared.faults.LineFault.TheVariants.{Help, Line, Files, Input, Output, Memory}
@@ -50,7 +50,7 @@ pub IsJobOf-no_help : (entered : Option (Text × List Row)) (r : Result Job Line
 IsJobOf-no_help entered r job is = grind arith
 
 -- a job of a subcommand is whole
-pub whole-of : (entered : Option (Text × List Row)) (r : Result Job LineFault) → IsJobOf entered r → IfOk r IsWhole
+pub whole-of : (entered : Option (Text × List Row)) (r : Result Job LineFault) → IsJobOf entered r → IfOk r IsWholeJob
 whole-of entered r is = grind arith
 
 -- an error of clap's says that memory ran out, or is one of its kinds

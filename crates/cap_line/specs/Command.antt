@@ -10,10 +10,10 @@ use Rattle.clap.specs.declared.builder.action.ArgAction.TheVariants.{SetTrue}
 use Rattle.clap.specs.declared.builder.value_parser.ValueParser.TheVariants as parser
 
 -- the names that an argument takes, as clap keeps them
-abbrev pub Names : Type 0
-Names = Bor (List (Bor Text))
+abbrev pub ArgumentNames : Type 0
+ArgumentNames = Bor (List (Bor Text))
 
-abbrev pub AreNames : Names → List Text → Type 0
+abbrev pub AreNames : ArgumentNames → List Text → Type 0
 AreNames names texts = map (λ name. name.now) names.now ≡ texts
 
 -- the flag of that name
@@ -21,7 +21,7 @@ abbrev pub flag_rule : Text → Rule
 flag_rule name = record (new_rule name) { long = Some name; action = Some SetTrue }
 
 -- the option of that name, which takes one of those names
-abbrev pub choice_rule : Text → Names → Rule
+abbrev pub choice_rule : Text → ArgumentNames → Rule
 choice_rule option names = record (new_rule option) {
   long = Some option;
   value_names = 1;
@@ -30,25 +30,26 @@ choice_rule option names = record (new_rule option) {
 }
 
 -- the option `--order`
-abbrev pub order_rule : Names → Rule
+abbrev pub order_rule : ArgumentNames → Rule
 order_rule names = choice_rule (codes "order") names
 
 abbrev pub IsOrderRule : Rule → Type 0
-IsOrderRule rule = (names : Names) × AreNames names (codes "big" ∷ codes "little" ∷ []) × (rule ≡ order_rule names)
+IsOrderRule rule = (names : ArgumentNames) × AreNames names (codes "big" ∷ codes "little" ∷ [])
+    × (rule ≡ order_rule names)
 
 -- the option `--to`
-abbrev pub to_rule : Names → Rule
+abbrev pub to_rule : ArgumentNames → Rule
 to_rule names = choice_rule (codes "to") names
 
 abbrev pub IsToRule : Rule → Type 0
-IsToRule rule = (names : Names) × AreNames names (codes "pcap" ∷ codes "pcapng" ∷ []) × (rule ≡ to_rule names)
+IsToRule rule = (names : ArgumentNames) × AreNames names (codes "pcap" ∷ codes "pcapng" ∷ []) × (rule ≡ to_rule names)
 
 -- the same, which is required
-abbrev pub required_to_rule : Names → Rule
+abbrev pub required_to_rule : ArgumentNames → Rule
 required_to_rule names = record (to_rule names) { required = true }
 
 abbrev pub IsRequiredToRule : Rule → Type 0
-IsRequiredToRule rule = (names : Names) × AreNames names (codes "pcap" ∷ codes "pcapng" ∷ [])
+IsRequiredToRule rule = (names : ArgumentNames) × AreNames names (codes "pcap" ∷ codes "pcapng" ∷ [])
     × (rule ≡ required_to_rule names)
 
 -- the option `-o` or `--output`, the letter's code being 111, which is required
@@ -98,35 +99,35 @@ abbrev pub report_app : App
 report_app = with_rule (reading_app (codes "report")) files_rule
 
 -- the subcommand of that name with `[--order ORDER] -o OUT [--whole]`, before its files
-abbrev pub writing_app : Text → Names → App
+abbrev pub writing_app : Text → ArgumentNames → App
 writing_app name orders = with_rule (with_rule (with_rule (reading_app name) (order_rule orders)) out_rule)
     (flag_rule (codes "whole"))
 
 pub record IsWriting (name : Text) (app : App) : Type 0 where
-  pub orders : Names
+  pub orders : ArgumentNames
   pub orders_are : AreNames orders (codes "big" ∷ codes "little" ∷ [])
   pub app_is : app ≡ writing_app name orders
 
 -- `convert .. --to FORMAT FILE`
-abbrev pub convert_app : Names → Names → App
+abbrev pub convert_app : ArgumentNames → ArgumentNames → App
 convert_app orders formats =
     with_rule (with_rule (writing_app (codes "convert") orders) (required_to_rule formats)) file_rule
 
 pub record IsConvert (app : App) : Type 0 where
-  pub orders : Names
+  pub orders : ArgumentNames
   pub orders_are : AreNames orders (codes "big" ∷ codes "little" ∷ [])
-  pub formats : Names
+  pub formats : ArgumentNames
   pub formats_are : AreNames formats (codes "pcap" ∷ codes "pcapng" ∷ [])
   pub app_is : app ≡ convert_app orders formats
 
 -- the subcommand of that name with `.. [--to FORMAT] FILE..`
-abbrev pub gathering_app : Text → Names → Names → App
+abbrev pub gathering_app : Text → ArgumentNames → ArgumentNames → App
 gathering_app name orders formats = with_rule (with_rule (writing_app name orders) (to_rule formats)) files_rule
 
 pub record IsGathering (name : Text) (app : App) : Type 0 where
-  pub orders : Names
+  pub orders : ArgumentNames
   pub orders_are : AreNames orders (codes "big" ∷ codes "little" ∷ [])
-  pub formats : Names
+  pub formats : ArgumentNames
   pub formats_are : AreNames formats (codes "pcap" ∷ codes "pcapng" ∷ [])
   pub app_is : app ≡ gathering_app name orders formats
 

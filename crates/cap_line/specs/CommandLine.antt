@@ -6,7 +6,7 @@ use Rattle.clap.specs.declared.error.kind.ErrorKind.{ErrorKind}
 use Rattle.clap.specs.declared.error.kind.ErrorKind.TheVariants as kind
 use Rattle.cap_line.specs.Command.{IsCapt}
 use Rattle.cap_source.specs.declared.packets.Format.{Format}
-use Rattle.cap_line.specs.Jobs.{IsWhole, can_replace, files_fault, format_by, is_whole, order_by, task_by}
+use Rattle.cap_line.specs.Jobs.{IsWholeJob, can_replace, files_fault, format_by, is_whole_task, order_by, task_by}
 use Rattle.cap_line.specs.declared.jobs.Job.{Job}
 use Rattle.cap_line.specs.declared.jobs.Task.{Task}
 use Rattle.cap_line.specs.declared.faults.LineFault.{LineFault}
@@ -37,7 +37,7 @@ Flags given name rows = IsTrue given ↔ (first_of name rows ≡ Some (codes "tr
 abbrev pub Lacks : Text → List Row → Type 0
 Lacks name rows =
     (task : Task) × (task_by name ≡ Some task) × IsFalse
-    (is_whole task (length (files_in rows)) (to_in rows) (out_in rows))
+    (is_whole_task task (length (files_in rows)) (to_in rows) (out_in rows))
 
 -- The output is to take its name once all is done, and can't.
 abbrev pub CannotReplace : List Row → Type 0
@@ -59,7 +59,7 @@ pub record HasRows (task : Task) (rows : List Row) (job : Job) : Type 0 where
 abbrev pub IsJobBy : Text → List Row → Result Job LineFault → Type 0
 IsJobBy name rows (Ok job) =
     (task : Task) × (task_by name ≡ Some task) × (files_fault (files_in rows) (out_in rows) ≡ Ok tt)
-    × HasRows task rows job × IsWhole job
+    × HasRows task rows job × IsWholeJob job
 IsJobBy name rows (Err Help) = ⊥
 IsJobBy name rows (Err Line) =
     (task_by name ≡ None) ⊎ Lacks name rows ⊎ CannotReplace rows
@@ -75,7 +75,7 @@ IsJobOf (Some entered) r = IsJobBy entered.0 entered.1 r
 IsJobOf None r = r ≡ Err Line
 
 -- The words are a line that clap takes, and their subcommand gives the answer.
-pub record Answers (words : List Text) (r : Result Job LineFault) (app : App) : Type 0 where
+pub record AnswersLine (words : List Text) (r : Result Job LineFault) (app : App) : Type 0 where
   pub is_capt : IsCapt app
   pub taken : fault_of app words ≡ []
   pub job : IsJobOf (subcommand_of app words) r
@@ -91,15 +91,15 @@ IsRefused words = (app : App) × (k : ErrorKind) × Refuses words k app
 
 -- Clap takes the words, and they give no job.
 abbrev pub IsNoJob : List Text → Type 0
-IsNoJob words = (app : App) × Answers words (Err Line) app
+IsNoJob words = (app : App) × AnswersLine words (Err Line) app
 
 -- What `parse` answers at the words of a command line, the first of which is the program's name.
 abbrev pub Parses : List Text → Result Job LineFault → Type 0
-Parses words (Ok job) = (app : App) × Answers words (Ok job) app
+Parses words (Ok job) = (app : App) × AnswersLine words (Ok job) app
 Parses words (Err Help) = (app : App) × (k : ErrorKind) × (fault_by k ≡ Help) × Refuses words k app
 Parses words (Err Line) =
     ((app : App) × (k : ErrorKind) × (fault_by k ≡ Line) × Refuses words k app) ⊎ IsNoJob words
-Parses words (Err Files) = (app : App) × Answers words (Err Files) app
-Parses words (Err Input) = (app : App) × Answers words (Err Input) app
-Parses words (Err Output) = (app : App) × Answers words (Err Output) app
+Parses words (Err Files) = (app : App) × AnswersLine words (Err Files) app
+Parses words (Err Input) = (app : App) × AnswersLine words (Err Input) app
+Parses words (Err Output) = (app : App) × AnswersLine words (Err Output) app
 Parses words (Err Memory) = Unit {0}

@@ -51,14 +51,14 @@ files_fault files out =
 
 -- whether a task has what it takes, with that many files: one file if it is of one, a format for `convert`, an output
 -- if it writes one
-abbrev pub is_whole : Task → ℕ → Option Format → Option (List ℕ) → Bool
-is_whole tasks.List files to out = files == 1
-is_whole tasks.Blocks files to out = files == 1
-is_whole tasks.Info files to out = true
-is_whole tasks.Report files to out = true
-is_whole tasks.Convert files to out = (files == 1) && is_some to && is_some out
-is_whole tasks.Merge files to out = is_some out
-is_whole tasks.Join files to out = is_some out
+abbrev pub is_whole_task : Task → ℕ → Option Format → Option (List ℕ) → Bool
+is_whole_task tasks.List files to out = files == 1
+is_whole_task tasks.Blocks files to out = files == 1
+is_whole_task tasks.Info files to out = true
+is_whole_task tasks.Report files to out = true
+is_whole_task tasks.Convert files to out = (files == 1) && is_some to && is_some out
+is_whole_task tasks.Merge files to out = is_some out
+is_whole_task tasks.Join files to out = is_some out
 
 -- whether the output can take its name once all is done, if that is asked for: standard output can't
 abbrev pub can_replace : Bool → Option (List ℕ) → Bool
@@ -66,8 +66,8 @@ can_replace whole None = true
 can_replace whole (Some out) = not (whole && bytes_eq out (codes "-"))
 
 -- A job has 1 to 32 files, and all that its task takes.
-pub record IsWhole (job : Job) : Type 0 where
+pub record IsWholeJob (job : Job) : Type 0 where
   pub some : 1 ≤ vec_len job.files
   pub most : vec_len job.files ≤ 32
-  pub taken : IsTrue (is_whole job.task (vec_len job.files) job.to (option_map (λ o. o.now) job.out))
+  pub taken : IsTrue (is_whole_task job.task (vec_len job.files) job.to (option_map (λ o. o.now) job.out))
   pub replaced : IsTrue (can_replace job.whole (option_map (λ o. o.now) job.out))

@@ -2,7 +2,8 @@
 ghost use Rattle.std.specs.Prelude.{◌≡◌, map, count_by, codes, option_map};
 ghost use Rattle.std.specs.List.{list_any};
 ghost use Rattle.std.specs.Str.{bytes_eq};
-ghost use Rattle.cap_line.specs.Jobs.{can_replace, files_fault, format_by, is_also_file, is_whole, order_by, task_by};
+ghost use Rattle.cap_line.specs.Jobs.{can_replace, files_fault, format_by, is_also_file, is_whole_task, order_by};
+ghost use Rattle.cap_line.specs.Jobs.{task_by};
 
 use crate::faults::LineFault;
 use cap_bytes::Order;
@@ -92,7 +93,7 @@ pub fn format_of(name: Option<&str>) -> Option<Format>
 /// Whether a task has what it takes, with that many files: one file if it is of one, a format for `convert`, an
 /// output if it writes one.
 pub fn is_whole(task: Task, files: usize, to: Option<Format>, out: Option<&str>) -> bool
-    ensures { result ≡ is_whole task files to (option_map (λ o. o.now) out.entry) }
+    ensures { result ≡ is_whole_task task files to (option_map (λ o. o.now) out.entry) }
 {
     match task {
         Task::List | Task::Blocks => files == 1,

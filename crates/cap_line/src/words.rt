@@ -3,7 +3,7 @@ ghost use Rattle.std.specs.Prelude.{◌≡◌, ◌≢◌, ◌⊎◌, All, chars,
 ghost use Rattle.std.specs.Prelude.{option_map, IsTrue, IfOk, Some};
 ghost use Rattle.clap.specs.Values.{kind_of};
 ghost use Rattle.clap.specs.Words.{first_of, rows_of, found_of, subcommand_rows_of};
-ghost use Rattle.cap_line.specs.Jobs.{IsWhole};
+ghost use Rattle.cap_line.specs.Jobs.{IsWholeJob};
 ghost use Rattle.cap_line.specs.CommandLine.{fault_by, files_in, IsJobBy, IsJobOf, IsNoJob, IsRefused, Parses};
 ghost use Rattle.cap_line.specs.Shown.{IsSeenOrLine};
 
@@ -139,7 +139,7 @@ fn job_entered<'a>(alloc: Global, matches: &ArgMatches<'a>) -> Result<Job<'a>, L
 /// `Memory` comes if a growth is refused. A job has 1 to 32 files and all that its task takes.
 pub fn parse<'a, S: AsStr>(alloc: Global, words: &'a [S]) -> Result<Job<'a>, LineFault>
     ensures parses { Parses (map S.text words.entry.now) result }
-    ensures whole { IfOk result IsWhole }
+    ensures whole { IfOk result IsWholeJob }
 {
     let Ok(command) = capt(alloc) else {
         return Err(LineFault::Memory);

@@ -2,7 +2,7 @@
 use Rattle.std.proofs.Common.{◌≡◌, ◌<◌, ◌≤◌, ℕ, Bool, true, false, List, [], ◌∷◌, length, drop, refl, arith}
 use Rattle.cap_bytes.specs.Number.{number}
 use Rattle.cap_bytes.specs.declared.numbers.Order.TheVariants.{Big}
-use Rattle.cap_link.specs.Tags.{is_tag, ended, payload, carried}
+use Rattle.cap_link.specs.Tags.{is_tag, ended_in_link, payload, carried}
 
 -- a whole tag is passed over
 pub carried-tag : (whole : Bool) (kind : ℕ) (bytes : List ℕ) → is_tag kind ≡ true → 4 ≤ length bytes
@@ -16,7 +16,7 @@ carried-tag whole kind (a ∷ b ∷ c ∷ d ∷ rest) tag long = rw tag refl
 
 -- a tag that the frame ends in
 pub carried-ended : (whole : Bool) (kind : ℕ) (bytes : List ℕ) → is_tag kind ≡ true → length bytes < 4
-    → carried whole kind bytes ≡ ended whole
+    → carried whole kind bytes ≡ ended_in_link whole
 unfolding carried
 carried-ended whole kind bytes tag short = grind arith
 

@@ -7,7 +7,7 @@ use Rattle.std.proofs.lemmas.List.Elements.{recursion_from_All}
 use Rattle.cap_bytes.specs.Number.{number}
 use Rattle.cap_bytes.specs.declared.numbers.Order.TheVariants.{Big}
 use Rattle.cap_link.specs.Tags.{is_tag, payload, carried}
-use Rattle.cap_link.specs.Links.{typed, network_of, is_whole}
+use Rattle.cap_link.specs.Links.{typed, network_of, is_captured_whole}
 use Rattle.cap_link.specs.inner.Tagged.{Tag, tagged, TagsLaw}
 use Rattle.cap_link.proofs.TagSteps.{carried-tag, carried-payload}
 
@@ -43,6 +43,6 @@ tags-law addresses tags kind bytes original twelve all none =
     let frame = addresses ++ rest in
     let behind : drop 12 frame ≡ rest = ap (λ n. drop n frame) (sym twelve) ∙ drop-append_seam addresses rest in
     let long : 14 ≤ length frame = omega (arith, length-append addresses rest, length-tagged tags kind bytes) in
-    typed-behind (is_whole frame original) frame rest behind long
-    ∙ carried-tagged (is_whole frame original) tags kind bytes
+    typed-behind (is_captured_whole frame original) frame rest behind long
+    ∙ carried-tagged (is_captured_whole frame original) tags kind bytes
     (recursion_from_All (λ tag. is_tag tag.protocol ≡ true) tags all) none

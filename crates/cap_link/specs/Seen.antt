@@ -11,9 +11,9 @@ pub data Carried : Type 0 where
   cut : Carried
 
 -- the value of an answer
-abbrev pub seen : Network → Carried
-seen (variant.Ipv4 bytes) = Carried.ipv4 bytes.now
-seen variant.OtherLink = Carried.other_link
-seen variant.NotIpv4 = Carried.not_ipv4
-seen variant.Short = Carried.short
-seen variant.Cut = Carried.cut
+abbrev pub carried_seen : Network → Carried
+carried_seen (variant.Ipv4 bytes) = Carried.ipv4 bytes.now
+carried_seen variant.OtherLink = Carried.other_link
+carried_seen variant.NotIpv4 = Carried.not_ipv4
+carried_seen variant.Short = Carried.short
+carried_seen variant.Cut = Carried.cut

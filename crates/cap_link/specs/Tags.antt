@@ -9,8 +9,8 @@ unfoldable pub is_tag : ℕ → Bool
 is_tag kind = (kind == 0x8100) || (kind == 0x88A8)
 
 -- what a frame carries that ends inside its link header or a tag
-unfoldable pub ended : Bool → Carried
-ended whole = if whole then Carried.short else Carried.cut
+unfoldable pub ended_in_link : Bool → Carried
+ended_in_link whole = if whole then Carried.short else Carried.cut
 
 -- what the bytes are after a type field that announces no tag: IPv4 after 0800 (RFC 894). A value below
 -- 0600 is a length (IEEE 802.3, 3.2.6).
@@ -22,4 +22,4 @@ payload kind bytes = if kind == 0x0800 then Carried.ipv4 bytes else Carried.not_
 unfoldable pub carried : Bool → ℕ → List ℕ → Carried
 carried whole kind (a ∷ b ∷ c ∷ d ∷ rest) =
     if is_tag kind then carried whole (number Big 2 (c ∷ d ∷ [])) rest else payload kind (a ∷ b ∷ c ∷ d ∷ rest)
-carried whole kind bytes = if is_tag kind then ended whole else payload kind bytes
+carried whole kind bytes = if is_tag kind then ended_in_link whole else payload kind bytes

@@ -1,6 +1,6 @@
 //! The link headers of the five link types (LINKTYPE registry).
 ghost use Rattle.std.specs.Prelude.{◌≡◌, ◌+◌, ◌≤◌};
-ghost use Rattle.cap_link.specs.Seen.{seen};
+ghost use Rattle.cap_link.specs.Seen.{carried_seen};
 ghost use Rattle.cap_link.specs.Links.{typed, raw, network_of};
 ghost use Rattle.cap_link.specs.inner.Tagged.{TagsLaw};
 
@@ -27,7 +27,7 @@ const VERSION_4: u8 = 4;
 #[tactic(auto, unfolding(crate::specs::Links::typed))]
 fn typed(whole: bool, size: usize, place: usize, frame: &[u8]) -> Network<'_>
     requires { place + 2 ≤ size }
-    ensures { seen result ≡ typed whole size place frame.now }
+    ensures { carried_seen result ≡ typed whole size place frame.now }
 {
     if frame.len() < size {
         return ended(whole);
@@ -40,7 +40,7 @@ fn typed(whole: bool, size: usize, place: usize, frame: &[u8]) -> Network<'_>
 // A packet without a link header.
 #[tactic(auto, unfolding(crate::specs::Links::raw))]
 fn raw(whole: bool, frame: &[u8]) -> Network<'_>
-    ensures { seen result ≡ raw whole frame.now }
+    ensures { carried_seen result ≡ raw whole frame.now }
 {
     if frame.is_empty() {
         return ended(whole);
@@ -62,7 +62,7 @@ fn raw(whole: bool, frame: &[u8]) -> Network<'_>
 #[tactic(auto, unfolding(crate::specs::Links::network_of))]
 #[inline(always)]
 pub fn network(link: u16, frame: &[u8], original: u32) -> Network<'_>
-    ensures { seen result ≡ network_of link frame.now original }
+    ensures { carried_seen result ≡ network_of link frame.now original }
 {
     let whole = frame.len() >= original as usize;
     match link {

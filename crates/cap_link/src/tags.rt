@@ -1,7 +1,7 @@
 //! Type fields and the tags that may follow them (IEEE 802.3, 3.2.6; IEEE 802.1Q, 9.3).
 ghost use Rattle.std.specs.Prelude.{◌≡◌};
-ghost use Rattle.cap_link.specs.Seen.{seen};
-ghost use Rattle.cap_link.specs.Tags.{is_tag, ended, payload, carried};
+ghost use Rattle.cap_link.specs.Seen.{carried_seen};
+ghost use Rattle.cap_link.specs.Tags.{is_tag, ended_in_link, payload, carried};
 
 use crate::networks::Network;
 use cap_bytes::{Order, u16_at};
@@ -24,9 +24,9 @@ fn is_tag(kind: u16) -> bool
 }
 
 /// What a frame carries that ends inside its link header or a tag.
-#[tactic(auto, unfolding(crate::specs::Tags::ended))]
+#[tactic(auto, unfolding(crate::specs::Tags::ended_in_link))]
 pub(crate) fn ended<'a>(whole: bool) -> Network<'a>
-    ensures { seen result ≡ ended whole }
+    ensures { carried_seen result ≡ ended_in_link whole }
 {
     if whole { Network::Short } else { Network::Cut }
 }
@@ -34,7 +34,7 @@ pub(crate) fn ended<'a>(whole: bool) -> Network<'a>
 // What bytes are that come after a type which announces no tag.
 #[tactic(auto, unfolding(crate::specs::Tags::payload))]
 fn payload(kind: u16, bytes: &[u8]) -> Network<'_>
-    ensures { seen result ≡ payload kind bytes.now }
+    ensures { carried_seen result ≡ payload kind bytes.now }
 {
     if kind == IPV4 {
         Network::Ipv4(bytes)
@@ -45,7 +45,7 @@ fn payload(kind: u16, bytes: &[u8]) -> Network<'_>
 
 /// What bytes carry that come after a type, past any number of tags.
 pub(crate) fn carried(whole: bool, kind: u16, bytes: &[u8]) -> Network<'_>
-    ensures { seen result ≡ carried whole kind bytes.now }
+    ensures { carried_seen result ≡ carried whole kind bytes.now }
 {
     let mut next = kind;
     let mut rest = bytes;

@@ -9,8 +9,8 @@ use Rattle.cap_source.specs.Feed.{Feed, IsPacket}
 use Rattle.std.specs.List.{refill}
 use Rattle.std.proofs.lemmas.List.{take_at}
 use Rattle.cap_merge.specs.declared.lanes.Lane.{Lane}
-use Rattle.cap_merge.specs.Parts.{Part, part, parts, Matches, Agrees}
-use Rattle.cap_merge.specs.inner.Merge.{LearnsBy, Stops, LearnsAll, StopsAt, IsPacketAt, PassesAt, PassesPart}
+use Rattle.cap_merge.specs.Parts.{Part, part, parts, Matches, LanesAgree}
+use Rattle.cap_merge.specs.inner.Merge.{LearnsBy, LaneStops, LearnsAll, StopsAt, IsPacketAt, PassesAt, PassesPart}
 
 -- The first n feeds were asked, the others are as they were.
 abbrev pub AskedUpTo : ℕ → List Part → List Part → Type 0
@@ -38,8 +38,8 @@ asked-more (suc i) (p ∷ ps) (q ∷ qs) d x a l h = (a.0, asked-more i ps qs d 
 asked-more i ps qs d x a l h = grind arith
 
 pub asked-stops : (i : ℕ) (ps qs : List Part) (d x : Part) (fault : Fault) → AskedUpTo i ps qs → i < length qs
-    → Stops (get_or qs i d) fault x → StopsAt fault ps (set qs i x)
-asked-stops zero (p ∷ ps) (q ∷ qs) d x fault a l h = inl (subst (λ (w : Part). Stops w fault x) a.0 h, a.1)
+    → LaneStops (get_or qs i d) fault x → StopsAt fault ps (set qs i x)
+asked-stops zero (p ∷ ps) (q ∷ qs) d x fault a l h = inl (subst (λ (w : Part). LaneStops w fault x) a.0 h, a.1)
 asked-stops (suc i) (p ∷ ps) (q ∷ qs) d x fault a l h = inr (a.0, asked-stops i ps qs d x fault a.1 (omega arith) h)
 asked-stops i ps qs d x fault a l h = grind arith
 
@@ -80,26 +80,26 @@ lanes-more f ps ls fs i l m x y a h e learns =
 pub lanes-stop : {F : Type 0} (f : F → Feed) (ps : List Part) (ls : List Lane) (fs : List F) (i : ℕ) (l m : Lane)
     (x y : F) (fault : Fault)
     → AskedUpTo i ps (parts ls (map f fs)) → i < length ls → length fs ≡ length ls
-    → Stops (part (get_or ls i l) (f (get_or fs i x))) fault (part m (f y))
+    → LaneStops (part (get_or ls i l) (f (get_or fs i x))) fault (part m (f y))
     → StopsAt fault ps (parts (set ls i m) (map f (set fs i y)))
 lanes-stop f ps ls fs i l m x y fault a h e stops =
     subst (λ (ws : List Part). StopsAt fault ps ws) (sym (parts-set f ls fs i m y))
     (asked-stops i ps (parts ls (map f fs)) (part l (f x)) (part m (f y)) fault a
     (omega (arith, length-parts f ls fs e))
-    (subst (λ (w : Part). Stops w fault (part m (f y))) (sym (parts-get f ls fs i l x h e)) stops))
+    (subst (λ (w : Part). LaneStops w fault (part m (f y))) (sym (parts-get f ls fs i l x h e)) stops))
 
 -- what a lane says is what its feed knows, at each place
 pub matches-there : {F : Type 0} (f : F → Feed) (ls : List Lane) (fs : List F) (i : ℕ) (l : Lane) (x : F)
     → i < length ls → length fs ≡ length ls
-    → Agrees ls (map f fs) → Matches (get_or ls i l) (f (get_or fs i x))
+    → LanesAgree ls (map f fs) → Matches (get_or ls i l) (f (get_or fs i x))
 matches-there f (k ∷ ls) (z ∷ zs) (suc i) l x h e a =
     grind (arith, matches-there f ls zs i l x (omega arith) (omega arith))
 matches-there f ls fs i l x h e a = grind arith
 
 -- and so it is if it is at a place that is written
 pub agrees-set : {F : Type 0} (f : F → Feed) (ls : List Lane) (fs : List F) (i : ℕ) (m : Lane) (y : F)
-    → Agrees ls (map f fs) → Matches m (f y)
-    → Agrees (set ls i m) (map f (set fs i y))
+    → LanesAgree ls (map f fs) → Matches m (f y)
+    → LanesAgree (set ls i m) (map f (set fs i y))
 agrees-set f (k ∷ ls) (z ∷ zs) (suc i) m y a h = grind (arith, agrees-set f ls zs i m y)
 agrees-set f ls fs i m y a h = grind arith
 

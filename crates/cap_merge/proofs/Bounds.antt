@@ -5,7 +5,7 @@ use Rattle.std.specs.Prelude.{◌<ℤ◌, replicate, map, is_some}
 use Rattle.std.specs.List.{list_all}
 use Rattle.std.proofs.lemmas.List.{length-map}
 use Rattle.cap_bytes.specs.declared.faults.Fault.{Fault}
-use Rattle.cap_source.specs.Feed.{Feed, Keeps, SameItems, Knows}
+use Rattle.cap_source.specs.Feed.{Feed, FeedKeeps, SameItems, Knows}
 use Rattle.cap_source.specs.declared.feeds.Head.TheVariants as heads
 use Rattle.cap_source.specs.declared.packets.Meta.{Meta}
 use Rattle.cap_source.specs.Times.{meta_time}
@@ -30,7 +30,7 @@ pub learns-packet : (clock : Option Stamp) (next : Option Coming) (time : Option
     (reached : Option Stamp)
     → is_some next ≡ false → (m : Meta) × Knows old (heads.Packet m) new → new.known ≡ Some (heads.Packet meta)
     → reached ≡ later clock time
-    → time ≡ meta_time meta → IfSome time (λ t. seconds_of t <ℤ pos (2 ^ 65)) → Keeps old new
+    → time ≡ meta_time meta → IfSome time (λ t. seconds_of t <ℤ pos (2 ^ 65)) → FeedKeeps old new
     → (IsTrue old.told → SameItems old new)
     → LearnsBy (part (record { clock = clock; next = next }) old).lane.head
     (part (record { clock = clock; next = next }) old)

@@ -5,8 +5,8 @@ use Rattle.std.specs.Prelude.{IfSome, is_some}
 use Rattle.cap_bytes.specs.declared.faults.Fault.{Fault}
 use Rattle.cap_bytes.specs.declared.faults.Fault.TheVariants.{Read, Memory}
 use Rattle.cap_source.specs.declared.feeds.Head.{Head}
-use Rattle.cap_merge.specs.Parts.{Part, has_file, is_known, broken_of, places_of, can_fail_of}
-use Rattle.cap_merge.specs.inner.Merge.{LearnsBy, Stops, LearnsAll, StopsAt}
+use Rattle.cap_merge.specs.Parts.{Part, has_file, are_known, broken_of, places_of, feeds_can_fail}
+use Rattle.cap_merge.specs.inner.Merge.{LearnsBy, LaneStops, LearnsAll, StopsAt}
 use Rattle.cap_merge.specs.inner.Sound.{AreFrom}
 
 -- the file isn't before that of the first feed
@@ -35,8 +35,8 @@ stopped-place n file offset ps qs a s = grind arith
 
 -- the device of the file can fail
 pub stopped-can_fail : (n file offset : ℕ) (ps qs : List Part) → AreFrom n qs → StopsAt (Read file offset) ps qs
-    → can_fail_of ps file ≡ true
-unfolding can_fail_of
+    → feeds_can_fail ps file ≡ true
+unfolding feeds_can_fail
 stopped-can_fail n file offset (p ∷ ps) (q ∷ qs) a (inl s) = grind arith
 stopped-can_fail n file offset (p ∷ ps) (q ∷ qs) a (inr s) =
     rw (before_file n file p.feed.files (learned-files p q p.lane.head s.0 ∙ a.0)
@@ -64,7 +64,7 @@ stopped-again file offset (p ∷ ps) (q ∷ qs) (inr s) = grind (arith, stopped-
 stopped-again file offset ps qs s = grind arith
 
 -- if a feed has stopped, its break is that of all
-own_stopped : (p q : Part) (fault : Fault) (rest : Option Fault) → Stops p fault q
+own_stopped : (p q : Part) (fault : Fault) (rest : Option Fault) → LaneStops p fault q
     → cond (is_some q.lane.head) rest q.feed.broken ≡ q.feed.broken
 own_stopped p q fault rest s = own_break q.lane.head rest q.feed.broken (ap (λ w. w.head) s.lane ∙ s.unknown)
 
@@ -100,7 +100,7 @@ waited-after (p ∷ ps) (q ∷ qs) (inr s) = rw (known_by p q p.lane.head refl s
 waited-after ps qs s = grind arith
 
 -- nor after a packet that is passed
-pub passed-whole : (before after : List Part) (p q : Part) → is_known (before ++ (p ∷ after)) ≡ true
+pub passed-whole : (before after : List Part) (p q : Part) → are_known (before ++ (p ∷ after)) ≡ true
     → q.lane.head ≡ None → q.feed.broken ≡ None
     → broken_of (before ++ (q ∷ after)) ≡ None
 unfolding broken_of

@@ -12,18 +12,20 @@ use Rattle.cap_source.specs.declared.feeds.Head.TheVariants as heads
 use Rattle.cap_source.specs.declared.packets.Meta.{Meta}
 use Rattle.cap_source.specs.declared.feeds.FileEnd.{FileEnd}
 use Rattle.cap_source.specs.declared.feeds.FeedHeld.{FeedHeld}
-use Rattle.cap_source.specs.Feed.{packet, refused, Feed, IsFeed, IsPacket, Keeps, Passes, HasFile}
+use Rattle.cap_source.specs.Feed.{packet, refused, Feed, IsFeed, IsPacket, FeedKeeps, FeedPasses, HasFile}
 use Rattle.cap_merge.specs.inner.Lists.{all-each}
 use Rattle.cap_merge.specs.declared.lanes.Lane.{Lane}
 use Rattle.cap_merge.specs.inner.First.{has_next, fresh_lane, lane_at, first_place}
-use Rattle.cap_merge.specs.Parts.{Part, part, parts, turns, is_known, known_of, head_by, frame_by, clock_of, first_of}
-use Rattle.cap_merge.specs.Parts.{run_of, endings_of, held_of, both_held, has_file, feed_of, ClocksFrom, BeginsAt}
-use Rattle.cap_merge.specs.Parts.{IsNumbered, HasReached, clock_by}
+use Rattle.cap_merge.specs.Parts.{Part, part, parts, turns, are_known, known_of, part_head, frame_by, clock_of}
+use Rattle.cap_merge.specs.Parts.{first_part}
+use Rattle.cap_merge.specs.Parts.{run_of, endings_of, feeds_held, both_held, has_file, merged_feed, ClocksFrom}
+use Rattle.cap_merge.specs.Parts.{BeginsAt}
+use Rattle.cap_merge.specs.Parts.{AreNumberedFeeds, HasReached, clock_by}
 use Rattle.cap_merge.specs.inner.Merge.{IsPacketAt, PassesAt, PassesPart}
 use Rattle.cap_merge.specs.inner.Clocks.{AtMost}
 use Rattle.cap_merge.specs.inner.Leading.{Split, NoNext, IsFirstOf, first_is}
-use Rattle.cap_merge.specs.inner.Sound.{IsSound, AreFrom, sound-parts, lawful-each, numbered-from}
-use Rattle.cap_merge.specs.inner.Coming.{IsReady, leads_known, reached_known, run-first}
+use Rattle.cap_merge.specs.inner.Sound.{IsSoundPart, AreFrom, sound-parts, lawful-each, numbered-from}
+use Rattle.cap_merge.specs.inner.Coming.{IsReadyPart, leads_known, reached_known, run-first}
 use Rattle.cap_merge.specs.inner.Lawful.{ready_all, at_first}
 use Rattle.cap_merge.proofs.Calls.{told_all}
 use Rattle.cap_merge.proofs.FromClock.{each-from, from-each}
@@ -31,16 +33,16 @@ use Rattle.cap_merge.proofs.Moving.{Each, each-itself, Kept, kept-itself}
 use Rattle.cap_merge.proofs.Passing.{passes-first, passed-keeps, passed-sound, run-passed, clocks-first, clocks-passed}
 use Rattle.cap_merge.proofs.Placing.{placed-split, none-placed}
 
-known_parts : (ps : List Part) (b : Bool) → is_known ps ≡ b → (Holds : Option Head → Type 0) → (Holds None → ⊥)
-    → Holds (cond b (head_by (first_of ps)) None)
-    → (is_known ps ≡ true) × Holds (head_by (first_of ps))
+known_parts : (ps : List Part) (b : Bool) → are_known ps ≡ b → (Holds : Option Head → Type 0) → (Holds None → ⊥)
+    → Holds (cond b (part_head (first_part ps)) None)
+    → (are_known ps ≡ true) × Holds (part_head (first_part ps))
 known_parts ps b e Holds never h = grind arith
 
 -- what is asked of what is known of all: then all are known, and it is what the first tells
-pub known-holds : (ps : List Part) (Holds : Option Head → Type 0) → (Holds None → ⊥) → Holds (feed_of ps).known
-    → (is_known ps ≡ true) × Holds (head_by (first_of ps))
-unfolding feed_of known_of
-known-holds ps Holds never h = known_parts ps (is_known ps) refl Holds never h
+pub known-holds : (ps : List Part) (Holds : Option Head → Type 0) → (Holds None → ⊥) → Holds (merged_feed ps).known
+    → (are_known ps ≡ true) × Holds (part_head (first_part ps))
+unfolding merged_feed known_of
+known-holds ps Holds never h = known_parts ps (are_known ps) refl Holds never h
 
 packet_head : (h : Option Head) → IsPacket h → (meta : Meta) × (h ≡ Some (heads.Packet meta))
 packet_head None p = absurd p
@@ -53,17 +55,17 @@ pub packet-next : (h : Option Head) → IsPacket h → has_next h ≡ true
 packet-next h p = grind arith
 
 -- The packet that comes next of all is that of the first part.
-pub packet-of-first : (ps : List Part) (first : Part) → Split ps first → IsPacket (feed_of ps).known
-    → (is_known ps ≡ true) × ((meta : Meta) × (first.lane.head ≡ Some (heads.Packet meta)))
+pub packet-of-first : (ps : List Part) (first : Part) → Split ps first → IsPacket (merged_feed ps).known
+    → (are_known ps ≡ true) × ((meta : Meta) × (first.lane.head ≡ Some (heads.Packet meta)))
 packet-of-first ps first s p =
     let held = known-holds ps IsPacket (λ never. never) p in
-    (held.0, packet_head first.lane.head (subst (λ (o : Option Part). IsPacket (head_by o)) s.is_first held.1))
+    (held.0, packet_head first.lane.head (subst (λ (o : Option Part). IsPacket (part_head o)) s.is_first held.1))
 
-pub no-packet : (ps : List Part) → first_of ps ≡ None → IsPacket (feed_of ps).known → ⊥
-no-packet ps n p = subst (λ (o : Option Part). IsPacket (head_by o)) n (known-holds ps IsPacket (λ never. never) p).1
+pub no-packet : (ps : List Part) → first_part ps ≡ None → IsPacket (merged_feed ps).known → ⊥
+no-packet ps n p = subst (λ (o : Option Part). IsPacket (part_head o)) n (known-holds ps IsPacket (λ never. never) p).1
 
-frame_first : (ps : List Part) (first : Part) → Split ps first → (feed_of ps).frame ≡ first.feed.frame
-unfolding feed_of
+frame_first : (ps : List Part) (first : Part) → Split ps first → (merged_feed ps).frame ≡ first.feed.frame
+unfolding merged_feed
 frame_first ps first s = ap frame_by s.is_first
 
 pub split-of : {F : Type 0} (f : F → Feed) (ls : List Lane) (fs : List F) (place : ℕ) (x : F) → length ls ≡ length fs
@@ -74,74 +76,74 @@ split-of f ls fs place x e h = (placed-split f ls fs place fresh_lane x e h).0
 head_known : (b : Bool) (k h : Option Head) → h ≡ cond b k None → IsPacket h → h ≡ k
 head_known b k h e p = grind arith
 
-known_first : (ps : List Part) (first : Part) → Split ps first → IsPacket (feed_of ps).known
-    → (feed_of ps).known ≡ first.lane.head
-unfolding feed_of known_of
-known_first ps first s p = rw (known-holds ps IsPacket (λ never. never) p).0 (ap head_by s.is_first)
+known_first : (ps : List Part) (first : Part) → Split ps first → IsPacket (merged_feed ps).known
+    → (merged_feed ps).known ≡ first.lane.head
+unfolding merged_feed known_of
+known_first ps first s p = rw (known-holds ps IsPacket (λ never. never) p).0 (ap part_head s.is_first)
 
 -- The packet that comes next of all is that of the feed that comes first.
 pub feed-known : {F : Type 0} (f : F → Feed) (ls : List Lane) (fs : List F) (place : ℕ) (x : F) → length ls ≡ length fs
     → first_place (turns (parts ls (map f fs))) ≡ Some place
-    → IsPacket (feed_of (parts ls (map f fs))).known
-    → (feed_of (parts ls (map f fs))).known ≡ (f (get_or fs place x)).known
+    → IsPacket (merged_feed (parts ls (map f fs))).known
+    → (merged_feed (parts ls (map f fs))).known ≡ (f (get_or fs place x)).known
 feed-known f ls fs place x e s p =
     let first = part (lane_at ls place) (f (get_or fs place x)) in
-    head_known (is_some (lane_at ls place).next) (f (get_or fs place x)).known (feed_of (parts ls (map f fs))).known
+    head_known (is_some (lane_at ls place).next) (f (get_or fs place x)).known (merged_feed (parts ls (map f fs))).known
     (known_first (parts ls (map f fs)) first (split-of f ls fs place x e s) p) p
 
 pub frame-of : {F : Type 0} (f : F → Feed) (ls : List Lane) (fs : List F) (place : ℕ) (x : F) → length ls ≡ length fs
     → first_place (turns (parts ls (map f fs))) ≡ Some place
-    → (f (get_or fs place x)).frame ≡ (feed_of (parts ls (map f fs))).frame
+    → (f (get_or fs place x)).frame ≡ (merged_feed (parts ls (map f fs))).frame
 frame-of f ls fs place x e s =
     sym (frame_first (parts ls (map f fs)) (part (lane_at ls place) (f (get_or fs place x)))
     (split-of f ls fs place x e s))
 
 pub frame-none : {F : Type 0} (f : F → Feed) (ls : List Lane) (fs : List F)
-    → first_place (turns (parts ls (map f fs))) ≡ None → [] ≡ (feed_of (parts ls (map f fs))).frame
-unfolding feed_of
+    → first_place (turns (parts ls (map f fs))) ≡ None → [] ≡ (merged_feed (parts ls (map f fs))).frame
+unfolding merged_feed
 frame-none f ls fs h = sym (ap frame_by (none-placed (parts ls (map f fs)) h))
 
 has_next-none : has_next None ≡ true → ⊥
 has_next-none e = true≢false (sym e)
 
-pub clocks-of-first : (ps : List Part) (first : Part) → Split ps first → has_next (feed_of ps).known ≡ true
+pub clocks-of-first : (ps : List Part) (first : Part) → Split ps first → has_next (merged_feed ps).known ≡ true
     → ClocksFrom first.lane.clock ps
 clocks-of-first ps first s h = each-from first.lane.clock ps
     (clocks-first ps first s (known-holds ps (λ w. has_next w ≡ true) has_next-none h).0)
 
 begins_by : (ps : List Part) (first : Part) (h : Option Head) → first.lane.head ≡ h → has_next h ≡ true
-    → AllByRecursion IsReady ps → Split ps first
+    → AllByRecursion IsReadyPart ps → Split ps first
     → BeginsAt first.lane.clock (run_of ps)
 begins_by ps first None e n r s = absurd (true≢false (sym n))
 begins_by ps first (Some (heads.Packet meta)) e n r s =
-    let ready = at_first IsReady ps first r s in
+    let ready = at_first IsReadyPart ps first r s in
     let leads = leads_known first (heads.Packet meta) ready.sound ready.lawful e ready.told in
     subst (BeginsAt first.lane.clock)
     (sym (run-first ps first (packet meta first.feed.frame) r s leads
     (reached_known first (heads.Packet meta) ready.sound e))) refl
 begins_by ps first (Some (heads.Refused refusal)) e n r s =
-    let ready = at_first IsReady ps first r s in
+    let ready = at_first IsReadyPart ps first r s in
     let leads = leads_known first (heads.Refused refusal) ready.sound ready.lawful e ready.told in
     subst (BeginsAt first.lane.clock)
     (sym (run-first ps first (refused refusal) r s (leads ∙ sym (λ i. refused refusal ∷ drop 1 (leads i)))
     (reached_known first (heads.Refused refusal) ready.sound e))) refl
 begins_by ps first (Some heads.End) e n r s = absurd (true≢false (sym n))
 
-pub ready-parts : (ps : List Part) → AllByRecursion IsSound ps → AllByRecursion (λ p. IsFeed p.feed) ps
-    → is_known ps ≡ true → IsTrue (feed_of ps).told → AllByRecursion IsReady ps
+pub ready-parts : (ps : List Part) → AllByRecursion IsSoundPart ps → AllByRecursion (λ p. IsFeed p.feed) ps
+    → are_known ps ≡ true → IsTrue (merged_feed ps).told → AllByRecursion IsReadyPart ps
 ready-parts ps s f k t = ready_all ps s f (all-each (λ p. p.feed.told) ps (told_all ps t))
     (all-each (λ p. is_some p.lane.head) ps k)
 
-pub begins-at : (ps : List Part) (first : Part) → Split ps first → has_next (feed_of ps).known ≡ true
-    → AllByRecursion IsSound ps → AllByRecursion (λ p. IsFeed p.feed) ps
-    → IsTrue (feed_of ps).told → BeginsAt first.lane.clock (run_of ps)
+pub begins-at : (ps : List Part) (first : Part) → Split ps first → has_next (merged_feed ps).known ≡ true
+    → AllByRecursion IsSoundPart ps → AllByRecursion (λ p. IsFeed p.feed) ps
+    → IsTrue (merged_feed ps).told → BeginsAt first.lane.clock (run_of ps)
 begins-at ps first s h sound lawful t =
     begins_by ps first first.lane.head refl s.next
     (ready-parts ps sound lawful (known-holds ps (λ w. has_next w ≡ true) has_next-none h).0 t) s
 
-pub no-next : {A : Type 0} (ps : List Part) → first_of ps ≡ None → has_next (feed_of ps).known ≡ true → A
+pub no-next : {A : Type 0} (ps : List Part) → first_part ps ≡ None → has_next (merged_feed ps).known ≡ true → A
 no-next ps n h = absurd
-    (true≢false (sym (subst (λ (o : Option Part). has_next (head_by o) ≡ true) n
+    (true≢false (sym (subst (λ (o : Option Part). has_next (part_head o) ≡ true) n
     (known-holds ps (λ w. has_next w ≡ true) has_next-none h).1)))
 
 packet_at : (before after : List Part) (p : Part) → IsPacket p.feed.known
@@ -166,11 +168,11 @@ passed_at (b ∷ before) after p (q ∷ qs) h =
 
 -- what a pass does to the feeds as one
 pub record Passed (ps qs : List Part) : Type 0 where
-  pub passes : Passes (feed_of ps) (feed_of qs)
-  pub keeps : Keeps (feed_of ps) (feed_of qs)
-  pub run : IsTrue (feed_of ps).told → run_of qs ≡ drop 1 (run_of ps)
+  pub passes : FeedPasses (merged_feed ps) (merged_feed qs)
+  pub keeps : FeedKeeps (merged_feed ps) (merged_feed qs)
+  pub run : IsTrue (merged_feed ps).told → run_of qs ≡ drop 1 (run_of ps)
   pub clocks : ClocksFrom (clock_of ps) qs
-  pub sound : AllByRecursion IsSound qs
+  pub sound : AllByRecursion IsSoundPart qs
 
 clock_first : (ps : List Part) (first : Part) → Split ps first → clock_of ps ≡ first.lane.clock
 unfolding clock_of
@@ -186,8 +188,8 @@ clock-of-first f ls (x ∷ xs) place n e s = sym
 
 passed_split : (before after : List Part) (p q : Part) (meta : Meta) → (s : Split (before ++ (p ∷ after)) p)
     → s.before ≡ before → s.after ≡ after
-    → p.lane.head ≡ Some (heads.Packet meta) → is_known (before ++ (p ∷ after)) ≡ true → PassesPart p q
-    → AllByRecursion IsSound (before ++ (p ∷ after)) → AllByRecursion (λ x. IsFeed x.feed) (before ++ (p ∷ after))
+    → p.lane.head ≡ Some (heads.Packet meta) → are_known (before ++ (p ∷ after)) ≡ true → PassesPart p q
+    → AllByRecursion IsSoundPart (before ++ (p ∷ after)) → AllByRecursion (λ x. IsFeed x.feed) (before ++ (p ∷ after))
     → AreFrom 1 (before ++ (p ∷ after))
     → Passed (before ++ (p ∷ after)) (before ++ (q ∷ after))
 passed_split before after p q meta s b a e k h sound lawful from =
@@ -204,8 +206,8 @@ passed_split before after p q meta s b a e k h sound lawful from =
     }
 
 pub passed-first : (ps qs : List Part) (first : Part) (place : ℕ) → (s : Split ps first) → length s.before ≡ place
-    → IsPacket (feed_of ps).known → PassesAt ps place qs
-    → AllByRecursion IsSound ps → AllByRecursion (λ x. IsFeed x.feed) ps → AreFrom 1 ps → Passed ps qs
+    → IsPacket (merged_feed ps).known → PassesAt ps place qs
+    → AllByRecursion IsSoundPart ps → AllByRecursion (λ x. IsFeed x.feed) ps → AreFrom 1 ps → Passed ps qs
 passed-first ps qs first place s e p h sound lawful from =
     let of = packet-of-first ps first s p in
     let there = subst (λ (xs : List Part). PassesAt xs (length s.before) qs) s.whole
@@ -219,25 +221,25 @@ passed-first ps qs first place s e p h sound lawful from =
       after = s.after;
       whole = refl;
       place = subst (λ (xs : List Part). first_place (turns xs) ≡ Some (length s.before)) s.whole s.place;
-      is_first = subst (λ (xs : List Part). first_of xs ≡ Some first) s.whole s.is_first;
+      is_first = subst (λ (xs : List Part). first_part xs ≡ Some first) s.whole s.is_first;
       next = s.next;
       below = s.below;
       not_above = s.not_above;
     }) refl refl of.1.1
-    (subst (λ (xs : List Part). is_known xs ≡ true) s.whole of.0) at.1
-    (subst (λ (xs : List Part). AllByRecursion IsSound xs) s.whole sound)
+    (subst (λ (xs : List Part). are_known xs ≡ true) s.whole of.0) at.1
+    (subst (λ (xs : List Part). AllByRecursion IsSoundPart xs) s.whole sound)
     (subst (λ (xs : List Part). AllByRecursion (λ x. IsFeed x.feed) xs) s.whole lawful)
     (subst (λ (xs : List Part). AreFrom 1 xs) s.whole from)))
 
 -- if nothing comes next of all, each feed is at its end
-ended : (ps : List Part) (o : Option Part) → IsFirstOf ps o → head_by o ≡ Some heads.End → NoNext ps
+ended : (ps : List Part) (o : Option Part) → IsFirstOf ps o → part_head o ≡ Some heads.End → NoNext ps
 ended ps o s e = grind arith
 
 end_known : (h k : Option Head) → is_some h ≡ true → has_next h ≡ false → IfSome h (λ head. k ≡ Some head)
     → k ≡ Some heads.End
 end_known h k e n a = grind arith
 
-ends_each : (ps : List Part) → AllByRecursion IsSound ps → AllByRecursion (λ p. is_some p.lane.head ≡ true) ps
+ends_each : (ps : List Part) → AllByRecursion IsSoundPart ps → AllByRecursion (λ p. is_some p.lane.head ≡ true) ps
     → NoNext ps → AllByRecursion (λ p. p.feed.known ≡ Some heads.End) ps
 ends_each [] s k n = tt
 ends_each (p ∷ ps) s k n = grind (arith, end_known, ends_each ps s.1 k.1 n.1)
@@ -245,11 +247,11 @@ ends_each (p ∷ ps) s k n = grind (arith, end_known, ends_each ps s.1 k.1 n.1)
 not_none : None ≡ Some heads.End → ⊥
 not_none e = true≢false (sym (ap is_some e))
 
-pub all-ended : (ps : List Part) → AllByRecursion IsSound ps → (feed_of ps).known ≡ Some heads.End
+pub all-ended : (ps : List Part) → AllByRecursion IsSoundPart ps → (merged_feed ps).known ≡ Some heads.End
     → AllByRecursion (λ p. p.feed.known ≡ Some heads.End) ps
 all-ended ps s e =
     let held = known-holds ps (λ w. w ≡ Some heads.End) not_none e in
-    ends_each ps s (all-each (λ p. is_some p.lane.head) ps held.0) (ended ps (first_of ps) (first_is ps) held.1)
+    ends_each ps s (all-each (λ p. is_some p.lane.head) ps held.0) (ended ps (first_part ps) (first_is ps) held.1)
 
 -- a file of one of the feeds is numbered by its place
 pub record FileAt {F : Type 0} (f : F → Feed) (fs : List F) (n : ℕ) (file : ℕ) (endings : ℕ → FileEnd) : Type 0 where
@@ -304,21 +306,21 @@ file-at f n file (y ∷ ls) (x ∷ xs) l a k h =
     (any_parts (λ g. g == file) (f x).files (flat_map (λ p. p.feed.files) (parts ls (map f xs))) h other))
 file-at f n file ls fs l a k h = grind (arith, true≢false)
 
-files_of : (ps : List Part) (file : ℕ) → HasFile (feed_of ps).files file
+files_of : (ps : List Part) (file : ℕ) → HasFile (merged_feed ps).files file
     → has_file (flat_map (λ p. p.feed.files) ps) file ≡ true
-unfolding feed_of
+unfolding merged_feed
 files_of ps file h = h
 
-endings_are : (ps : List Part) (file : ℕ) → (feed_of ps).endings file ≡ endings_of ps file
-unfolding feed_of
+endings_are : (ps : List Part) (file : ℕ) → (merged_feed ps).endings file ≡ endings_of ps file
+unfolding merged_feed
 endings_are ps file = refl
 
 -- A file of the feeds is that of the feed at its place, which is at its end.
 pub ended-file : {F : Type 0} (f : F → Feed) (file : ℕ) (ls : List Lane) (fs : List F) → length ls ≡ length fs
     → AreFrom 1 (parts ls (map f fs))
-    → HasReached (parts ls (map f fs)) → (feed_of (parts ls (map f fs))).known ≡ Some heads.End
-    → HasFile (feed_of (parts ls (map f fs))).files file
-    → FileAt f fs 1 file (λ n. (feed_of (parts ls (map f fs))).endings n)
+    → HasReached (parts ls (map f fs)) → (merged_feed (parts ls (map f fs))).known ≡ Some heads.End
+    → HasFile (merged_feed (parts ls (map f fs))).files file
+    → FileAt f fs 1 file (λ n. (merged_feed (parts ls (map f fs))).endings n)
 ended-file f file ls fs l a reached e h =
     subst (λ (r : ℕ → FileEnd). FileAt f fs 1 file r) (λ i n. sym (endings_are (parts ls (map f fs)) n) i)
     (file-at f 1 file ls fs l a (all-ended (parts ls (map f fs)) (sound-parts f ls fs reached) e)
@@ -330,7 +332,7 @@ held_all [] = record { window = 0; interfaces = 0; failed = false }
 held_all (f ∷ fs) = both_held f.held (held_all fs)
 
 pub held-parts : {F : Type 0} (f : F → Feed) (ls : List Lane) (fs : List F) → length ls ≡ length fs
-    → held_of (parts ls (map f fs)) ≡ held_all (map f fs)
+    → feeds_held (parts ls (map f fs)) ≡ held_all (map f fs)
 held-parts f [] [] l = refl
 held-parts f [] (x ∷ xs) l = absurd (omega arith)
 held-parts f (y ∷ ls) [] l = absurd (omega arith)
@@ -364,20 +366,21 @@ held-taken f fs n x l =
     ap held_all (ap (map f) (take-suc fs n x l) ∙ map-append f (take n fs) (get_or fs n x ∷ []))
     ∙ held-more (map f (take n fs)) (f (get_or fs n x))
 
-held_is : (ps : List Part) → (feed_of ps).held ≡ held_of ps
-unfolding feed_of
+held_is : (ps : List Part) → (merged_feed ps).held ≡ feeds_held ps
+unfolding merged_feed
 held_is ps = refl
 
 pub held-done : {F : Type 0} (f : F → Feed) (ls : List Lane) (fs : List F) (n : ℕ) (held : FeedHeld)
     → length ls ≡ length fs → length fs ≤ n
-    → held ≡ held_all (map f (take n fs)) → held ≡ (feed_of (parts ls (map f fs))).held
+    → held ≡ held_all (map f (take n fs)) → held ≡ (merged_feed (parts ls (map f fs))).held
 held-done f ls fs n held e l h =
     h ∙ ap (λ xs. held_all (map f xs)) (take_all n fs l) ∙ sym (held-parts f ls fs e)
     ∙ sym (held_is (parts ls (map f fs)))
 
 pub clocks-of : {F : Type 0} (f : F → Feed) (ls : List Lane) (fs : List F) (place : ℕ) → 1 ≤ length fs
     → length ls ≡ length fs → first_place (turns (parts ls (map f fs))) ≡ Some place
-    → has_next (feed_of (parts ls (map f fs))).known ≡ true → ClocksFrom (lane_at ls place).clock (parts ls (map f fs))
+    → has_next (merged_feed (parts ls (map f fs))).known ≡ true
+    → ClocksFrom (lane_at ls place).clock (parts ls (map f fs))
 clocks-of f ls [] place n e s h = absurd (omega arith)
 clocks-of f ls (x ∷ xs) place n e s h =
     (clocks-of-first (parts ls (map f (x ∷ xs))) (part (lane_at ls place) (f (get_or (x ∷ xs) place x)))
@@ -385,8 +388,8 @@ clocks-of f ls (x ∷ xs) place n e s h =
 
 pub begins-of : {F : Type 0} (f : F → Feed) → ((x : F) → IsFeed (f x)) → (ls : List Lane) (fs : List F) (place : ℕ)
     → 1 ≤ length fs → length ls ≡ length fs → first_place (turns (parts ls (map f fs))) ≡ Some place
-    → has_next (feed_of (parts ls (map f fs))).known ≡ true → HasReached (parts ls (map f fs))
-    → IsTrue (feed_of (parts ls (map f fs))).told → BeginsAt (lane_at ls place).clock (run_of (parts ls (map f fs)))
+    → has_next (merged_feed (parts ls (map f fs))).known ≡ true → HasReached (parts ls (map f fs))
+    → IsTrue (merged_feed (parts ls (map f fs))).told → BeginsAt (lane_at ls place).clock (run_of (parts ls (map f fs)))
 begins-of f law ls [] place n e s h reached t = absurd (omega arith)
 begins-of f law ls (x ∷ xs) place n e s h reached t =
     (begins-at (parts ls (map f (x ∷ xs))) (part (lane_at ls place) (f (get_or (x ∷ xs) place x)))
@@ -395,7 +398,7 @@ begins-of f law ls (x ∷ xs) place n e s h reached t =
 
 pub packet-at-first : {F : Type 0} (f : F → Feed) (ls : List Lane) (fs : List F) (place : ℕ) → 1 ≤ length fs
     → length ls ≡ length fs → first_place (turns (parts ls (map f fs))) ≡ Some place
-    → IsPacket (feed_of (parts ls (map f fs))).known → IsPacketAt (parts ls (map f fs)) place
+    → IsPacket (merged_feed (parts ls (map f fs))).known → IsPacketAt (parts ls (map f fs)) place
 packet-at-first f ls [] place n e s p = absurd (omega arith)
 packet-at-first f ls (x ∷ xs) place n e s p =
     let at = placed-split f ls (x ∷ xs) place fresh_lane x e s in
@@ -405,7 +408,8 @@ packet-at-first f ls (x ∷ xs) place n e s p =
 pub passed-of : {F : Type 0} (f : F → Feed) → ((x : F) → IsFeed (f x))
     → (ls ms : List Lane) (fs ys : List F) (place : ℕ) → 1 ≤ length fs → length ls ≡ length fs
     → first_place (turns (parts ls (map f fs))) ≡ Some place
-    → IsNumbered (map f fs) → HasReached (parts ls (map f fs)) → IsPacket (feed_of (parts ls (map f fs))).known
+    → AreNumberedFeeds (map f fs) → HasReached (parts ls (map f fs))
+    → IsPacket (merged_feed (parts ls (map f fs))).known
     → PassesAt (parts ls (map f fs)) place (parts ms (map f ys)) → Passed (parts ls (map f fs)) (parts ms (map f ys))
 passed-of f law ls ms [] ys place n e s numbered reached p h = absurd (omega arith)
 passed-of f law ls ms (x ∷ xs) ys place n e s numbered reached p h =
@@ -424,13 +428,13 @@ passes-each place ps qs h = grind arith
 
 pub known-there : {F : Type 0} (f : F → Feed) (ls : List Lane) (fs : List F) (place : ℕ) (x : F) → x ≡ get_or fs place x
     → length ls ≡ length fs
-    → first_place (turns (parts ls (map f fs))) ≡ Some place → IsPacket (feed_of (parts ls (map f fs))).known
-    → (feed_of (parts ls (map f fs))).known ≡ (f x).known
+    → first_place (turns (parts ls (map f fs))) ≡ Some place → IsPacket (merged_feed (parts ls (map f fs))).known
+    → (merged_feed (parts ls (map f fs))).known ≡ (f x).known
 known-there f ls fs place x is e s p = feed-known f ls fs place x e s p ∙ sym (ap (λ w. (f w).known) is)
 
 pub frame-here : {F : Type 0} (f : F → Feed) (ls : List Lane) (fs : List F) (place : ℕ) (x : F) → x ≡ get_or fs place x
     → length ls ≡ length fs → first_place (turns (parts ls (map f fs))) ≡ Some place
-    → (f x).frame ≡ (feed_of (parts ls (map f fs))).frame
+    → (f x).frame ≡ (merged_feed (parts ls (map f fs))).frame
 frame-here f ls fs place x is e s = ap (λ w. (f w).frame) is ∙ frame-of f ls fs place x e s
 
 pub known-here : {F : Type 0} (f : F → Feed) (fs : List F) (file : ℕ) (endings : ℕ → FileEnd) (x : F)

@@ -9,14 +9,15 @@ use Rattle.cap_bytes.specs.declared.faults.Fault.TheVariants.{Refused, Read, Wri
 use Rattle.cap_time.specs.declared.stamps.Stamp.{Stamp}
 use Rattle.cap_source.specs.declared.feeds.Head.{Head}
 use Rattle.cap_source.specs.declared.feeds.Head.TheVariants as heads
-use Rattle.cap_source.specs.Feed.{IsFeed, SameItems, Knows, Breaks, Waits, GivesHead, KeepsItems}
+use Rattle.cap_source.specs.Feed.{IsFeed, SameItems, Knows, FeedBreaks, FeedWaits, GivesHead, KeepsItems}
 use Rattle.cap_merge.specs.inner.Lists.{and-both, and-none, any-back, any-front, or-back}
 use Rattle.cap_time.specs.Clock.{later}
-use Rattle.cap_merge.specs.Parts.{Part, LaneState, head_time, has_file, is_known, known_of, head_by, first_of, feed_of}
+use Rattle.cap_merge.specs.Parts.{Part, LaneState, head_time, has_file, are_known, known_of, part_head, first_part}
+use Rattle.cap_merge.specs.Parts.{merged_feed}
 use Rattle.cap_merge.specs.Parts.{ClocksFrom}
-use Rattle.cap_merge.specs.inner.Merge.{LearnsBy, Stops, LearnsAll, StopsAt, AsksAll}
+use Rattle.cap_merge.specs.inner.Merge.{LearnsBy, LaneStops, LearnsAll, StopsAt, AsksAll}
 use Rattle.cap_merge.specs.inner.Clocks.{AtMost, at_most-trans, later-first}
-use Rattle.cap_merge.specs.inner.Sound.{IsSound, AreFrom}
+use Rattle.cap_merge.specs.inner.Sound.{IsSoundPart, AreFrom}
 use Rattle.cap_merge.specs.inner.Lawful.{whole_known}
 use Rattle.cap_merge.proofs.Breaking.{known_by, stopped-place, stopped-can_fail, stopped-again, stopped-broken}
 use Rattle.cap_merge.proofs.Breaking.{learned-whole, waited-before, waited-after}
@@ -34,12 +35,12 @@ any_failed (p ∷ ps) (q ∷ qs) e = λ i. e.0 i || any_failed ps qs e.1 i
 any_failed ps qs e = grind arith
 
 failed_each : (ps qs : List Part) → Each (λ p q. q.feed.held.failed ≡ p.feed.held.failed) ps qs
-    → (feed_of qs).held.failed ≡ (feed_of ps).held.failed
-unfolding feed_of
+    → (merged_feed qs).held.failed ≡ (merged_feed ps).held.failed
+unfolding merged_feed
 failed_each ps qs e = any_failed ps qs e
 
 -- all feeds that were asked are known
-pub known_all : (ps qs : List Part) → LearnsAll ps qs → is_known qs ≡ true
+pub known_all : (ps qs : List Part) → LearnsAll ps qs → are_known qs ≡ true
 known_all (p ∷ ps) (q ∷ qs) l = rw (known_by p q p.lane.head refl l.0) (known_all ps qs l.1)
 known_all ps qs l = grind arith
 
@@ -47,46 +48,46 @@ known_all ps qs l = grind arith
 same_by : (p q : Part) (h : Option Head) → is_some h ≡ true → LearnsBy h p q → q ≡ p
 same_by p q h e l = grind arith
 
-pub same_all : (ps qs : List Part) → is_known ps ≡ true → LearnsAll ps qs → qs ≡ ps
+pub same_all : (ps qs : List Part) → are_known ps ≡ true → LearnsAll ps qs → qs ≡ ps
 same_all (p ∷ ps) (q ∷ qs) k l =
-    let both = and-both (is_some p.lane.head) (is_known ps) k in
+    let both = and-both (is_some p.lane.head) (are_known ps) k in
     λ i. same_by p q p.lane.head both.0 l.0 i ∷ same_all ps qs both.1 l.1 i
 same_all ps qs k l = grind arith
 
 -- one that isn't known leaves all unknown
-pub unknown_stops : (fault : Fault) (ps qs : List Part) → StopsAt fault ps qs → (is_known ps ≡ false)
-    × (is_known qs ≡ false)
+pub unknown_stops : (fault : Fault) (ps qs : List Part) → StopsAt fault ps qs → (are_known ps ≡ false)
+    × (are_known qs ≡ false)
 unknown_stops fault (p ∷ ps) (q ∷ qs) (inl s) = (
-  ap (λ h. is_some h && is_known ps) s.0.unknown,
-  ap (λ w. is_some w.head && is_known qs) s.0.lane
-      ∙ ap (λ h. is_some h && is_known qs) s.0.unknown,
+  ap (λ h. is_some h && are_known ps) s.0.unknown,
+  ap (λ w. is_some w.head && are_known qs) s.0.lane
+      ∙ ap (λ h. is_some h && are_known qs) s.0.unknown,
 )
 unknown_stops fault (p ∷ ps) (q ∷ qs) (inr s) =
     let rest = unknown_stops fault ps qs s.1 in
-    (and-none (is_some p.lane.head) (is_known ps) rest.0, and-none (is_some q.lane.head) (is_known qs) rest.1)
+    (and-none (is_some p.lane.head) (are_known ps) rest.0, and-none (is_some q.lane.head) (are_known qs) rest.1)
 unknown_stops fault ps qs s = grind arith
 
-unknown_feed : (ps : List Part) → is_known ps ≡ false → (feed_of ps).known ≡ None
-unfolding feed_of known_of
+unknown_feed : (ps : List Part) → are_known ps ≡ false → (merged_feed ps).known ≡ None
+unfolding merged_feed known_of
 unknown_feed ps e = rw e refl
 
-same_known : (ps qs : List Part) (head : Head) (b : Bool) → is_known ps ≡ b → LearnsAll ps qs → known_of qs ≡ Some head
-    → IfSome (known_of ps) (λ first. (head ≡ first) × (feed_of qs ≡ feed_of ps))
+same_known : (ps qs : List Part) (head : Head) (b : Bool) → are_known ps ≡ b → LearnsAll ps qs → known_of qs ≡ Some head
+    → IfSome (known_of ps) (λ first. (head ≡ first) × (merged_feed qs ≡ merged_feed ps))
 unfolding known_of
 same_known ps qs head true e l k =
     let same = same_all ps qs e l in
-    subst (λ (w : Option Head). IfSome w (λ first. (head ≡ first) × (feed_of qs ≡ feed_of ps)))
-    (sym (sym (ap (λ xs. cond (is_known xs) (head_by (first_of xs)) None) same) ∙ k)) (refl, ap feed_of same)
+    subst (λ (w : Option Head). IfSome w (λ first. (head ≡ first) × (merged_feed qs ≡ merged_feed ps)))
+    (sym (sym (ap (λ xs. cond (are_known xs) (part_head (first_part xs)) None) same) ∙ k)) (refl, ap merged_feed same)
 same_known ps qs head false e l k = rw e tt
 
 pub knows-asked : (ps qs : List Part) (head : Head) → LearnsAll ps qs → known_of qs ≡ Some head
     → AllByRecursion (λ q. IsFeed q.feed) qs
-    → Knows (feed_of ps) head (feed_of qs)
-unfolding feed_of
+    → Knows (merged_feed ps) head (merged_feed qs)
+unfolding merged_feed
 knows-asked ps qs head l k f =
     record {
       known = k;
-      again = same_known ps qs head (is_known ps) refl l k;
+      again = same_known ps qs head (are_known ps) refl l k;
       goes = record {
         before = learned-whole ps qs l;
         after = whole_known qs (known_all ps qs l);
@@ -119,29 +120,29 @@ asked-keeps ps qs (Err fault) a f = stops-each Kept fault kept-itself (λ p q _.
 
 pub asked-sound : {T : Type 0} (ps qs : List Part) (result : Result T Fault) → AsksAll ps result qs
     → AllByRecursion (λ q. IsFeed q.feed) qs
-    → AllByRecursion IsSound ps → AllByRecursion IsSound qs
+    → AllByRecursion IsSoundPart ps → AllByRecursion IsSoundPart qs
 asked-sound ps qs (Ok x) a f s =
-    sound-all ps qs (learns-each (λ p q. IsSound p → IsSound q)
+    sound-all ps qs (learns-each (λ p q. IsSoundPart p → IsSoundPart q)
     (λ p q _ l k. sound-learns_by p q p.lane.head k l) ps qs f a) s
 asked-sound ps qs (Err fault) a f s =
-    sound-all ps qs (stops-each (λ p q. IsSound p → IsSound q) fault (λ p k. k)
+    sound-all ps qs (stops-each (λ p q. IsSoundPart p → IsSoundPart q) fault (λ p k. k)
     (λ p q _ l k. sound-learns_by p q p.lane.head k l) (λ p q l k. sound-stops p q fault l) ps qs f a) s
 
 pub items-asked : (ps qs : List Part) → LearnsAll ps qs → AllByRecursion (λ q. IsFeed q.feed) qs
-    → IsTrue (feed_of ps).told → SameItems (feed_of ps) (feed_of qs)
-unfolding feed_of
+    → IsTrue (merged_feed ps).told → SameItems (merged_feed ps) (merged_feed qs)
+unfolding merged_feed
 items-asked ps qs l f t =
     items-alike ps qs (learns-each ComesAlike (λ p q g. alike-learns_by p q p.lane.head g) ps qs f l) t
 
-pub never : (ps qs : List Part) (fault : Fault) → ((p q : Part) → Stops p fault q → ⊥) → StopsAt fault ps qs → ⊥
+pub never : (ps qs : List Part) (fault : Fault) → ((p q : Part) → LaneStops p fault q → ⊥) → StopsAt fault ps qs → ⊥
 never [] qs fault f s = s
 never (p ∷ ps) [] fault f s = s
 never (p ∷ ps) (q ∷ qs) fault f (inl s) = f p q s.0
 never (p ∷ ps) (q ∷ qs) fault f (inr s) = never ps qs fault f s.1
 
 breaks-stopped : (ps qs : List Part) (file offset : ℕ) → AreFrom 1 qs → StopsAt (Read file offset) ps qs
-    → Breaks (feed_of ps) file offset (feed_of qs)
-unfolding feed_of
+    → FeedBreaks (merged_feed ps) file offset (merged_feed qs)
+unfolding merged_feed
 breaks-stopped ps qs file offset a h =
     let at_fault = fails_at file offset ps qs h in
     let unknown = unknown_stops (Read file offset) ps qs h in
@@ -157,8 +158,8 @@ breaks-stopped ps qs file offset a h =
     }
 
 waits-stopped : (ps qs : List Part) → StopsAt Memory ps qs → AllByRecursion (λ q. IsFeed q.feed) qs
-    → Waits (feed_of ps) (feed_of qs)
-unfolding feed_of
+    → FeedWaits (merged_feed ps) (merged_feed qs)
+unfolding merged_feed
 waits-stopped ps qs s f =
     let unknown = unknown_stops Memory ps qs s in
     record {
@@ -173,21 +174,21 @@ waits-stopped ps qs s f =
     }
 
 pub gives-stopped : (ps qs : List Part) (fault : Fault) → AreFrom 1 qs → StopsAt fault ps qs
-    → AllByRecursion (λ q. IsFeed q.feed) qs → GivesHead (feed_of ps) (Err fault) (feed_of qs)
+    → AllByRecursion (λ q. IsFeed q.feed) qs → GivesHead (merged_feed ps) (Err fault) (merged_feed qs)
 gives-stopped ps qs (Refused refusal) a s f = never ps qs (Refused refusal) (λ p q h. h.gives) s
 gives-stopped ps qs (Read file offset) a s f = breaks-stopped ps qs file offset a s
 gives-stopped ps qs Write a s f = never ps qs Write (λ p q h. h.gives) s
 gives-stopped ps qs Memory a s f = waits-stopped ps qs s f
 
 items-waited : (ps qs : List Part) → StopsAt Memory ps qs → AllByRecursion (λ q. IsFeed q.feed) qs
-    → IsTrue (feed_of ps).told → SameItems (feed_of ps) (feed_of qs)
-unfolding feed_of
+    → IsTrue (merged_feed ps).told → SameItems (merged_feed ps) (merged_feed qs)
+unfolding merged_feed
 items-waited ps qs s f told = items-alike ps qs
     (stops-each ComesAlike Memory alike-itself (λ p q g. alike-learns_by p q p.lane.head g) alike-waits ps qs f s) told
 
 pub items-stopped : (ps qs : List Part) (fault : Fault) → StopsAt fault ps qs → AllByRecursion (λ q. IsFeed q.feed) qs
-    → IsTrue (feed_of ps).told
-    → KeepsItems (feed_of ps) (Err fault) (feed_of qs)
+    → IsTrue (merged_feed ps).told
+    → KeepsItems (merged_feed ps) (Err fault) (merged_feed qs)
 items-stopped ps qs (Refused refusal) s f t = never ps qs (Refused refusal) (λ p q h. h.gives) s
 items-stopped ps qs (Read file offset) s f t = tt
 items-stopped ps qs Write s f t = never ps qs Write (λ p q h. h.gives) s

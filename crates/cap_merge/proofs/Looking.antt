@@ -7,11 +7,11 @@ use Rattle.cap_bytes.specs.declared.faults.Refusal.{Refusal}
 use Rattle.cap_source.specs.declared.feeds.Head.{Head}
 use Rattle.cap_source.specs.declared.feeds.Head.TheVariants as heads
 use Rattle.cap_source.specs.declared.packets.Meta.{Meta}
-use Rattle.cap_source.specs.Feed.{Feed, IsFeed, IsPacket, GivesHead, Keeps, KeepsItems, FindsPacket, FindsItem}
+use Rattle.cap_source.specs.Feed.{Feed, IsFeed, IsPacket, GivesHead, FeedKeeps, KeepsItems, FindsPacket, FindsItem}
 use Rattle.cap_merge.specs.declared.lanes.Coming.TheVariants as comings
-use Rattle.cap_merge.specs.inner.First.{coming_of}
+use Rattle.cap_merge.specs.inner.First.{head_coming}
 use Rattle.cap_merge.specs.inner.Merge.{LearnsAll, StopsAt, AsksAll, LooksAll}
-use Rattle.cap_merge.specs.Parts.{Part, known_of, feed_of, KeepsRun, ShowsRun, MovesClocks}
+use Rattle.cap_merge.specs.Parts.{Part, known_of, merged_feed, KeepsRun, ShowsRun, MovesClocks}
 use Rattle.cap_merge.specs.inner.Sound.{AreFrom}
 use Rattle.cap_merge.proofs.Calls.{asked-keeps-all, run-asked, run-stopped}
 use Rattle.cap_merge.proofs.Heads.{asked-keeps, knows-asked, items-asked, gives-stopped, items-stopped, clocks-asked}
@@ -19,28 +19,28 @@ use Rattle.cap_merge.proofs.Moving.{from-each}
 
 -- what `head` answers
 pub record Heads (ps : List Part) (r : Result Head Fault) (qs : List Part) : Type 0 where
-  pub answer : GivesHead (feed_of ps) r (feed_of qs)
-  pub keeps : Keeps (feed_of ps) (feed_of qs)
-  pub items : IsTrue (feed_of ps).told → KeepsItems (feed_of ps) r (feed_of qs)
+  pub answer : GivesHead (merged_feed ps) r (merged_feed qs)
+  pub keeps : FeedKeeps (merged_feed ps) (merged_feed qs)
+  pub items : IsTrue (merged_feed ps).told → KeepsItems (merged_feed ps) r (merged_feed qs)
   pub asks : AsksAll ps r qs
-  pub run : IsTrue (feed_of ps).told → KeepsRun ps r qs
+  pub run : IsTrue (merged_feed ps).told → KeepsRun ps r qs
   pub clocks : MovesClocks ps qs
 
 -- what `has_packet` answers
 pub record Finds (ps : List Part) (r : Result Bool Fault) (qs : List Part) : Type 0 where
-  pub answer : FindsPacket (feed_of ps) r (feed_of qs)
-  pub keeps : Keeps (feed_of ps) (feed_of qs)
-  pub items : IsTrue (feed_of ps).told → FindsItem (feed_of ps) r (feed_of qs)
+  pub answer : FindsPacket (merged_feed ps) r (merged_feed qs)
+  pub keeps : FeedKeeps (merged_feed ps) (merged_feed qs)
+  pub items : IsTrue (merged_feed ps).told → FindsItem (merged_feed ps) r (merged_feed qs)
   pub asks : LooksAll ps r qs
-  pub run : IsTrue (feed_of ps).told → ShowsRun ps r qs
+  pub run : IsTrue (merged_feed ps).told → ShowsRun ps r qs
   pub clocks : MovesClocks ps qs
 
-known_is : (ps : List Part) (head : Head) → (feed_of ps).known ≡ Some head → known_of ps ≡ Some head
-unfolding feed_of
+known_is : (ps : List Part) (head : Head) → (merged_feed ps).known ≡ Some head → known_of ps ≡ Some head
+unfolding merged_feed
 known_is ps head e = e
 
 -- all feeds have told what comes next
-pub heads-known : (ps qs : List Part) (head : Head) → LearnsAll ps qs → (feed_of qs).known ≡ Some head
+pub heads-known : (ps qs : List Part) (head : Head) → LearnsAll ps qs → (merged_feed qs).known ≡ Some head
     → AllByRecursion (λ q. IsFeed q.feed) qs → Heads ps (Ok head) qs
 heads-known ps qs head l e f = record {
   answer = knows-asked ps qs head l (known_is qs head e) f;
@@ -81,7 +81,7 @@ answers_by old new (Err fault) h = grind arith
 items_by : (old new : Feed) (r : Result Head Fault) → KeepsItems old r new → FindsItem old (found_of r) new
 items_by old new r h = grind arith
 
-asks_by : (ps qs : List Part) (r : Result Head Fault) → GivesHead (feed_of ps) r (feed_of qs) → AsksAll ps r qs
+asks_by : (ps qs : List Part) (r : Result Head Fault) → GivesHead (merged_feed ps) r (merged_feed qs) → AsksAll ps r qs
     → LooksAll ps (found_of r) qs
 asks_by ps qs r h a = grind arith
 
@@ -90,28 +90,28 @@ run_by ps qs r h = grind arith
 
 pub finds-by : (ps qs : List Part) (r : Result Head Fault) → Heads ps r qs → Finds ps (found_of r) qs
 finds-by ps qs r h = record {
-  answer = answers_by (feed_of ps) (feed_of qs) r h.answer;
+  answer = answers_by (merged_feed ps) (merged_feed qs) r h.answer;
   keeps = h.keeps;
-  items = λ t. items_by (feed_of ps) (feed_of qs) r (h.items t);
+  items = λ t. items_by (merged_feed ps) (merged_feed qs) r (h.items t);
   asks = asks_by ps qs r h.answer h.asks;
   run = λ t. run_by ps qs r (h.run t);
   clocks = h.clocks;
 }
 
 -- what comes next, by what a lane says
-pub packet-comes : (h : Option Head) → coming_of h ≡ Some comings.Packet → (meta : Meta)
+pub packet-comes : (h : Option Head) → head_coming h ≡ Some comings.Packet → (meta : Meta)
     × (h ≡ Some (heads.Packet meta))
 packet-comes None e = absurd (cc)
 packet-comes (Some (heads.Packet meta)) e = (meta, refl)
 packet-comes (Some (heads.Refused refusal)) e = absurd (cc)
 packet-comes (Some heads.End) e = absurd (cc)
 
-pub is-packet : (h : Option Head) → coming_of h ≡ Some comings.Packet → IsPacket h
+pub is-packet : (h : Option Head) → head_coming h ≡ Some comings.Packet → IsPacket h
 is-packet h e = grind arith
 
-pub refusal-comes : (h : Option Head) (refusal : Refusal) → coming_of h ≡ Some (comings.Refused refusal)
+pub refusal-comes : (h : Option Head) (refusal : Refusal) → head_coming h ≡ Some (comings.Refused refusal)
     → h ≡ Some (heads.Refused refusal)
 refusal-comes h refusal e = grind arith
 
-pub end-comes : (h : Option Head) → coming_of h ≡ Some comings.End → h ≡ Some heads.End
+pub end-comes : (h : Option Head) → head_coming h ≡ Some comings.End → h ≡ Some heads.End
 end-comes h e = grind arith

@@ -6,12 +6,13 @@ use Rattle.std.specs.List.{AllByRecursion, list_all, flat_map}
 use Rattle.cap_bytes.specs.declared.faults.Fault.{Fault}
 use Rattle.cap_bytes.specs.declared.faults.Fault.TheVariants.{Memory}
 use Rattle.cap_source.specs.declared.feeds.Head.{Head}
-use Rattle.cap_source.specs.Feed.{IsFeed, Keeps, SameItems}
+use Rattle.cap_source.specs.Feed.{IsFeed, FeedKeeps, SameItems}
 use Rattle.cap_merge.specs.Run.{placed_from, placed_all, in_order}
-use Rattle.cap_merge.specs.Parts.{Part, item_time, tracks, run_of, endings_of, places_of, can_fail_of, left_of, feed_of}
-use Rattle.cap_merge.specs.inner.Merge.{Learns, LearnsBy, Stops, LearnsAll, StopsAt}
+use Rattle.cap_merge.specs.Parts.{Part, item_time, tracks, run_of, endings_of, places_of, feeds_can_fail, left_of}
+use Rattle.cap_merge.specs.Parts.{merged_feed}
+use Rattle.cap_merge.specs.inner.Merge.{LaneLearns, LearnsBy, LaneStops, LearnsAll, StopsAt}
 use Rattle.cap_merge.specs.inner.Clocks.{clock_total}
-use Rattle.cap_merge.specs.inner.Sound.{IsSound, AreFrom}
+use Rattle.cap_merge.specs.inner.Sound.{IsSoundPart, AreFrom}
 
 -- Each part and what became of it.
 abbrev pub Each : (Part → Part → Type 0) → List Part → List Part → Type 0
@@ -34,14 +35,14 @@ learns-each R f ps qs l k = grind arith
 
 pub stops-each : (R : Part → Part → Type 0) (fault : Fault) → ((p : Part) → R p p)
     → ((p q : Part) → IsFeed q.feed → LearnsBy p.lane.head p q → R p q)
-    → ((p q : Part) → Stops p fault q → R p q)
+    → ((p q : Part) → LaneStops p fault q → R p q)
     → (ps qs : List Part) → AllByRecursion (λ q. IsFeed q.feed) qs → StopsAt fault ps qs → Each R ps qs
 stops-each R fault i f g (p ∷ ps) (q ∷ qs) l (inl h) = (g p q h.0, same_each R i ps qs h.1)
 stops-each R fault i f g (p ∷ ps) (q ∷ qs) l (inr h) = (f p q l.0 h.0, stops-each R fault i f g ps qs l.1 h.1)
 stops-each R fault i f g ps qs l h = grind arith
 
 abbrev pub Kept : Part → Part → Type 0
-Kept p q = Keeps p.feed q.feed
+Kept p q = FeedKeeps p.feed q.feed
 
 pub kept-itself : (p : Part) → Kept p p
 kept-itself p = record {
@@ -65,9 +66,9 @@ told_kept : (ps qs : List Part) → Each Kept ps qs → list_all (λ p. p.feed.t
 told_kept (p ∷ ps) (q ∷ qs) k t = grind (arith, told_kept ps qs k.1)
 told_kept ps qs k t = grind arith
 
-can_fail_kept : (ps qs : List Part) (file : ℕ) → Each Kept ps qs → can_fail_of qs file ≡ true
-    → can_fail_of ps file ≡ true
-unfolding can_fail_of
+can_fail_kept : (ps qs : List Part) (file : ℕ) → Each Kept ps qs → feeds_can_fail qs file ≡ true
+    → feeds_can_fail ps file ≡ true
+unfolding feeds_can_fail
 can_fail_kept (p ∷ ps) (q ∷ qs) file k t = grind (arith, can_fail_kept ps qs file k.1)
 can_fail_kept ps qs file k t = grind arith
 
@@ -81,8 +82,8 @@ left_kept (p ∷ ps) (q ∷ qs) k = omega (arith, k.0.left, left_kept ps qs k.1)
 left_kept ps qs k = grind arith
 
 -- What is kept of each is kept of the feeds as one.
-pub keeps-each : (ps qs : List Part) → Each Kept ps qs → Keeps (feed_of ps) (feed_of qs)
-unfolding feed_of
+pub keeps-each : (ps qs : List Part) → Each Kept ps qs → FeedKeeps (merged_feed ps) (merged_feed qs)
+unfolding merged_feed
 keeps-each ps qs k = search (files_kept, told_kept, can_fail_kept, places_kept, left_kept)
 
 pub from-each : (n : ℕ) (ps qs : List Part) → Each Kept ps qs → AreFrom n ps → AreFrom n qs
@@ -103,7 +104,7 @@ alike-itself p = record { files = refl; placed = λ t file place. refl; endings 
 pub alike-learns_by : (p q : Part) (h : Option Head) → IsFeed q.feed → LearnsBy h p q → ComesAlike p q
 alike-learns_by p q h f l = grind arith
 
-pub alike-waits : (p q : Part) → Stops p Memory q → ComesAlike p q
+pub alike-waits : (p q : Part) → LaneStops p Memory q → ComesAlike p q
 alike-waits p q s = grind arith
 
 placed_alike : (ps qs : List Part) (file : ℕ) → Each ComesAlike ps qs → list_all (λ p. p.feed.told) ps ≡ true
@@ -124,24 +125,24 @@ endings_alike (p ∷ ps) (q ∷ qs) file a t = grind (arith, endings_alike ps qs
 endings_alike ps qs file a t = grind arith
 
 pub items-alike : (ps qs : List Part) → Each ComesAlike ps qs → list_all (λ p. p.feed.told) ps ≡ true
-    → SameItems (feed_of ps) (feed_of qs)
-unfolding feed_of
+    → SameItems (merged_feed ps) (merged_feed qs)
+unfolding merged_feed
 items-alike ps qs a t = record {
   items = ap (map (λ x. x.item)) (run-alike ps qs a t);
   endings =
       λ file. endings_alike ps qs file a t;
 }
 
-sound_learns : (p : Part) (head : Head) (q : Part) → Learns p head q → IsSound q
+sound_learns : (p : Part) (head : Head) (q : Part) → LaneLearns p head q → IsSoundPart q
 sound_learns p head q l = grind (arith, clock_total)
 
-pub sound-learns_by : (p q : Part) (h : Option Head) → IsSound p → LearnsBy h p q → IsSound q
+pub sound-learns_by : (p q : Part) (h : Option Head) → IsSoundPart p → LearnsBy h p q → IsSoundPart q
 sound-learns_by p q h s l = grind (arith, sound_learns)
 
-pub sound-stops : (p q : Part) (fault : Fault) → Stops p fault q → IsSound q
+pub sound-stops : (p q : Part) (fault : Fault) → LaneStops p fault q → IsSoundPart q
 sound-stops p q fault s = grind arith
 
-pub sound-all : (ps qs : List Part) → Each (λ p q. IsSound p → IsSound q) ps qs → AllByRecursion IsSound ps
-    → AllByRecursion IsSound qs
+pub sound-all : (ps qs : List Part) → Each (λ p q. IsSoundPart p → IsSoundPart q) ps qs → AllByRecursion IsSoundPart ps
+    → AllByRecursion IsSoundPart qs
 sound-all (p ∷ ps) (q ∷ qs) e s = (e.0 s.0, sound-all ps qs e.1 s.1)
 sound-all ps qs e s = grind arith

@@ -7,28 +7,28 @@ use Rattle.cap_bytes.specs.declared.faults.Fault.{Fault}
 use Rattle.cap_source.specs.Feed.{Feed, IsPacket}
 use Rattle.cap_merge.specs.inner.Lists.{and-both}
 use Rattle.cap_merge.specs.declared.lanes.Lane.{Lane}
-use Rattle.cap_merge.specs.Parts.{Part, part, parts, is_known, known_but, OthersKnown, feed_of}
+use Rattle.cap_merge.specs.Parts.{Part, part, parts, are_known, known_but, OthersKnown, merged_feed}
 use Rattle.cap_merge.specs.inner.Merge.{LearnsAll, Asks, AsksAll, PassesAt}
 use Rattle.cap_merge.proofs.Firsts.{known-holds}
 
-known_behind : (p : Part) (ps : List Part) → is_known (p ∷ ps) ≡ true → (is_some p.lane.head ≡ true)
-    × (is_known ps ≡ true)
-known_behind p ps k = and-both (is_some p.lane.head) (is_known ps) k
+known_behind : (p : Part) (ps : List Part) → are_known (p ∷ ps) ≡ true → (is_some p.lane.head ≡ true)
+    × (are_known ps ≡ true)
+known_behind p ps k = and-both (is_some p.lane.head) (are_known ps) k
 
-passed_known : (ps qs : List Part) (place : ℕ) → PassesAt ps place qs → is_known ps ≡ true → known_but qs place ≡ true
+passed_known : (ps qs : List Part) (place : ℕ) → PassesAt ps place qs → are_known ps ≡ true → known_but qs place ≡ true
 passed_known (p ∷ ps) (q ∷ qs) (suc place) h k = grind (arith, passed_known ps qs place h.1)
 passed_known ps qs place h k = grind (arith, known_behind)
 
 -- after a pass what comes next of the other feeds is known
-pub others-passed : (ps qs : List Part) (place : ℕ) → PassesAt ps place qs → IsPacket (feed_of ps).known
+pub others-passed : (ps qs : List Part) (place : ℕ) → PassesAt ps place qs → IsPacket (merged_feed ps).known
     → OthersKnown qs (Some place)
 others-passed ps qs place h p = passed_known ps qs place h (known-holds ps IsPacket (λ never. never) p).0
 
-learns_all : (ps : List Part) → is_known ps ≡ true → LearnsAll ps ps
+learns_all : (ps : List Part) → are_known ps ≡ true → LearnsAll ps ps
 learns_all [] k = tt
 learns_all (p ∷ ps) k = grind (arith, learns_all ps)
 
-asks_front : {T : Type 0} (p q : Part) (ps : List Part) (r : Result T Fault) → is_known ps ≡ true → Asks p r q
+asks_front : {T : Type 0} (p q : Part) (ps : List Part) (r : Result T Fault) → are_known ps ≡ true → Asks p r q
     → AsksAll (p ∷ ps) r (q ∷ ps)
 asks_front p q ps r k h = grind (arith, learns_all)
 

@@ -9,18 +9,19 @@ use Rattle.cap_time.specs.declared.stamps.Stamp.{Stamp}
 use Rattle.cap_source.specs.declared.feeds.Head.{Head}
 use Rattle.cap_source.specs.declared.feeds.Head.TheVariants as heads
 use Rattle.cap_source.specs.declared.packets.Meta.{Meta}
-use Rattle.cap_source.specs.Feed.{packet, IsFeed, Keeps, Passes, IfPacket}
+use Rattle.cap_source.specs.Feed.{packet, IsFeed, FeedKeeps, FeedPasses, IfPacket}
 use Rattle.cap_merge.specs.inner.Lists.{All-both, all-back, all-each, and-none}
 use Rattle.cap_time.specs.Clock.{clock_cmp}
 use Rattle.cap_merge.specs.Run.{run}
 use Rattle.cap_merge.specs.inner.First.{has_next}
-use Rattle.cap_merge.specs.Parts.{Part, LaneState, item_time, is_refusal, has_file, is_known, known_of, head_by}
-use Rattle.cap_merge.specs.Parts.{first_of, tracks, run_of, endings_of, places_of, left_of, most_of, held_of, feed_of}
+use Rattle.cap_merge.specs.Parts.{Part, LaneState, item_time, is_refusal, has_file, are_known, known_of, part_head}
+use Rattle.cap_merge.specs.Parts.{first_part, tracks, run_of, endings_of, places_of, left_of, most_of, feeds_held}
+use Rattle.cap_merge.specs.Parts.{merged_feed}
 use Rattle.cap_merge.specs.inner.Merge.{PassesPart}
 use Rattle.cap_merge.specs.inner.Clocks.{AtMost, at_most-itself}
 use Rattle.cap_merge.specs.inner.Leading.{Split}
-use Rattle.cap_merge.specs.inner.Sound.{IsSound, AreFrom}
-use Rattle.cap_merge.specs.inner.Coming.{IsReady, leads_known, reached_known, run-first, run_behind}
+use Rattle.cap_merge.specs.inner.Sound.{IsSoundPart, AreFrom}
+use Rattle.cap_merge.specs.inner.Coming.{IsReadyPart, leads_known, reached_known, run-first, run_behind}
 use Rattle.cap_merge.specs.inner.Lawful.{ready_all, at_first, places_at, packet_known}
 use Rattle.cap_merge.proofs.Breaking.{passed-whole}
 use Rattle.cap_merge.proofs.FromClock.{EachFrom}
@@ -32,28 +33,28 @@ each_at R f [] after p q h = (h, each-itself R f after)
 each_at R f (x ∷ before) after p q h = (f x, each_at R f before after p q h)
 
 pub passed-keeps : (before after : List Part) (p q : Part) → PassesPart p q
-    → Keeps (feed_of (before ++ (p ∷ after))) (feed_of (before ++ (q ∷ after)))
+    → FeedKeeps (merged_feed (before ++ (p ∷ after))) (merged_feed (before ++ (q ∷ after)))
 passed-keeps before after p q h = keeps-each (before ++ (p ∷ after)) (before ++ (q ∷ after))
     (each_at Kept kept-itself before after p q h.keeps)
 
 no_time : (a : Option Stamp) → is_lt (clock_cmp a None) ≡ false
 no_time a = grind arith
 
-unknown_sound : (p q : Part) → PassesPart p q → IsSound q
+unknown_sound : (p q : Part) → PassesPart p q → IsSoundPart q
 unknown_sound p q h =
-    subst (λ (w : LaneState). IsSound (record { lane = w; feed = q.feed })) (sym h.lane)
+    subst (λ (w : LaneState). IsSoundPart (record { lane = w; feed = q.feed })) (sym h.lane)
     (record { agrees = tt; reached = no_time p.lane.clock })
 
 pub passed-sound : (before after : List Part) (p q : Part) → PassesPart p q
-    → AllByRecursion IsSound (before ++ (p ∷ after)) → AllByRecursion IsSound (before ++ (q ∷ after))
+    → AllByRecursion IsSoundPart (before ++ (p ∷ after)) → AllByRecursion IsSoundPart (before ++ (q ∷ after))
 passed-sound before after p q h s =
     sound-all (before ++ (p ∷ after)) (before ++ (q ∷ after))
-    (each_at (λ x y. IsSound x → IsSound y) (λ x k. k) before after p q (λ _. unknown_sound p q h)) s
+    (each_at (λ x y. IsSoundPart x → IsSoundPart y) (λ x k. k) before after p q (λ _. unknown_sound p q h)) s
 
 unknown_at : (before after : List Part) (q : Part) → is_some q.lane.head ≡ false
-    → is_known (before ++ (q ∷ after)) ≡ false
+    → are_known (before ++ (q ∷ after)) ≡ false
 unknown_at [] after q e = rw e refl
-unknown_at (x ∷ before) after q e = and-none (is_some x.lane.head) (is_known (before ++ (q ∷ after)))
+unknown_at (x ∷ before) after q e = and-none (is_some x.lane.head) (are_known (before ++ (q ∷ after)))
     (unknown_at before after q e)
 
 most_same : (number : Part → ℕ) (before after : List Part) (p q : Part) → number q ≡ number p
@@ -67,7 +68,7 @@ any_same test [] after p q e = ap (λ b. b || list_any test after) e
 any_same test (x ∷ before) after p q e = ap (λ b. test x || b) (any_same test before after p q e)
 
 held_same : (before after : List Part) (p q : Part) → q.feed.held ≡ p.feed.held
-    → held_of (before ++ (q ∷ after)) ≡ held_of (before ++ (p ∷ after))
+    → feeds_held (before ++ (q ∷ after)) ≡ feeds_held (before ++ (p ∷ after))
 held_same before after p q e = λ i. record {
   window = most_same (λ x. x.feed.held.window) before after p q (ap (λ h. h.window) e) i;
   interfaces = most_same (λ x. x.feed.held.interfaces) before after p q (ap (λ h. h.interfaces) e) i;
@@ -101,25 +102,26 @@ run_on before after p q c e =
     (q ∷ after))
     ∙ (λ i. run item_time is_refusal (tracks before ++ (record { clock = c i; items = e i } ∷ tracks after)))
 
-pub run-passed : (ps before after : List Part) (p q : Part) (meta : Meta) → AllByRecursion IsReady ps → (s : Split ps p)
+pub run-passed : (ps before after : List Part) (p q : Part) (meta : Meta) → AllByRecursion IsReadyPart ps
+    → (s : Split ps p)
     → s.before ≡ before → s.after ≡ after
     → p.lane.head ≡ Some (heads.Packet meta) → PassesPart p q
     → run_of ps ≡ record { clock = p.lane.clock; item = packet meta p.feed.frame } ∷ run_of (before ++ (q ∷ after))
 run-passed ps before after p q meta r s b a e h =
-    let ready = at_first IsReady ps p r s in
+    let ready = at_first IsReadyPart ps p r s in
     let leads = leads_known p (heads.Packet meta) ready.sound ready.lawful e ready.told in
     run-first ps p (packet meta p.feed.frame) r s leads (reached_known p (heads.Packet meta) ready.sound e)
     ∙ ap (λ r. record { clock = p.lane.clock; item = packet meta p.feed.frame } ∷ r)
     ((λ i. run_behind (b i) p (a i))
     ∙ sym (run_on before after p q (ap (λ w. w.clock) h.lane) (h.passes.items ready.told)))
 
-known_is : (ps : List Part) (p : Part) (b : Bool) → is_known ps ≡ b → first_of ps ≡ Some p → b ≡ true
+known_is : (ps : List Part) (p : Part) (b : Bool) → are_known ps ≡ b → first_part ps ≡ Some p → b ≡ true
     → known_of ps ≡ p.lane.head
 unfolding known_of
 known_is ps p b e f h = grind arith
 
 place_passed : (before after : List Part) (p q : Part) (meta : Meta) → p.lane.head ≡ Some (heads.Packet meta)
-    → IsSound p → IsFeed p.feed → PassesPart p q
+    → IsSoundPart p → IsFeed p.feed → PassesPart p q
     → AreFrom 1 (before ++ (q ∷ after)) → meta.offset < places_of (before ++ (q ∷ after)) meta.file
 place_passed before after p q meta e s f h a =
     let own = packet_known p meta s f e in
@@ -133,7 +135,7 @@ place_passed before after p q meta e s f h a =
 items_passed : (before after : List Part) (p q : Part) (meta : Meta) → (s : Split (before ++ (p ∷ after)) p)
     → s.before ≡ before → s.after ≡ after
     → p.lane.head ≡ Some (heads.Packet meta) → PassesPart p q
-    → AllByRecursion IsReady (before ++ (p ∷ after))
+    → AllByRecursion IsReadyPart (before ++ (p ∷ after))
     → map (λ y. y.item) (run_of (before ++ (q ∷ after))) ≡ drop 1 (map (λ y. y.item) (run_of (before ++ (p ∷ after))))
 items_passed before after p q meta s b a e h r =
     sym (ap (λ ys. drop 1 (map (λ y. y.item) ys)) (run-passed
@@ -142,23 +144,23 @@ items_passed before after p q meta s b a e h r =
 -- what is passed of the feeds as one
 pub passes-first : (before after : List Part) (p q : Part) (meta : Meta) → (s : Split (before ++ (p ∷ after)) p)
     → s.before ≡ before → s.after ≡ after
-    → p.lane.head ≡ Some (heads.Packet meta) → is_known (before ++ (p ∷ after)) ≡ true → PassesPart p q
-    → AllByRecursion IsSound (before ++ (p ∷ after)) → AllByRecursion (λ x. IsFeed x.feed) (before ++ (p ∷ after))
+    → p.lane.head ≡ Some (heads.Packet meta) → are_known (before ++ (p ∷ after)) ≡ true → PassesPart p q
+    → AllByRecursion IsSoundPart (before ++ (p ∷ after)) → AllByRecursion (λ x. IsFeed x.feed) (before ++ (p ∷ after))
     → AreFrom 1 (before ++ (p ∷ after))
-    → Passes (feed_of (before ++ (p ∷ after))) (feed_of (before ++ (q ∷ after)))
-unfolding feed_of known_of
+    → FeedPasses (merged_feed (before ++ (p ∷ after))) (merged_feed (before ++ (q ∷ after)))
+unfolding merged_feed known_of
 passes-first before after p q meta s b a e k h sound lawful from =
-    let own_sound = at_first IsSound (before ++ (p ∷ after)) p sound s in
+    let own_sound = at_first IsSoundPart (before ++ (p ∷ after)) p sound s in
     let own_lawful = at_first (λ x. IsFeed x.feed) (before ++ (p ∷ after)) p lawful s in
     let kept = each_at Kept kept-itself before after p q h.keeps in
     record {
-      known = ap (λ b. cond b (head_by (first_of (before ++ (q ∷ after)))) None)
+      known = ap (λ b. cond b (part_head (first_part (before ++ (q ∷ after)))) None)
           (unknown_at before after q (ap (λ w. is_some w.head) h.lane));
       broken = passed-whole before after p q k (ap (λ w. w.head) h.lane) h.passes.broken;
       held = held_same before after p q h.passes.held;
       left = left_less before after p q h.passes.left;
       place = subst (λ (w : Option Head). IfPacket w (λ m. m.offset < places_of (before ++ (q ∷ after)) m.file))
-          (sym (known_is (before ++ (p ∷ after)) p (is_known (before ++ (p ∷ after))) refl s.is_first k ∙ e))
+          (sym (known_is (before ++ (p ∷ after)) p (are_known (before ++ (p ∷ after))) refl s.is_first k ∙ e))
           (place_passed before after p q meta e own_sound own_lawful h
           (from-each 1 (before ++ (p ∷ after)) (before ++ (q ∷ after)) kept from));
       items = λ t. items_passed before after p q meta s b a e h
@@ -185,7 +187,7 @@ less_all clock [] f = tt
 less_all clock (x ∷ xs) f = (λ yes. ap is_gt (f.0 yes), less_all clock xs f.1)
 
 -- All that is to come isn't below the clock of the first.
-pub clocks-first : (ps : List Part) (p : Part) → Split ps p → is_known ps ≡ true → EachFrom p.lane.clock ps
+pub clocks-first : (ps : List Part) (p : Part) → Split ps p → are_known ps ≡ true → EachFrom p.lane.clock ps
 clocks-first ps p s k =
     let known = subst (λ (xs : List Part). AllByRecursion (λ x. is_some x.lane.head ≡ true) xs) s.whole
     (all-each (λ x. is_some x.lane.head) ps k) in

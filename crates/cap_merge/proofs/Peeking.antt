@@ -13,11 +13,11 @@ use Rattle.cap_source.specs.Feed.{Feed, IsFeed}
 use Rattle.cap_merge.specs.declared.lanes.Coming.TheVariants as comings
 use Rattle.cap_merge.specs.declared.lanes.Lane.{Lane}
 use Rattle.cap_time.specs.Clock.{clock_cmp}
-use Rattle.cap_merge.specs.inner.First.{coming_of}
+use Rattle.cap_merge.specs.inner.First.{head_coming}
 use Rattle.cap_merge.specs.inner.Lists.{and-both}
 use Rattle.cap_merge.specs.Parts.{Part, LaneState, part, parts, known_but, known_time, is_bounded, known_of, HasReached}
-use Rattle.cap_merge.specs.Parts.{AreBounded, feed_of}
-use Rattle.cap_merge.specs.inner.Merge.{LearnsBy, Stops, LearnsAll, StopsAt, LooksAll, Shows, PeeksAt, ShowsAt}
+use Rattle.cap_merge.specs.Parts.{AreBounded, merged_feed}
+use Rattle.cap_merge.specs.inner.Merge.{LearnsBy, LaneStops, LearnsAll, StopsAt, LooksAll, LaneShows, PeeksAt, ShowsAt}
 use Rattle.cap_merge.specs.inner.Merge.{TellsNext}
 use Rattle.cap_merge.specs.inner.Merge.{ShowsFirst}
 use Rattle.cap_merge.specs.inner.Sound.{AreFrom}
@@ -29,7 +29,7 @@ use Rattle.cap_merge.proofs.Others.{asks-there}
 
 peeks_there : {F : Type 0} (f : F → Feed) (ls : List Lane) (fs : List F) (i : ℕ) (l m : Lane) (x y : F) → i < length ls
     → length ls ≡ length fs
-    → Shows (part (get_or ls i l) (f (get_or fs i x))) false (part m (f y))
+    → LaneShows (part (get_or ls i l) (f (get_or fs i x))) false (part m (f y))
     → PeeksAt (parts ls (map f fs)) i (parts (set ls i m) (map f (set fs i y)))
 peeks_there f (k ∷ ls) (z ∷ zs) (suc i) l m x y h e p =
     (refl, peeks_there f ls zs i l m x y (omega arith) (omega arith) p)
@@ -38,14 +38,14 @@ peeks_there f ls fs i l m x y h e p = grind arith
 -- one feed is asked, and the others are known
 pub shows-there : {F : Type 0} (f : F → Feed) (ls : List Lane) (fs : List F) (i : ℕ) (l m : Lane) (x y : F) (b : Bool)
     → i < length ls → length ls ≡ length fs
-    → known_but (parts ls (map f fs)) i ≡ true → Shows (part (get_or ls i l) (f (get_or fs i x))) b (part m (f y))
+    → known_but (parts ls (map f fs)) i ≡ true → LaneShows (part (get_or ls i l) (f (get_or fs i x))) b (part m (f y))
     → ShowsAt (parts ls (map f fs)) i b (parts (set ls i m) (map f (set fs i y)))
 shows-there f ls fs i l m x y true h e k p =
     let r : Result Bool Fault = Ok true in
     asks-there f ls fs i l m x y r e k p
 shows-there f ls fs i l m x y false h e k p = peeks_there f ls fs i l m x y h e p
 
-peeked_kept : (p q : Part) → Shows p false q → Kept p q
+peeked_kept : (p q : Part) → LaneShows p false q → Kept p q
 peeked_kept p q (inl e) = subst (Kept p) (sym e) (kept-itself p)
 peeked_kept p q (inr h) = h.keeps
 
@@ -57,7 +57,7 @@ peeked-kept (suc place) (p ∷ ps) (q ∷ qs) h =
     (subst (λ (w : Part). Kept p w) (sym h.0) (kept-itself p), peeked-kept place ps qs h.1)
 peeked-kept place ps qs h = grind arith
 
-peeked_lane : (p q : Part) → Shows p false q → q.lane ≡ p.lane
+peeked_lane : (p q : Part) → LaneShows p false q → q.lane ≡ p.lane
 peeked_lane p q (inl e) = λ i. (e i).lane
 peeked_lane p q (inr h) = h.lane
 
@@ -76,12 +76,12 @@ pub peeked-bounded : (place : ℕ) (ps qs : List Part) → PeeksAt ps place qs �
 peeked-bounded place ps qs h b = lanes_kept (λ lane. is_bounded lane.clock) place ps qs h ∙ b
 
 -- What such a feed tells when it is asked what comes next, it would have told before.
-learned_again : (p q x : Part) → Shows p false q → LearnsBy q.lane.head q x → LearnsBy p.lane.head p x
+learned_again : (p q x : Part) → LaneShows p false q → LearnsBy q.lane.head q x → LearnsBy p.lane.head p x
 learned_again p q x (inl e) l = subst (λ (w : Part). LearnsBy w.lane.head w x) e l
 learned_again p q x (inr h) l = grind arith
 
-stopped_again : (p q x : Part) (fault : Fault) → Shows p false q → Stops q fault x → Stops p fault x
-stopped_again p q x fault (inl e) s = subst (λ (w : Part). Stops w fault x) e s
+stopped_again : (p q x : Part) (fault : Fault) → LaneShows p false q → LaneStops q fault x → LaneStops p fault x
+stopped_again p q x fault (inl e) s = subst (λ (w : Part). LaneStops w fault x) e s
 stopped_again p q x fault (inr h) s = grind arith
 
 peeked_learns : (place : ℕ) (ps qs rs : List Part) → PeeksAt ps place qs → LearnsAll qs rs → LearnsAll ps rs
@@ -91,7 +91,7 @@ peeked_learns (suc place) (p ∷ ps) (q ∷ qs) (x ∷ rs) h l =
     (subst (λ (w : Part). LearnsBy w.lane.head w x) h.0 l.0, peeked_learns place ps qs rs h.1 l.1)
 peeked_learns place ps qs rs h l = grind arith
 
-never_stops : (p q : Part) (fault : Fault) → is_some p.lane.head ≡ true → Stops p fault q → ⊥
+never_stops : (p q : Part) (fault : Fault) → is_some p.lane.head ≡ true → LaneStops p fault q → ⊥
 never_stops p q fault k s = grind arith
 
 peeked_stops : (place : ℕ) (ps qs rs : List Part) (fault : Fault) → known_but ps place ≡ true → PeeksAt ps place qs
@@ -101,7 +101,7 @@ peeked_stops zero (p ∷ ps) (q ∷ qs) (x ∷ rs) fault k h (inr s) =
     inr (learned_again p q x h.0 s.0, subst (λ (xs : List Part). StopsAt fault xs rs) h.1 s.1)
 peeked_stops (suc place) (p ∷ ps) (q ∷ qs) (x ∷ rs) fault k h (inl s) =
     absurd (never_stops p x fault (and-both (is_some p.lane.head) (known_but ps place) k).0
-    (subst (λ (w : Part). Stops w fault x) h.0 s.0))
+    (subst (λ (w : Part). LaneStops w fault x) h.0 s.0))
 peeked_stops (suc place) (p ∷ ps) (q ∷ qs) (x ∷ rs) fault k h (inr s) =
     inr (
       subst (λ (w : Part). LearnsBy w.lane.head w x) h.0 s.0,
@@ -131,8 +131,8 @@ learned_looks ps qs rs (Err Memory) l h = absurd (learned_stops ps qs rs Memory 
 
 -- whether what comes first of all is a packet that is at hand
 pub shows-first : (ps qs : List Part) (b : Bool) → LearnsAll ps qs
-    → (b ≡ true → coming_of (known_of qs) ≡ Some comings.Packet) → ShowsFirst ps b qs
-unfolding feed_of
+    → (b ≡ true → head_coming (known_of qs) ≡ Some comings.Packet) → ShowsFirst ps b qs
+unfolding merged_feed
 shows-first ps qs true l f = (l, f refl)
 shows-first ps qs false l f = λ r rs h. learned_looks ps qs rs r l h
 
@@ -141,7 +141,7 @@ abbrev faulted : Fault → Result Bool Fault
 faulted fault = Err fault
 
 pub stopped-looks : (ps qs : List Part) (fault : Fault) → StopsAt fault ps qs → LooksAll ps (faulted fault) qs
-    × TellsNext (feed_of qs).known (faulted fault)
+    × TellsNext (merged_feed qs).known (faulted fault)
 stopped-looks ps qs (Refused refusal) s = absurd (never ps qs (Refused refusal) (λ p q h. h.gives) s)
 stopped-looks ps qs (Read file offset) s = (s, tt)
 stopped-looks ps qs Write s = absurd (never ps qs Write (λ p q h. h.gives) s)
@@ -149,16 +149,16 @@ stopped-looks ps qs Memory s = (s, tt)
 
 -- what `has_packet` answers, by what was asked and what comes next
 pub finds-all : (ps qs : List Part) (r : Result Bool Fault) → AreFrom 1 ps → LooksAll ps r qs
-    → TellsNext (feed_of qs).known r → AllByRecursion (λ q. IsFeed q.feed) qs
+    → TellsNext (merged_feed qs).known r → AllByRecursion (λ q. IsFeed q.feed) qs
     → Finds ps r qs
 finds-all ps qs (Ok true) a l e f =
-    let known = packet-comes (feed_of qs).known e in
+    let known = packet-comes (merged_feed qs).known e in
     finds-by ps qs (Ok (heads.Packet known.0)) (heads-known ps qs (heads.Packet known.0) l known.1 f)
 finds-all ps qs (Ok false) a l e f = finds-by ps qs (Ok heads.End)
-    (heads-known ps qs heads.End l (end-comes (feed_of qs).known e) f)
+    (heads-known ps qs heads.End l (end-comes (merged_feed qs).known e) f)
 finds-all ps qs (Err (Refused refusal)) a l e f =
     finds-by ps qs (Ok (heads.Refused refusal)) (heads-known ps qs (heads.Refused refusal) l
-    (refusal-comes (feed_of qs).known refusal e) f)
+    (refusal-comes (merged_feed qs).known refusal e) f)
 finds-all ps qs (Err (Read file offset)) a l e f =
     finds-by ps qs (Err (Read file offset)) (heads-stopped ps qs (Read file offset) a l f)
 finds-all ps qs (Err Write) a l e f = absurd l

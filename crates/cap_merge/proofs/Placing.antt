@@ -11,17 +11,17 @@ use Rattle.cap_source.specs.Feed.{Feed}
 use Rattle.cap_merge.specs.declared.lanes.Lane.{Lane}
 use Rattle.cap_merge.specs.declared.lanes.Coming.{Coming}
 use Rattle.cap_merge.specs.declared.lanes.Coming.TheVariants as comings
-use Rattle.cap_merge.specs.inner.First.{coming_of, fresh_lane, lane_turn, lane_turns, first_place}
-use Rattle.cap_merge.specs.Run.{opened, run}
-use Rattle.cap_merge.specs.Parts.{Part, part, parts, turn, turns, is_known, known_of, head_by, first_of, new_lane}
-use Rattle.cap_merge.specs.Parts.{new_parts, item_time, is_refusal, run_of, tracks, Matches, Agrees, HasReached}
+use Rattle.cap_merge.specs.inner.First.{head_coming, fresh_lane, lane_turn, lane_turns, first_place}
+use Rattle.cap_merge.specs.Run.{opened_track, run}
+use Rattle.cap_merge.specs.Parts.{Part, part, parts, turn, turns, are_known, known_of, part_head, first_part, new_lane}
+use Rattle.cap_merge.specs.Parts.{new_parts, item_time, is_refusal, run_of, tracks, Matches, LanesAgree, HasReached}
 use Rattle.cap_merge.specs.inner.Leading.{Split, IsFirstOf, first_is}
-use Rattle.cap_merge.specs.inner.Sound.{IsSound, each-reached}
+use Rattle.cap_merge.specs.inner.Sound.{IsSoundPart, each-reached}
 use Rattle.cap_merge.proofs.Asking.{parts-get, length-parts, matches-there}
 use Rattle.cap_merge.proofs.Finding.{first-within}
 
 -- lanes have the turns of the parts that they are of
-pub turns-agree : (ls : List Lane) (fs : List Feed) → Agrees ls fs → turns (parts ls fs) ≡ lane_turns ls
+pub turns-agree : (ls : List Lane) (fs : List Feed) → LanesAgree ls fs → turns (parts ls fs) ≡ lane_turns ls
 turns-agree (l ∷ ls) (x ∷ fs) a = grind (arith, turns-agree ls fs)
 turns-agree ls fs a = grind arith
 
@@ -38,10 +38,10 @@ place_within f ls fs place e h =
 
 split_there : {F : Type 0} (f : F → Feed) (ls : List Lane) (fs : List F) (place : ℕ) (d : Lane) (x : F)
     (o : Option Part) → IsFirstOf (parts ls (map f fs)) o
-    → first_of (parts ls (map f fs)) ≡ o → length ls ≡ length fs
+    → first_part (parts ls (map f fs)) ≡ o → length ls ≡ length fs
     → first_place (turns (parts ls (map f fs))) ≡ Some place → place < length ls
     → (s : Split (parts ls (map f fs)) (part (get_or ls place d) (f (get_or fs place x)))) × (length s.before ≡ place)
-unfolding first_of
+unfolding first_part
 split_there f ls fs place d x None n is e h w =
     let ps = parts ls (map f fs) in
     let there : slice_get ps place ≡ None = sym (ap (option_and_then (slice_get ps)) h) ∙ is in
@@ -65,19 +65,19 @@ pub placed-split : {F : Type 0} (f : F → Feed) (ls : List Lane) (fs : List F) 
     → first_place (turns (parts ls (map f fs))) ≡ Some place
     → (s : Split (parts ls (map f fs)) (part (get_or ls place d) (f (get_or fs place x)))) × (length s.before ≡ place)
 placed-split f ls fs place d x e h =
-    split_there f ls fs place d x (first_of (parts ls (map f fs))) (first_is (parts ls (map f fs))) refl e h
+    split_there f ls fs place d x (first_part (parts ls (map f fs))) (first_is (parts ls (map f fs))) refl e h
     (place_within f ls fs place e h)
 
-known_parts : (ls : List Lane) (fs : List Feed) → list_all (λ l. is_some l.next) ls ≡ true → Agrees ls fs
-    → is_known (parts ls fs) ≡ true
+known_parts : (ls : List Lane) (fs : List Feed) → list_all (λ l. is_some l.next) ls ≡ true → LanesAgree ls fs
+    → are_known (parts ls fs) ≡ true
 known_parts (l ∷ ls) (x ∷ fs) k a = grind (arith, known_parts ls fs)
 known_parts ls fs k a = grind arith
 
 -- what is known of all is what the first lane says
 pub coming-first : (ls : List Lane) (fs : List Feed) (place : ℕ) (coming : Coming) (d : Lane)
-    → list_all (λ l. is_some l.next) ls ≡ true → length fs ≡ length ls → Agrees ls fs
+    → list_all (λ l. is_some l.next) ls ≡ true → length fs ≡ length ls → LanesAgree ls fs
     → first_place (lane_turns ls) ≡ Some place → (get_or ls place d).next ≡ Some coming
-    → coming_of (known_of (parts ls fs)) ≡ Some coming
+    → head_coming (known_of (parts ls fs)) ≡ Some coming
 unfolding known_of
 coming-first ls [] place coming d k e a h is =
     let within : place < length (lane_turns ls) = first-within (lane_turns ls) place h in
@@ -88,31 +88,31 @@ coming-first ls (x ∷ xs) place coming d k e a h is =
     let at : first_place (turns (parts ls (map (λ (w : Feed). w) fs))) ≡ Some place =
     ap (λ ys. first_place (turns (parts ls ys))) same ∙ ap first_place (turns-agree ls fs a) ∙ h in
     let s = placed-split (λ (w : Feed). w) ls fs place d x (sym e) at in
-    let first : first_of (parts ls fs) ≡ Some (part (get_or ls place d) (get_or fs place x)) =
-    subst (λ ys. first_of (parts ls ys) ≡ Some (part (get_or ls place d) (get_or fs place x))) same s.0.is_first in
+    let first : first_part (parts ls fs) ≡ Some (part (get_or ls place d) (get_or fs place x)) =
+    subst (λ ys. first_part (parts ls ys) ≡ Some (part (get_or ls place d) (get_or fs place x))) same s.0.is_first in
     let there : Matches (get_or ls place d) (get_or fs place x) =
     matches-there (λ (w : Feed). w) ls fs place d x (place_within (λ (w : Feed). w) ls fs place (sym e) at) e
-    (subst (Agrees ls) (sym same) a) in
-    rw (known_parts ls fs k a) (ap (λ o. coming_of (head_by o)) first ∙ there ∙ is)
+    (subst (LanesAgree ls) (sym same) a) in
+    rw (known_parts ls fs k a) (ap (λ o. head_coming (part_head o)) first ∙ there ∙ is)
 
-pub coming-none : (ls : List Lane) (fs : List Feed) → list_all (λ l. is_some l.next) ls ≡ true → Agrees ls fs
+pub coming-none : (ls : List Lane) (fs : List Feed) → list_all (λ l. is_some l.next) ls ≡ true → LanesAgree ls fs
     → first_place (lane_turns ls) ≡ None
-    → coming_of (known_of (parts ls fs)) ≡ Some comings.End
-unfolding known_of first_of
+    → head_coming (known_of (parts ls fs)) ≡ Some comings.End
+unfolding known_of first_part
 coming-none ls fs k a h =
-    rw (known_parts ls fs k a) (ap (λ o. coming_of (head_by (option_and_then (slice_get (parts ls fs)) o)))
+    rw (known_parts ls fs k a) (ap (λ o. head_coming (part_head (option_and_then (slice_get (parts ls fs)) o)))
     (ap first_place (turns-agree ls fs a) ∙ h))
 
 -- no part is first if no place is
-pub none-placed : (ps : List Part) → first_place (turns ps) ≡ None → first_of ps ≡ None
-unfolding first_of
+pub none-placed : (ps : List Part) → first_place (turns ps) ≡ None → first_part ps ≡ None
+unfolding first_part
 none-placed ps h = ap (option_and_then (slice_get ps)) h
 
 pub parts-new : (fs : List Feed) → parts (replicate (length fs) fresh_lane) fs ≡ new_parts fs
 parts-new [] = refl
 parts-new (f ∷ fs) = ap (λ ps. record { lane = new_lane; feed = f } ∷ ps) (parts-new fs)
 
-pub new-sound : (fs : List Feed) → AllByRecursion IsSound (new_parts fs)
+pub new-sound : (fs : List Feed) → AllByRecursion IsSoundPart (new_parts fs)
 new-sound [] = tt
 new-sound (f ∷ fs) = (record { agrees = tt; reached = refl }, new-sound fs)
 
@@ -132,24 +132,24 @@ pub new-is : {F : Type 0} (f : F → Feed) (ls : List Lane) (xs : List F) → ls
 new-is f ls xs e =
     ap (λ ks. parts ks (map f xs)) (e ∙ ap (λ n. replicate n fresh_lane) (sym (length-map xs f))) ∙ parts-new (map f xs)
 
-agrees_new : {F : Type 0} (f : F → Feed) (xs : List F) → Agrees (replicate (length xs) fresh_lane) (map f xs)
+agrees_new : {F : Type 0} (f : F → Feed) (xs : List F) → LanesAgree (replicate (length xs) fresh_lane) (map f xs)
 agrees_new f [] = refl
 agrees_new f (x ∷ xs) = ap (λ ns. None ∷ ns) (agrees_new f xs)
 
 pub new-agrees : {F : Type 0} (f : F → Feed) (ls : List Lane) (xs : List F) → ls ≡ replicate (length xs) fresh_lane
-    → Agrees ls (map f xs)
-new-agrees f ls xs e = subst (λ (w : List Lane). Agrees w (map f xs)) (sym e) (agrees_new f xs)
+    → LanesAgree ls (map f xs)
+new-agrees f ls xs e = subst (λ (w : List Lane). LanesAgree w (map f xs)) (sym e) (agrees_new f xs)
 
 pub new-reached : {F : Type 0} (f : F → Feed) (ls : List Lane) (xs : List F) → ls ≡ replicate (length xs) fresh_lane
     → HasReached (parts ls (map f xs))
 new-reached f ls xs e = subst HasReached (sym (new-is f ls xs e))
     (each-reached (new_parts (map f xs)) (new-sound (map f xs)))
 
-tracks_new : (fs : List Feed) → tracks (new_parts fs) ≡ map (λ f. opened f.items) fs
+tracks_new : (fs : List Feed) → tracks (new_parts fs) ≡ map (λ f. opened_track f.items) fs
 tracks_new [] = refl
-tracks_new (f ∷ fs) = ap (λ ts. opened f.items ∷ ts) (tracks_new fs)
+tracks_new (f ∷ fs) = ap (λ ts. opened_track f.items ∷ ts) (tracks_new fs)
 
 -- the run of feeds of which nothing is known
-pub run-new : (fs : List Feed) → run_of (new_parts fs) ≡ run item_time is_refusal (map (λ f. opened f.items) fs)
+pub run-new : (fs : List Feed) → run_of (new_parts fs) ≡ run item_time is_refusal (map (λ f. opened_track f.items) fs)
 unfolding run_of
 run-new fs = ap (run item_time is_refusal) (tracks_new fs)

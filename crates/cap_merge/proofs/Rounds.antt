@@ -8,7 +8,7 @@ use Rattle.std.proofs.lemmas.List.{map-append}
 use Rattle.cap_time.specs.declared.stamps.Stamp.{Stamp}
 use Rattle.cap_merge.specs.inner.Lists.{All-both, all-back, all-front, map-twice}
 use Rattle.cap_time.specs.Clock.{clock_cmp, later}
-use Rattle.cap_merge.specs.Run.{Clocked, Track, opened, in_order, placed_cmp, Placed, clocked_of, placed_from}
+use Rattle.cap_merge.specs.Run.{Clocked, Track, opened_track, in_order, placed_cmp, Placed, clocked_of, placed_from}
 use Rattle.cap_merge.specs.Run.{placed_all, merged, HeadClock, IsFirst}
 use Rattle.cap_merge.specs.inner.Clocks.{clock_total, AtMost, at_most-both, at_most-trans, below-at_most}
 use Rattle.cap_merge.specs.inner.Ordered.{order-mapped}
@@ -303,30 +303,32 @@ files_in [] = []
 files_in (g ∷ gs) = g ++ files_in gs
 
 abbrev opened_group : {A : Type 0} → List (List A) → Group A
-opened_group files = record { now = None; tracks = map opened files }
+opened_group files = record { now = None; tracks = map opened_track files }
 
 opened_groups : {A : Type 0} (time : A → Option Stamp) (gs : List (List (List A)))
     → AreBetween time (map opened_group gs)
 opened_groups time [] = tt
 opened_groups time (g ∷ gs) = (opened_between time g, opened_groups time gs)
 
-opened_files : {A : Type 0} (gs : List (List (List A))) → files_of (map opened_group gs) ≡ map opened (files_in gs)
+opened_files : {A : Type 0} (gs : List (List (List A)))
+    → files_of (map opened_group gs) ≡ map opened_track (files_in gs)
 opened_files [] = refl
-opened_files (g ∷ gs) = ap (λ ts. map opened g ++ ts) (opened_files gs) ∙ sym (map-append opened g (files_in gs))
+opened_files (g ∷ gs) = ap (λ ts. map opened_track g
+    ++ ts) (opened_files gs) ∙ sym (map-append opened_track g (files_in gs))
 
 opened_merged : {A : Type 0} (time : A → Option Stamp) (gs : List (List (List A)))
-    → map (track_of time) (map opened_group gs) ≡ map opened
-    (map (λ g. map (λ x. x.item) (merged time (map opened g))) gs)
+    → map (track_of time) (map opened_group gs) ≡ map opened_track
+    (map (λ g. map (λ x. x.item) (merged time (map opened_track g))) gs)
 opened_merged time [] = refl
-opened_merged time (g ∷ gs) = ap (λ ts. opened (map (λ x. x.item) (merged time (map opened g))) ∷ ts)
+opened_merged time (g ∷ gs) = ap (λ ts. opened_track (map (λ x. x.item) (merged time (map opened_track g))) ∷ ts)
     (opened_merged time gs)
 
 -- The law of rounds: if files are merged in neighbouring groups, and then what came of the groups, the items come as if
 -- all files were merged at once.
 pub rounds-law : {A : Type 0} (time : A → Option Stamp) (groups : List (List (List A)))
     → map (λ x. x.item) (merged time
-    (map opened (map (λ files. map (λ x. x.item) (merged time (map opened files))) groups)))
-    ≡ map (λ x. x.item) (merged time (map opened (files_in groups)))
+    (map opened_track (map (λ files. map (λ x. x.item) (merged time (map opened_track files))) groups)))
+    ≡ map (λ x. x.item) (merged time (map opened_track (files_in groups)))
 rounds-law time groups =
     ap (λ ts. map (λ x. x.item) (merged time ts)) (sym (opened_merged time groups))
     ∙ rounds_by time (total (files_of (map opened_group groups))) (map opened_group groups) (omega arith)

@@ -1,13 +1,13 @@
 -- The run of several feeds, by its items.
 use Rattle.std.proofs.Common.{◌≡◌, List, ◌∷◌, drop, map, refl, arith, Option}
-use Rattle.cap_merge.specs.Parts.{Part, feed_of, run_of, BeginsAt}
+use Rattle.cap_merge.specs.Parts.{Part, merged_feed, run_of, BeginsAt}
 use Rattle.cap_merge.specs.Run.{Clocked}
 use Rattle.cap_source.specs.Feed.{Item}
 use Rattle.cap_time.specs.declared.stamps.Stamp.{Stamp}
 
 -- the items to come are those of the run
-pub items-of-run : (ps : List Part) → (feed_of ps).items ≡ map (λ x. x.item) (run_of ps)
-unfolding feed_of
+pub items-of-run : (ps : List Part) → (merged_feed ps).items ≡ map (λ x. x.item) (run_of ps)
+unfolding merged_feed
 items-of-run ps = refl
 
 -- the run begins with the first of its items, at the clock at which it begins

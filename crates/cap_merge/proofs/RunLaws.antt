@@ -7,7 +7,7 @@ use Rattle.std.specs.Ordering.{is_lt, is_gt}
 use Rattle.cap_time.specs.declared.stamps.Stamp.{Stamp}
 use Rattle.cap_merge.specs.inner.Lists.{All-both, All-implied, all-back, all-front}
 use Rattle.cap_time.specs.Clock.{clock_cmp, later, greatest_from, greatest}
-use Rattle.cap_merge.specs.Run.{Clocked, Track, opened, merged, run, through_first, HeadClock, IsFirst}
+use Rattle.cap_merge.specs.Run.{Clocked, Track, opened_track, merged, run, through_first, HeadClock, IsFirst}
 use Rattle.cap_merge.specs.inner.Clocks.{AtMost, at_most-trans, later-first, later-second, later-least, not_below}
 use Rattle.cap_merge.specs.inner.Clocks.{is_less}
 use Rattle.cap_merge.specs.inner.Clocks.{at_most-both, equal-at_most}
@@ -216,7 +216,7 @@ clocks_told time (suc n) ts now l b (inr m) =
     )
 
 pub opened_between : {A : Type 0} (time : A → Option Stamp) (files : List (List A))
-    → IsBetween time None (map opened files)
+    → IsBetween time None (map opened_track files)
 opened_between time [] = record { reached = tt; ahead = tt }
 opened_between time (items ∷ files) = grind (arith, opened_between time files)
 
@@ -229,11 +229,12 @@ through_told time ends now (x ∷ xs) h = grind (arith, through_told time ends (
 -- The greatest time of the packets of a run up to and with an item is, by the order, the item's clock, also for files
 -- that run back.
 pub run-clocks : {A : Type 0} (time : A → Option Stamp) (is_refusal : A → Bool) (files : List (List A))
-    → ClocksAreTold time None (run time is_refusal (map opened files))
+    → ClocksAreTold time None (run time is_refusal (map opened_track files))
 run-clocks time is_refusal files =
-    through_told time (λ x. is_refusal x.item) None (merged time (map opened files))
-    (clocks_told time (total (map opened files)) (map opened files) None (omega arith) (opened_between time files)
-    (next-of time (map opened files)))
+    through_told time (λ x. is_refusal x.item) None (merged time (map opened_track files))
+    (clocks_told time (total (map opened_track files)) (map opened_track files) None (omega arith)
+    (opened_between time files)
+    (next-of time (map opened_track files)))
 
 told_at : {A : Type 0} (time : A → Option Stamp) (now : Option Stamp) (before after : List (Clocked A)) (x : Clocked A)
     → ClocksAreTold time now (before ++ (x ∷ after))
@@ -244,7 +245,7 @@ told_at time now (y ∷ before) after x h = told_at time (later now (time y.item
 -- the same at each item of the run
 pub clock-law : {A : Type 0} (time : A → Option Stamp) (is_refusal : A → Bool) (files : List (List A))
     (before after : List (Clocked A)) (x : Clocked A)
-    → run time is_refusal (map opened files) ≡ before ++ (x ∷ after)
+    → run time is_refusal (map opened_track files) ≡ before ++ (x ∷ after)
     → clock_cmp (greatest (map (λ y. time y.item) (before ++ (x ∷ [])))) x.clock ≡ Equal
 clock-law time is_refusal files before after x e =
     told_at time None before after x (subst (ClocksAreTold time None) e (run-clocks time is_refusal files))
@@ -266,6 +267,6 @@ told_rises time clock now (x ∷ xs) h t =
 
 -- The clocks of a run never fall.
 pub run-rises : {A : Type 0} (time : A → Option Stamp) (is_refusal : A → Bool) (files : List (List A))
-    → NeverFalls None (run time is_refusal (map opened files))
+    → NeverFalls None (run time is_refusal (map opened_track files))
 run-rises time is_refusal files =
-    told_rises time None None (run time is_refusal (map opened files)) refl (run-clocks time is_refusal files)
+    told_rises time None None (run time is_refusal (map opened_track files)) refl (run-clocks time is_refusal files)

@@ -2,7 +2,7 @@
 use Rattle.std.specs.Prelude.{ℕ, ◌+◌, ◌==◌, List, [], ◌∷◌, false, map, if◌then◌else◌}
 use Rattle.cap_bytes.specs.declared.faults.Tail.{Tail}
 use Rattle.cap_merge.specs.Parts.{item_time, is_refusal}
-use Rattle.cap_merge.specs.Run.{Clocked, opened, run}
+use Rattle.cap_merge.specs.Run.{Clocked, opened_track, run}
 use Rattle.cap_source.specs.Feed.{Item}
 use Rattle.cap_source.specs.Items.{file_items, file_ending}
 use Rattle.cap_source.specs.declared.feeds.FileEnd.{FileEnd}
@@ -10,7 +10,7 @@ use Rattle.cap_source.specs.declared.packets.Format.TheVariants.{Pcap}
 
 -- the items of some files in the order of exact time, up to the first refusal
 abbrev pub run_of_lists : List (List Item) → List Item
-run_of_lists files = map (λ x. x.item) (run item_time is_refusal (map opened files))
+run_of_lists files = map (λ x. x.item) (run item_time is_refusal (map opened_track files))
 
 -- the items of files of those bytes, the first of which has that number
 abbrev pub items_of_files : Tail → ℕ → List (List ℕ) → List (List Item)
@@ -23,7 +23,7 @@ run_of_files tail files = run_of_lists (items_of_files tail 1 files)
 
 -- the same, each item with its clock
 abbrev pub clocked_run : Tail → List (List ℕ) → List (Clocked Item)
-clocked_run tail files = run item_time is_refusal (map opened (items_of_files tail 1 files))
+clocked_run tail files = run item_time is_refusal (map opened_track (items_of_files tail 1 files))
 
 -- how the file of a number ends, of files of those bytes, the first of which has the number `first`
 abbrev pub endings_from : Tail → ℕ → List (List ℕ) → ℕ → FileEnd

@@ -17,7 +17,7 @@ use Rattle.cap_source.specs.Feed.{Item, packet, refused, Feed}
 use Rattle.cap_source.specs.Times.{meta_time}
 use Rattle.cap_merge.specs.declared.lanes.Lane.{Lane}
 use Rattle.cap_time.specs.Clock.{clock_cmp}
-use Rattle.cap_merge.specs.inner.First.{Turn, coming_of, has_next, first_place}
+use Rattle.cap_merge.specs.inner.First.{Turn, head_coming, has_next, first_place}
 use Rattle.cap_merge.specs.Run.{Track, Clocked, run}
 
 abbrev pub head_time : Head → Option Stamp
@@ -58,16 +58,16 @@ parts (l ∷ ls) [] = []
 parts (l ∷ ls) (f ∷ fs) = part l f ∷ parts ls fs
 
 -- Feed i is of file i alone, from 1.
-abbrev pub IsNumbered : List Feed → Type 0
-IsNumbered feeds = map (λ f. f.files) feeds ≡ map (λ n. n ∷ []) (range_with_len 1 (length feeds))
+abbrev pub AreNumberedFeeds : List Feed → Type 0
+AreNumberedFeeds feeds = map (λ f. f.files) feeds ≡ map (λ n. n ∷ []) (range_with_len 1 (length feeds))
 
 -- What a lane says comes next is what its feed knows.
 abbrev pub Matches : Lane → Feed → Type 0
-Matches lane feed = coming_of (part lane feed).lane.head ≡ lane.next
+Matches lane feed = head_coming (part lane feed).lane.head ≡ lane.next
 
 -- What each lane says comes next is what its feed knows.
-abbrev pub Agrees : List Lane → List Feed → Type 0
-Agrees lanes feeds = map (λ p. coming_of p.lane.head) (parts lanes feeds) ≡ map (λ l. l.next) lanes
+abbrev pub LanesAgree : List Lane → List Feed → Type 0
+LanesAgree lanes feeds = map (λ p. head_coming p.lane.head) (parts lanes feeds) ≡ map (λ l. l.next) lanes
 
 -- the time of what is known to come next
 abbrev pub known_time : Option Head → Option Stamp
@@ -88,11 +88,11 @@ abbrev pub AreBounded : List Part → Type 0
 AreBounded ps = list_all (λ p. is_bounded p.lane.clock) ps ≡ true
 
 -- nothing comes any more
-abbrev pub is_end : Option Head → Bool
-is_end None = false
-is_end (Some (heads.Packet meta)) = false
-is_end (Some (heads.Refused refusal)) = false
-is_end (Some heads.End) = true
+abbrev pub is_end_head : Option Head → Bool
+is_end_head None = false
+is_end_head (Some (heads.Packet meta)) = false
+is_end_head (Some (heads.Refused refusal)) = false
+is_end_head (Some heads.End) = true
 
 -- the turn of a part
 abbrev pub turn : Part → Turn
@@ -103,16 +103,16 @@ abbrev pub turns : List Part → List Turn
 turns ps = map turn ps
 
 -- the part whose item comes first
-unfoldable pub first_of : List Part → Option Part
-first_of ps = option_and_then (slice_get ps) (first_place (turns ps))
+unfoldable pub first_part : List Part → Option Part
+first_part ps = option_and_then (slice_get ps) (first_place (turns ps))
 
-abbrev pub is_known : List Part → Bool
-is_known ps = list_all (λ p. is_some p.lane.head) ps
+abbrev pub are_known : List Part → Bool
+are_known ps = list_all (λ p. is_some p.lane.head) ps
 
 -- what comes next is known of each feed but that at a place
 abbrev pub known_but : List Part → ℕ → Bool
 known_but [] place = false
-known_but (p ∷ ps) zero = is_known ps
+known_but (p ∷ ps) zero = are_known ps
 known_but (p ∷ ps) (suc place) = is_some p.lane.head && known_but ps place
 
 -- the same if a packet was passed; else nothing is said
@@ -124,13 +124,13 @@ others_known ps (Some place) = known_but ps place
 abbrev pub OthersKnown : List Part → Option ℕ → Type 0
 OthersKnown ps passed = others_known ps passed ≡ true
 
-abbrev pub head_by : Option Part → Option Head
-head_by None = Some heads.End
-head_by (Some p) = p.lane.head
+abbrev pub part_head : Option Part → Option Head
+part_head None = Some heads.End
+part_head (Some p) = p.lane.head
 
 -- what comes next of all
 unfoldable pub known_of : List Part → Option Head
-known_of ps = if is_known ps then head_by (first_of ps) else None
+known_of ps = if are_known ps then part_head (first_part ps) else None
 
 abbrev pub frame_by : Option Part → List ℕ
 frame_by None = []
@@ -142,7 +142,7 @@ clock_by (Some p) = p.lane.clock
 
 -- the clock of what comes next of all
 unfoldable pub clock_of : List Part → Option Stamp
-clock_of ps = clock_by (first_of ps)
+clock_of ps = clock_by (first_part ps)
 
 -- each feed's items to come, after the clock that it has reached
 abbrev pub tracks : List Part → List (Track Item)
@@ -171,17 +171,17 @@ places_of [] file = 0
 places_of (p ∷ ps) file = if has_file p.feed.files file then p.feed.places file else places_of ps file
 
 -- whether the device of a file can fail, as its feed says
-unfoldable pub can_fail_of : List Part → ℕ → Bool
-can_fail_of [] file = false
-can_fail_of (p ∷ ps) file = if has_file p.feed.files file then p.feed.can_fail file else can_fail_of ps file
+unfoldable pub feeds_can_fail : List Part → ℕ → Bool
+feeds_can_fail [] file = false
+feeds_can_fail (p ∷ ps) file = if has_file p.feed.files file then p.feed.can_fail file else feeds_can_fail ps file
 
 -- the greatest of some numbers of the parts
 abbrev pub most_of : (Part → ℕ) → List Part → ℕ
 most_of number [] = 0
 most_of number (p ∷ ps) = max (number p) (most_of number ps)
 
-abbrev pub held_of : List Part → FeedHeld
-held_of ps =
+abbrev pub feeds_held : List Part → FeedHeld
+feeds_held ps =
     record {
       window = most_of (λ p. p.feed.held.window) ps;
       interfaces = most_of (λ p. p.feed.held.interfaces) ps;
@@ -194,25 +194,25 @@ left_of [] = 0
 left_of (p ∷ ps) = p.feed.left + left_of ps
 
 -- The feeds as one: the items to come are the run's. What comes next is known if that of each feed is.
-unfoldable pub feed_of : List Part → Feed
-feed_of ps =
+unfoldable pub merged_feed : List Part → Feed
+merged_feed ps =
     record {
       files = flat_map (λ p. p.feed.files) ps;
       told = list_all (λ p. p.feed.told) ps;
       items = map (λ x. x.item) (run_of ps);
       endings = endings_of ps;
       known = known_of ps;
-      frame = frame_by (first_of ps);
+      frame = frame_by (first_part ps);
       broken = broken_of ps;
       places = places_of ps;
       left = left_of ps;
-      can_fail = can_fail_of ps;
-      held = held_of ps;
+      can_fail = feeds_can_fail ps;
+      held = feeds_held ps;
     }
 
 -- The clock isn't above that of any item to come, whatever the devices do.
 abbrev pub ClocksFrom : Option Stamp → List Part → Type 0
-ClocksFrom clock ps = list_all (λ p. is_end p.lane.head || not (is_gt (clock_cmp clock p.lane.clock))) ps ≡ true
+ClocksFrom clock ps = list_all (λ p. is_end_head p.lane.head || not (is_gt (clock_cmp clock p.lane.clock))) ps ≡ true
 
 -- What is below the clocks of all items to come stays so.
 abbrev pub MovesClocks : List Part → List Part → Type 0

@@ -42,8 +42,8 @@ pub record Track (A : Type 0) : Type 0 where
   pub items : List A
 
 -- a file of which nothing was passed
-abbrev pub opened : {A : Type 0} → List A → Track A
-opened items = record { clock = None; items = items }
+abbrev pub opened_track : {A : Type 0} → List A → Track A
+opened_track items = record { clock = None; items = items }
 
 -- the items of a file from a place on, after which the file has reached a clock: each takes the clock on to its own
 -- time, if it has one

@@ -2,11 +2,12 @@
 ghost use Rattle.std.specs.Prelude.{◌≡◌, ◌<◌, ◌≤◌, List, replicate, length, true, is_some, None, Some, IfSome, map};
 ghost use Rattle.std.specs.List.{list_all};
 ghost use Rattle.cap_source.specs.Feed.{Feed, IsPacket};
-ghost use Rattle.cap_merge.specs.Parts.{part, parts, known_of, both_held, known_but, OthersKnown, Matches, Agrees};
-ghost use Rattle.cap_merge.specs.inner.First.{coming_of, fresh_lane, lane_at, has_item, lane_turn, lane_turns};
+ghost use Rattle.cap_merge.specs.Parts.{part, parts, known_of, both_held, known_but, OthersKnown, Matches, LanesAgree};
+ghost use Rattle.cap_merge.specs.inner.First.{head_coming, fresh_lane, lane_at, has_item, lane_turn, lane_turns};
 ghost use Rattle.cap_merge.specs.inner.First.{comes_before};
 ghost use Rattle.cap_merge.specs.inner.First.{sooner_place, first_place, IsFound};
-ghost use Rattle.cap_merge.specs.inner.Merge.{Answers, Asks, AsksAll, Shows, ShowsAt, IsPacketAt, PassesAt, PassesPart};
+ghost use Rattle.cap_merge.specs.inner.Merge.{LaneAnswers, Asks, AsksAll, LaneShows, ShowsAt, IsPacketAt, PassesAt};
+ghost use Rattle.cap_merge.specs.inner.Merge.{PassesPart};
 
 use arrayvec::ArrayVec;
 use cap_bytes::{Fault, Refusal};
@@ -98,7 +99,7 @@ pub(crate) fn new_lanes(count: usize) -> ArrayVec<Lane, 32>
 // What comes of a fault of a feed: a refusal is what comes next, another fault is answered.
 #[inline(never)]
 fn stop(lane: &mut Lane, fault: Fault) -> Result<(), Fault>
-    ensures { Answers lane.old fault result lane.new }
+    ensures { LaneAnswers lane.old fault result lane.new }
 {
     match fault {
         Fault::Refused(refusal) => {
@@ -148,9 +149,9 @@ fn ask<F: PacketFeed>(lane: &mut Lane, feed: &mut F) -> Result<(), Fault>
 #[inline(never)]
 fn ask_each<F: PacketFeed>(lanes: &mut [Lane], feeds: &mut [F]) -> Result<(), Fault>
     requires alike { length lanes.old ≡ length feeds.old }
-    requires agrees { Agrees lanes.old (map F.feed feeds.old) }
+    requires agrees { LanesAgree lanes.old (map F.feed feeds.old) }
     ensures asks { AsksAll (parts lanes.old (map F.feed feeds.old)) result (parts lanes.new (map F.feed feeds.new)) }
-    ensures agrees { Agrees lanes.new (map F.feed feeds.new) }
+    ensures agrees { LanesAgree lanes.new (map F.feed feeds.new) }
 {
     for i in 0..lanes.len() {
         ask(&mut lanes[i], &mut feeds[i])?;
@@ -162,11 +163,11 @@ fn ask_each<F: PacketFeed>(lanes: &mut [Lane], feeds: &mut [F]) -> Result<(), Fa
 #[inline(always)]
 fn ask_at<F: PacketFeed>(lanes: &mut [Lane], feeds: &mut [F], place: usize) -> Result<(), Fault>
     requires alike { length lanes.old ≡ length feeds.old }
-    requires agrees { Agrees lanes.old (map F.feed feeds.old) }
+    requires agrees { LanesAgree lanes.old (map F.feed feeds.old) }
     requires place { place < length lanes.old }
     requires others { known_but (parts lanes.old (map F.feed feeds.old)) place ≡ true }
     ensures asks { AsksAll (parts lanes.old (map F.feed feeds.old)) result (parts lanes.new (map F.feed feeds.new)) }
-    ensures agrees { Agrees lanes.new (map F.feed feeds.new) }
+    ensures agrees { LanesAgree lanes.new (map F.feed feeds.new) }
 {
     ask(&mut lanes[place], &mut feeds[place])
 }
@@ -175,7 +176,7 @@ fn ask_at<F: PacketFeed>(lanes: &mut [Lane], feeds: &mut [F], place: usize) -> R
 #[inline(always)]
 fn show<F: PacketFeed>(lane: &mut Lane, feed: &mut F) -> bool
     requires { Matches lane.old (F.feed feed.old) }
-    ensures shows { Shows (part lane.old (F.feed feed.old)) result (part lane.new (F.feed feed.new)) }
+    ensures shows { LaneShows (part lane.old (F.feed feed.old)) result (part lane.new (F.feed feed.new)) }
     ensures agrees { Matches lane.new (F.feed feed.new) }
     ensures packet { result ≡ true → lane.new.next ≡ Some Coming.Packet }
 {
@@ -196,12 +197,12 @@ fn show<F: PacketFeed>(lane: &mut Lane, feed: &mut F) -> bool
 #[inline(always)]
 fn show_at<F: PacketFeed>(lanes: &mut [Lane], feeds: &mut [F], place: usize) -> bool
     requires alike { length lanes.old ≡ length feeds.old }
-    requires agrees { Agrees lanes.old (map F.feed feeds.old) }
+    requires agrees { LanesAgree lanes.old (map F.feed feeds.old) }
     requires place { place < length lanes.old }
     requires others { known_but (parts lanes.old (map F.feed feeds.old)) place ≡ true }
     ensures shows { ShowsAt (parts lanes.old (map F.feed feeds.old)) place result
         (parts lanes.new (map F.feed feeds.new)) }
-    ensures agrees { Agrees lanes.new (map F.feed feeds.new) }
+    ensures agrees { LanesAgree lanes.new (map F.feed feeds.new) }
     ensures packet { result ≡ true → (lane_at lanes.new place).next ≡ Some Coming.Packet }
 {
     show(&mut lanes[place], &mut feeds[place])
@@ -215,12 +216,12 @@ pub(crate) fn show_next<F: PacketFeed>(
     place: usize,
 ) -> bool
     requires alike { length lanes.old.items ≡ length feeds.old.items }
-    requires agrees { Agrees lanes.old.items (map F.feed feeds.old.items) }
+    requires agrees { LanesAgree lanes.old.items (map F.feed feeds.old.items) }
     requires place { place < length lanes.old.items }
     requires others { known_but (parts lanes.old.items (map F.feed feeds.old.items)) place ≡ true }
     ensures shows { ShowsAt (parts lanes.old.items (map F.feed feeds.old.items)) place result
         (parts lanes.new.items (map F.feed feeds.new.items)) }
-    ensures agrees { Agrees lanes.new.items (map F.feed feeds.new.items) }
+    ensures agrees { LanesAgree lanes.new.items (map F.feed feeds.new.items) }
     ensures packet { result ≡ true → (lane_at lanes.new.items place).next ≡ Some Coming.Packet }
     ensures lanes { length lanes.new.items ≡ length lanes.old.items }
     ensures feeds { length feeds.new.items ≡ length feeds.old.items }
@@ -236,10 +237,10 @@ fn ask_unknown<F: PacketFeed>(
     passed: Option<usize>,
 ) -> Result<(), Fault>
     requires alike { length lanes.old ≡ length feeds.old }
-    requires agrees { Agrees lanes.old (map F.feed feeds.old) }
+    requires agrees { LanesAgree lanes.old (map F.feed feeds.old) }
     requires others { OthersKnown (parts lanes.old (map F.feed feeds.old)) passed }
     ensures asks { AsksAll (parts lanes.old (map F.feed feeds.old)) result (parts lanes.new (map F.feed feeds.new)) }
-    ensures agrees { Agrees lanes.new (map F.feed feeds.new) }
+    ensures agrees { LanesAgree lanes.new (map F.feed feeds.new) }
 {
     match passed {
         Some(place) => ask_at(lanes, feeds, place),
@@ -256,11 +257,11 @@ pub(crate) fn ask_all<F: PacketFeed>(
     passed: Option<usize>,
 ) -> Result<(), Fault>
     requires alike { length lanes.old.items ≡ length feeds.old.items }
-    requires agrees { Agrees lanes.old.items (map F.feed feeds.old.items) }
+    requires agrees { LanesAgree lanes.old.items (map F.feed feeds.old.items) }
     requires others { OthersKnown (parts lanes.old.items (map F.feed feeds.old.items)) passed }
     ensures asks { AsksAll (parts lanes.old.items (map F.feed feeds.old.items)) result
         (parts lanes.new.items (map F.feed feeds.new.items)) }
-    ensures agrees { Agrees lanes.new.items (map F.feed feeds.new.items) }
+    ensures agrees { LanesAgree lanes.new.items (map F.feed feeds.new.items) }
     ensures lanes { length lanes.new.items ≡ length lanes.old.items }
     ensures feeds { length feeds.new.items ≡ length feeds.old.items }
 {
@@ -358,8 +359,8 @@ pub(crate) fn coming_at(lanes: &[Lane], first: Option<usize>) -> Coming
     requires known { list_all (λ l. is_some l.next) lanes.now ≡ true }
     requires place { first ≡ first_place (lane_turns lanes.now) }
     requires within { IfSome first (λ n. n < length lanes.now) }
-    ensures { (feeds : List Feed) → length feeds ≡ length lanes.now → Agrees lanes.now feeds
-        → coming_of (known_of (parts lanes.now feeds)) ≡ Some result }
+    ensures { (feeds : List Feed) → length feeds ≡ length lanes.now → LanesAgree lanes.now feeds
+        → head_coming (known_of (parts lanes.now feeds)) ≡ Some result }
 {
     match first {
         Some(first) => match lanes[first].next {
@@ -385,8 +386,8 @@ pub(crate) fn is_packet_at(lanes: &[Lane], first: Option<usize>) -> bool
     requires known { list_all (λ l. is_some l.next) lanes.now ≡ true }
     requires place { first ≡ first_place (lane_turns lanes.now) }
     requires within { IfSome first (λ n. n < length lanes.now) }
-    ensures { (feeds : List Feed) → length feeds ≡ length lanes.now → Agrees lanes.now feeds → result ≡ true
-        → coming_of (known_of (parts lanes.now feeds)) ≡ Some Coming.Packet }
+    ensures { (feeds : List Feed) → length feeds ≡ length lanes.now → LanesAgree lanes.now feeds → result ≡ true
+        → head_coming (known_of (parts lanes.now feeds)) ≡ Some Coming.Packet }
 {
     match first {
         Some(first) => is_packet(&lanes[first].next),
@@ -418,11 +419,11 @@ fn pass_one<F: PacketFeed>(lane: &mut Lane, feed: &mut F)
 #[inline(always)]
 fn pass_at<F: PacketFeed>(lanes: &mut [Lane], feeds: &mut [F], place: usize)
     requires alike { length lanes.old ≡ length feeds.old }
-    requires agrees { Agrees lanes.old (map F.feed feeds.old) }
+    requires agrees { LanesAgree lanes.old (map F.feed feeds.old) }
     requires place { place < length lanes.old }
     requires packet { IsPacketAt (parts lanes.old (map F.feed feeds.old)) place }
     ensures passes { PassesAt (parts lanes.old (map F.feed feeds.old)) place (parts lanes.new (map F.feed feeds.new)) }
-    ensures agrees { Agrees lanes.new (map F.feed feeds.new) }
+    ensures agrees { LanesAgree lanes.new (map F.feed feeds.new) }
 {
     pass_one(&mut lanes[place], &mut feeds[place]);
 }
@@ -435,12 +436,12 @@ pub(crate) fn pass_first<F: PacketFeed>(
     place: usize,
 )
     requires alike { length lanes.old.items ≡ length feeds.old.items }
-    requires agrees { Agrees lanes.old.items (map F.feed feeds.old.items) }
+    requires agrees { LanesAgree lanes.old.items (map F.feed feeds.old.items) }
     requires place { place < length lanes.old.items }
     requires packet { IsPacketAt (parts lanes.old.items (map F.feed feeds.old.items)) place }
     ensures passes { PassesAt (parts lanes.old.items (map F.feed feeds.old.items)) place
         (parts lanes.new.items (map F.feed feeds.new.items)) }
-    ensures agrees { Agrees lanes.new.items (map F.feed feeds.new.items) }
+    ensures agrees { LanesAgree lanes.new.items (map F.feed feeds.new.items) }
     ensures lanes { length lanes.new.items ≡ length lanes.old.items }
     ensures feeds { length feeds.new.items ≡ length feeds.old.items }
 {

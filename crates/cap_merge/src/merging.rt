@@ -8,15 +8,17 @@ ghost use Rattle.cap_time.specs.declared.stamps.Stamp.{Stamp};
 ghost use Rattle.cap_time.specs.Stamp.{seconds_of};
 ghost use Rattle.cap_time.specs.Clock.{clock_cmp};
 ghost use Rattle.cap_source.specs.declared.feeds.Head.{Head};
-ghost use Rattle.cap_source.specs.Feed.{GivesHead, Keeps, KeepsItems, FindsPacket, FindsItem, Passes, IsPacket};
-ghost use Rattle.cap_merge.specs.Run.{opened, run};
-ghost use Rattle.cap_merge.specs.Parts.{item_time, is_refusal, parts, IsNumbered, Agrees, HasReached, AreBounded};
-ghost use Rattle.cap_merge.specs.Parts.{feed_of, new_parts, clock_of, run_of, OthersKnown, ClocksFrom, MovesClocks};
+ghost use Rattle.cap_source.specs.Feed.{GivesHead, FeedKeeps, KeepsItems, FindsPacket, FindsItem, FeedPasses, IsPacket};
+ghost use Rattle.cap_merge.specs.Run.{opened_track, run};
+ghost use Rattle.cap_merge.specs.Parts.{item_time, is_refusal, parts, AreNumberedFeeds, LanesAgree, HasReached};
+ghost use Rattle.cap_merge.specs.Parts.{AreBounded};
+ghost use Rattle.cap_merge.specs.Parts.{merged_feed, new_parts, clock_of, run_of, OthersKnown, ClocksFrom, MovesClocks};
 ghost use Rattle.cap_merge.specs.Parts.{KeepsRun, ShowsRun, BeginsAt, turns};
-ghost use Rattle.cap_merge.specs.inner.First.{coming_of, has_next, first_place, found_of, passed_of, IsFound};
+ghost use Rattle.cap_merge.specs.inner.First.{head_coming, has_next, first_place, found_of, passed_of, IsFound};
 ghost use Rattle.cap_merge.specs.inner.First.{IsFound-prop};
 ghost use Rattle.cap_merge.specs.inner.Merge.{AsksAll, LooksAll, TellsNext, ShowsFirst};
-ghost use Rattle.cap_merge.specs.inner.PartsProps.{IsNumbered-prop, Agrees-prop, HasReached-prop, AreBounded-prop};
+ghost use Rattle.cap_merge.specs.inner.PartsProps.{AreNumberedFeeds-prop, Agrees-prop, HasReached-prop};
+ghost use Rattle.cap_merge.specs.inner.PartsProps.{AreBounded-prop};
 ghost use Rattle.cap_merge.specs.inner.PartsProps.{OthersKnown-prop};
 
 use crate::lanes::{
@@ -38,8 +40,8 @@ pub struct Merged<F: PacketFeed> {
     ghost alike: { length lanes.items ≡ length feeds.items },
     ghost some: { 1 ≤ length feeds.items },
     ghost most: { length feeds.items ≤ 32 },
-    ghost numbered: { IsNumbered (map F.feed feeds.items) } by { IsNumbered-prop _ },
-    ghost agrees: { Agrees lanes.items (map F.feed feeds.items) } by { Agrees-prop _ _ },
+    ghost numbered: { AreNumberedFeeds (map F.feed feeds.items) } by { AreNumberedFeeds-prop _ },
+    ghost agrees: { LanesAgree lanes.items (map F.feed feeds.items) } by { Agrees-prop _ _ },
     ghost reached: { HasReached (parts lanes.items (map F.feed feeds.items)) } by { HasReached-prop (parts lanes.items (map F.feed feeds.items)) },
     ghost bounded: { AreBounded (parts lanes.items (map F.feed feeds.items)) } by { AreBounded-prop (parts lanes.items (map F.feed feeds.items)) },
     ghost found: { IsFound lanes.items (found_of front) } by { IsFound-prop _ _ },
@@ -66,10 +68,10 @@ impl<F: PacketFeed> Merged<F> {
     pub fn new(feeds: Vec<F>) -> Merged<F>
         requires some { 1 ≤ vec_len feeds }
         requires most { vec_len feeds ≤ 32 }
-        requires numbered { IsNumbered (map F.feed feeds.items) }
+        requires numbered { AreNumberedFeeds (map F.feed feeds.items) }
         ensures parts { parts_of result ≡ new_parts (map F.feed feeds.items) }
         ensures run { run_of (parts_of result)
-            ≡ run item_time is_refusal (map (λ f. opened f.items) (map F.feed feeds.items)) }
+            ≡ run item_time is_refusal (map (λ f. opened_track f.items) (map F.feed feeds.items)) }
     {
         let lanes = new_lanes(feeds.len());
         Merged {
@@ -81,8 +83,8 @@ impl<F: PacketFeed> Merged<F> {
 
     /// How many feeds there are, each of one file: at most 32. The files are numbered from 1 on.
     pub fn files(&self) -> u32
-        ensures files { result ≡ length (feed_of (parts_of self.now)).files }
-        ensures numbered { (feed_of (parts_of self.now)).files ≡ range_with_len 1 result }
+        ensures files { result ≡ length (merged_feed (parts_of self.now)).files }
+        ensures numbered { (merged_feed (parts_of self.now)).files ≡ range_with_len 1 result }
         ensures most { result ≤ 32 }
     {
         self.feeds.len() as u32
@@ -99,13 +101,13 @@ impl<F: PacketFeed> Merged<F> {
     /// The clock of what comes next: the greatest time of the packets of its file up to it, and none
     /// if there is no such time. Its seconds are below 2^65.
     pub fn clock(&self) -> Option<Stamp>
-        requires { has_next (feed_of (parts_of self.now)).known ≡ true }
+        requires { has_next (merged_feed (parts_of self.now)).known ≡ true }
         ensures clock { result ≡ clock_of (parts_of self.now) }
         ensures bounded { IfSome result (λ clock. seconds_of clock <ℤ pos (2 ^ 65)) }
         ensures from { ClocksFrom result (parts_of self.now) }
         ensures not_below { (clock : Option Stamp) → ClocksFrom clock (parts_of self.now)
             → is_gt (clock_cmp clock result) ≡ false }
-        ensures run { IsTrue (feed_of (parts_of self.now)).told
+        ensures run { IsTrue (merged_feed (parts_of self.now)).told
             → BeginsAt result (run_of (parts_of self.now)) }
     {
         match self.first_place() {
@@ -118,15 +120,15 @@ impl<F: PacketFeed> Merged<F> {
     /// that it is of.
     #[inline(always)]
     pub fn next_packet(&self) -> RunPacket<'_>
-        requires { IsPacket (feed_of (parts_of self.now)).known }
+        requires { IsPacket (merged_feed (parts_of self.now)).known }
         ensures clock { result.clock.now ≡ clock_of (parts_of self.now) }
         ensures from { ClocksFrom result.clock.now (parts_of self.now) }
         ensures not_below { (clock : Option Stamp) → ClocksFrom clock (parts_of self.now)
             → is_gt (clock_cmp clock result.clock.now) ≡ false }
-        ensures run { IsTrue (feed_of (parts_of self.now)).told
+        ensures run { IsTrue (merged_feed (parts_of self.now)).told
             → BeginsAt result.clock.now (run_of (parts_of self.now)) }
-        ensures packet { (feed_of (parts_of self.now)).known ≡ Some (Head.Packet result.meta.now) }
-        ensures frame { result.frame.now ≡ (feed_of (parts_of self.now)).frame }
+        ensures packet { (merged_feed (parts_of self.now)).known ≡ Some (Head.Packet result.meta.now) }
+        ensures frame { result.frame.now ≡ (merged_feed (parts_of self.now)).frame }
     {
         match self.first_place() {
             Some(place) => RunPacket {
@@ -151,7 +153,7 @@ impl<F: PacketFeed> Merged<F> {
     #[inline(always)]
     fn look(&mut self) -> Result<Coming, Fault>
         ensures asks { AsksAll (parts_of self.old) result (parts_of self.new) }
-        ensures next { IfOk result (λ coming. coming_of (feed_of (parts_of self.new)).known ≡ Some coming) }
+        ensures next { IfOk result (λ coming. head_coming (merged_feed (parts_of self.new)).known ≡ Some coming) }
     {
         let passed = self.front.passed();
         self.front = Front::Unknown;
@@ -188,7 +190,7 @@ impl<F: PacketFeed> Merged<F> {
     #[inline(never)]
     fn find(&mut self) -> Result<bool, Fault>
         ensures asks { LooksAll (parts_of self.old) result (parts_of self.new) }
-        ensures next { TellsNext (feed_of (parts_of self.new)).known result }
+        ensures next { TellsNext (merged_feed (parts_of self.new)).known result }
     {
         match self.look()? {
             Coming::Packet => Ok(true),
@@ -202,20 +204,20 @@ impl<F: PacketFeed> PacketFeed for Merged<F> {
     ghost use Rattle.cap_merge.specs.inner.MergedLaws.{merged-is-feed};
     ghost use Rattle.cap_merge.specs.inner.View.{parts_of};
 
-    ghost feed = { λ m. feed_of (parts_of m) };
+    ghost feed = { λ m. merged_feed (parts_of m) };
 
     ghost lawful = { λ m. merged-is-feed m F.lawful };
 
     fn head(&mut self) -> Result<Head, Fault>
-        ensures answer { GivesHead (feed_of (parts_of self.old)) result
-            (feed_of (parts_of self.new)) }
-        ensures keeps { Keeps (feed_of (parts_of self.old))
-            (feed_of (parts_of self.new)) }
-        ensures items { IsTrue (feed_of (parts_of self.old)).told
-            → KeepsItems (feed_of (parts_of self.old)) result
-            (feed_of (parts_of self.new)) }
+        ensures answer { GivesHead (merged_feed (parts_of self.old)) result
+            (merged_feed (parts_of self.new)) }
+        ensures keeps { FeedKeeps (merged_feed (parts_of self.old))
+            (merged_feed (parts_of self.new)) }
+        ensures items { IsTrue (merged_feed (parts_of self.old)).told
+            → KeepsItems (merged_feed (parts_of self.old)) result
+            (merged_feed (parts_of self.new)) }
         ensures asks { AsksAll (parts_of self.old) result (parts_of self.new) }
-        ensures run { IsTrue (feed_of (parts_of self.old)).told
+        ensures run { IsTrue (merged_feed (parts_of self.old)).told
             → KeepsRun (parts_of self.old) result (parts_of self.new) }
         ensures clocks { MovesClocks (parts_of self.old) (parts_of self.new) }
     {
@@ -228,15 +230,15 @@ impl<F: PacketFeed> PacketFeed for Merged<F> {
 
     #[inline(always)]
     fn has_packet(&mut self) -> Result<bool, Fault>
-        ensures answer { FindsPacket (feed_of (parts_of self.old)) result
-            (feed_of (parts_of self.new)) }
-        ensures keeps { Keeps (feed_of (parts_of self.old))
-            (feed_of (parts_of self.new)) }
-        ensures items { IsTrue (feed_of (parts_of self.old)).told
-            → FindsItem (feed_of (parts_of self.old)) result
-            (feed_of (parts_of self.new)) }
+        ensures answer { FindsPacket (merged_feed (parts_of self.old)) result
+            (merged_feed (parts_of self.new)) }
+        ensures keeps { FeedKeeps (merged_feed (parts_of self.old))
+            (merged_feed (parts_of self.new)) }
+        ensures items { IsTrue (merged_feed (parts_of self.old)).told
+            → FindsItem (merged_feed (parts_of self.old)) result
+            (merged_feed (parts_of self.new)) }
         ensures asks { LooksAll (parts_of self.old) result (parts_of self.new) }
-        ensures run { IsTrue (feed_of (parts_of self.old)).told
+        ensures run { IsTrue (merged_feed (parts_of self.old)).told
             → ShowsRun (parts_of self.old) result (parts_of self.new) }
         ensures clocks { MovesClocks (parts_of self.old) (parts_of self.new) }
     {
@@ -267,12 +269,12 @@ impl<F: PacketFeed> PacketFeed for Merged<F> {
     }
 
     fn pass(&mut self)
-        requires packet { IsPacket (feed_of (parts_of self.old)).known }
-        ensures passes { Passes (feed_of (parts_of self.old))
-            (feed_of (parts_of self.new)) }
-        ensures keeps { Keeps (feed_of (parts_of self.old))
-            (feed_of (parts_of self.new)) }
-        ensures run { IsTrue (feed_of (parts_of self.old)).told
+        requires packet { IsPacket (merged_feed (parts_of self.old)).known }
+        ensures passes { FeedPasses (merged_feed (parts_of self.old))
+            (merged_feed (parts_of self.new)) }
+        ensures keeps { FeedKeeps (merged_feed (parts_of self.old))
+            (merged_feed (parts_of self.new)) }
+        ensures run { IsTrue (merged_feed (parts_of self.old)).told
             → run_of (parts_of self.new) ≡ drop 1 (run_of (parts_of self.old)) }
         ensures clocks { ClocksFrom (clock_of (parts_of self.old)) (parts_of self.new) }
     {

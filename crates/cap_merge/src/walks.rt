@@ -1,8 +1,8 @@
 //! Going through a run, packet by packet.
 ghost use Rattle.std.specs.Prelude.{IsTrue};
-ghost use Rattle.cap_merge.specs.Parts.{ShowsRun, feed_of};
+ghost use Rattle.cap_merge.specs.Parts.{ShowsRun, merged_feed};
 ghost use Rattle.cap_merge.specs.inner.View.{parts_of};
-ghost use Rattle.cap_source.specs.Feed.{Keeps};
+ghost use Rattle.cap_source.specs.Feed.{FeedKeeps};
 ghost use Rattle.cap_source.specs.inner.Walk.{GivesPacket, ShowsItem};
 
 use crate::merging::Merged;
@@ -14,11 +14,11 @@ use cap_source::{Meta, PacketFeed};
 /// the same, unless `Read` is answered.
 #[inline(always)]
 pub fn next_of<F: PacketFeed>(merged: &mut Merged<F>) -> Result<Option<Meta>, Fault>
-    ensures answer { GivesPacket (feed_of (parts_of merged.old)) result (feed_of (parts_of merged.new)) }
-    ensures keeps { Keeps (feed_of (parts_of merged.old)) (feed_of (parts_of merged.new)) }
-    ensures items { IsTrue (feed_of (parts_of merged.old)).told
-        → ShowsItem (feed_of (parts_of merged.old)) result (feed_of (parts_of merged.new)) }
-    ensures run { IsTrue (feed_of (parts_of merged.old)).told
+    ensures answer { GivesPacket (merged_feed (parts_of merged.old)) result (merged_feed (parts_of merged.new)) }
+    ensures keeps { FeedKeeps (merged_feed (parts_of merged.old)) (merged_feed (parts_of merged.new)) }
+    ensures items { IsTrue (merged_feed (parts_of merged.old)).told
+        → ShowsItem (merged_feed (parts_of merged.old)) result (merged_feed (parts_of merged.new)) }
+    ensures run { IsTrue (merged_feed (parts_of merged.old)).told
         → ShowsRun (parts_of merged.old) result (parts_of merged.new) }
 {
     if merged.has_packet()? {

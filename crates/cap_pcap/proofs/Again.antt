@@ -11,7 +11,8 @@ use Rattle.cap_time.specs.declared.stamps.Unit.{Unit as Fraction}
 use Rattle.cap_time.specs.declared.stamps.Unit.TheVariants.{Micro, Nano}
 use Rattle.cap_pcap.specs.Grammar.{magic_of, SpellsHeader, header_bytes, head_bytes, record_bytes}
 use Rattle.cap_pcap.specs.inner.Laws.{HeaderRead, HeaderAgain, RecordAgain}
-use Rattle.cap_pcap.specs.Split.{is_magic, order_at, unit_at, header_fault, header_at, file_items, items_from}
+use Rattle.cap_pcap.specs.Split.{is_magic, pcap_order_at, pcap_unit_at, pcap_header_fault, header_at, pcap_file_items}
+use Rattle.cap_pcap.specs.Split.{record_items_from}
 use Rattle.cap_pcap.specs.declared.headers.PcapHeader.{PcapHeader}
 use Rattle.cap_pcap.proofs.Faults.{FitsHeader, header_fault-fits}
 use Rattle.cap_bytes.proofs.Spelling.{number-drop_append}
@@ -25,8 +26,8 @@ flipped Nano = 0x4D3CB2A1
 -- The magic tells its order and its unit.
 record Tells (order : Order) (unit : Fraction) (bytes : List ℕ) : Type 0 where
   there : (is_magic Big bytes || is_magic Little bytes) ≡ true
-  order_is : order_at bytes ≡ order
-  unit_is : unit_at order bytes ≡ unit
+  order_is : pcap_order_at bytes ≡ order
+  unit_is : pcap_unit_at order bytes ≡ unit
 
 tells : (order : Order) (unit : Fraction) (bytes : List ℕ) → number order 4 bytes ≡ magic_of unit
     → (order ≡ Little → number Big 4 bytes ≡ flipped unit) → Tells order unit bytes
@@ -44,7 +45,7 @@ flips unit bytes small magic = grind arith
 
 reads : (header : PcapHeader) (bytes rest : List ℕ) → SpellsHeader header bytes
     → (header.order ≡ Little → number Big 4 bytes ≡ flipped header.unit)
-    → (header_fault 0 (bytes ++ rest) ≡ None) × (header_at (bytes ++ rest) ≡ header)
+    → (pcap_header_fault 0 (bytes ++ rest) ≡ None) × (header_at (bytes ++ rest) ≡ header)
 unfolding header_at
 reads header bytes rest s flip =
     let size = s.size in
@@ -148,11 +149,11 @@ flips_bytes header little = grind (arith, append_assoc, flipped, flipped_bytes)
 
 written_items : (header : PcapHeader) → SpellsHeader header (header_bytes header)
     → (tail : Tail) (file : ℕ) (rest : List ℕ)
-    → file_items tail file 0 (header_bytes header ++ rest) ≡ items_from header tail file 24 rest
-unfolding file_items
+    → pcap_file_items tail file 0 (header_bytes header ++ rest) ≡ record_items_from header tail file 24 rest
+unfolding pcap_file_items
 written_items header s tail file rest =
     let r = reads header (header_bytes header) rest s (flips_bytes header) in
-    rw (r.0, r.1) (ap (items_from header tail file 24) (drop_at (header_bytes header) rest 24 s.size))
+    rw (r.0, r.1) (ap (record_items_from header tail file 24) (drop_at (header_bytes header) rest 24 s.size))
 
 pub header_again-law : HeaderAgain
 header_again-law header snaplen link =
@@ -161,6 +162,6 @@ header_again-law header snaplen link =
 
 -- it is read again as that header, whatever follows
 pub header_at-text : (header : PcapHeader) (rest : List ℕ) → header.snaplen < 2 ^ 32 → header.link < 2 ^ 16
-    → (header_fault 0 (header_bytes header ++ rest) ≡ None) × (header_at (header_bytes header ++ rest) ≡ header)
+    → (pcap_header_fault 0 (header_bytes header ++ rest) ≡ None) × (header_at (header_bytes header ++ rest) ≡ header)
 header_at-text header rest snaplen link = reads header (header_bytes header) rest (spelled header snaplen link)
     (flips_bytes header)

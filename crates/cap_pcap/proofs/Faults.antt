@@ -9,8 +9,9 @@ use Rattle.cap_bytes.specs.declared.faults.Rule.TheVariants.{Cut}
 use Rattle.cap_bytes.specs.declared.faults.Tail.{Tail}
 use Rattle.cap_bytes.specs.declared.numbers.Order.{Order}
 use Rattle.cap_bytes.specs.declared.numbers.Order.TheVariants.{Big, Little}
-use Rattle.cap_pcap.specs.Split.{is_magic, is_version, order_at, record_fault, captured_at, header_fault, header_at}
-use Rattle.cap_pcap.specs.Split.{stop_at}
+use Rattle.cap_pcap.specs.Split.{is_magic, is_pcap_version, pcap_order_at, record_fault, captured_at, pcap_header_fault}
+use Rattle.cap_pcap.specs.Split.{header_at}
+use Rattle.cap_pcap.specs.Split.{record_stop_at}
 use Rattle.cap_bytes.proofs.Spelling.{number-drop_append}
 use Rattle.cap_bytes.proofs.Items.{stop_where-whole, no_fault}
 use Rattle.cap_bytes.proofs.Spelling.{number-append}
@@ -75,11 +76,11 @@ record_fault-cut order offset bytes head captured limit few = grind (arith, nat_
 
 -- if nothing ends the records, no condition is met
 pub stop_at-fits : (order : Order) (tail : Tail) (file offset : ℕ) (bytes : List ℕ) → Fits order offset bytes
-    → stop_at order tail file offset bytes ≡ None
+    → record_stop_at order tail file offset bytes ≡ None
 stop_at-fits order tail file offset bytes f = grind (arith, stop_where-whole, record_fault-fits)
 
 pub Fits-from_stop_at : (order : Order) (tail : Tail) (file offset : ℕ) (bytes : List ℕ)
-    → stop_at order tail file offset bytes ≡ None → Fits order offset bytes
+    → record_stop_at order tail file offset bytes ≡ None → Fits order offset bytes
 Fits-from_stop_at order tail file offset bytes h = search (Fits-from_none, no_fault)
 
 -- The header is told by the first 24 bytes alone.
@@ -87,8 +88,8 @@ same_fault : (offset : ℕ) (xs zs : List ℕ) → 24 ≤ length xs → 24 ≤ l
     → ((order : Order) → number order 4 zs ≡ number order 4 xs)
     → ((order : Order) → number order 2 (drop 4 zs) ≡ number order 2 (drop 4 xs))
     → ((order : Order) → number order 2 (drop 6 zs) ≡ number order 2 (drop 6 xs))
-    → header_fault offset zs ≡ header_fault offset xs
-unfolding header_fault
+    → pcap_header_fault offset zs ≡ pcap_header_fault offset xs
+unfolding pcap_header_fault
 same_fault offset xs zs long longer magic major minor = grind arith
 
 same_header : (xs zs : List ℕ)
@@ -101,7 +102,7 @@ same_header xs zs magic snaplen link = grind arith
 
 -- more bytes after the header make no difference
 pub header_fault-append : (offset : ℕ) (xs ys : List ℕ) → 24 ≤ length xs
-    → header_fault offset (xs ++ ys) ≡ header_fault offset xs
+    → pcap_header_fault offset (xs ++ ys) ≡ pcap_header_fault offset xs
 header_fault-append offset xs ys h =
     same_fault offset xs (xs ++ ys) h (omega (arith, length-append xs ys))
     (λ order. number-append order 4 xs ys (omega arith))
@@ -126,11 +127,12 @@ captured_at-front order xs zs h front =
 pub record FitsHeader (offset : ℕ) (bytes : List ℕ) : Type 0 where
   pub whole : 24 ≤ length bytes
   pub magic : (is_magic Big bytes || is_magic Little bytes) ≡ true
-  pub version : is_version (order_at bytes) bytes ≡ true
+  pub version : is_pcap_version (pcap_order_at bytes) bytes ≡ true
   pub limit : offset + 24 ≤ 2 ^ 40
 
-pub FitsHeader-from_none : (offset : ℕ) (bytes : List ℕ) → header_fault offset bytes ≡ None → FitsHeader offset bytes
-unfolding header_fault
+pub FitsHeader-from_none : (offset : ℕ) (bytes : List ℕ) → pcap_header_fault offset bytes ≡ None
+    → FitsHeader offset bytes
+unfolding pcap_header_fault
 FitsHeader-from_none offset bytes h = record {
   whole = grind (arith, nat_tests);
   magic = grind (arith, nat_tests);
@@ -138,6 +140,6 @@ FitsHeader-from_none offset bytes h = record {
   limit = grind (arith, nat_tests);
 }
 
-pub header_fault-fits : (offset : ℕ) (bytes : List ℕ) → FitsHeader offset bytes → header_fault offset bytes ≡ None
-unfolding header_fault
+pub header_fault-fits : (offset : ℕ) (bytes : List ℕ) → FitsHeader offset bytes → pcap_header_fault offset bytes ≡ None
+unfolding pcap_header_fault
 header_fault-fits offset bytes f = grind (arith, nat_tests)

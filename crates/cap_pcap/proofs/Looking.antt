@@ -7,7 +7,8 @@ use Rattle.std.proofs.lemmas.List.{nil_from_length, take_all}
 use Rattle.cap_bytes.specs.Items.{stop_by}
 use Rattle.cap_bytes.specs.inner.Parsing.{SeesStop, FailsBy}
 use Rattle.cap_bytes.specs.inner.Reach.{ReachesTo, Reaches, size_found}
-use Rattle.cap_bytes.specs.inner.Window.{State, Shows, Needs, Keeps, Passes, coming, position, read_to}
+use Rattle.cap_bytes.specs.inner.Window.{WindowState, WindowShows, Needs, WindowKeeps, WindowPasses, coming, position}
+use Rattle.cap_bytes.specs.inner.Window.{read_to}
 use Rattle.cap_bytes.specs.declared.faults.Fault.{Fault}
 use Rattle.cap_bytes.specs.declared.faults.Rule.{Rule}
 use Rattle.cap_bytes.specs.declared.faults.Rule.TheVariants.{Cut}
@@ -18,8 +19,8 @@ use Rattle.cap_bytes.proofs.Parsing.{all_shown, longer_shown, Shows-trans, Fails
 use Rattle.cap_bytes.proofs.Parsing.{SeesStop-fault, SeesStop-end}
 use Rattle.cap_bytes.proofs.Reach.{Reaches-need, Reaches-later, ReachesTo-looks}
 use Rattle.cap_pcap.specs.inner.Reader.{record_size}
-use Rattle.cap_pcap.specs.inner.Parsing.{SeesHeader, SeesRecord, Measures}
-use Rattle.cap_pcap.specs.Split.{header_fault, header_at, captured_at, record_fault, record_at, stop_at}
+use Rattle.cap_pcap.specs.inner.Parsing.{SeesPcapHeader, SeesRecord, Measures}
+use Rattle.cap_pcap.specs.Split.{pcap_header_fault, header_at, captured_at, record_fault, record_at, record_stop_at}
 use Rattle.cap_pcap.specs.declared.headers.PcapHeader.{PcapHeader}
 use Rattle.cap_pcap.proofs.Faults.{Fits, FitsHeader-from_none, Fits-append, captured_at-append, captured_at-front}
 use Rattle.cap_pcap.proofs.Faults.{header_fault-append, header_at-append, record_fault-append, record_fault-cut}
@@ -27,32 +28,33 @@ use Rattle.cap_pcap.proofs.Faults.{stop_at-fits}
 use Rattle.cap_pcap.proofs.Spelling.{SpellsRecord-at}
 
 -- the header of what is shown
-pub SeesHeader-parsed : (there : Bool) (old new : State) (header : PcapHeader) → Needs 24 old (Ok there) new
-    → header_fault old.offset new.shown ≡ None → header ≡ header_at new.shown → SeesHeader header old new
+pub SeesHeader-parsed : (there : Bool) (old new : WindowState) (header : PcapHeader) → Needs 24 old (Ok there) new
+    → pcap_header_fault old.offset new.shown ≡ None → header ≡ header_at new.shown → SeesPcapHeader header old new
 SeesHeader-parsed there old new header n none is =
     grind (arith, FitsHeader-from_none, header_fault-append, header_at-append)
 
 -- it is refused
-pub SeesStop-header : (there : Bool) (tail : Tail) (old new : State) (rule : Rule) → Needs 24 old (Ok there) new
-    → header_fault old.offset new.shown ≡ Some rule
-    → SeesStop false (header_fault old.offset (coming old)) tail
+pub SeesStop-header : (there : Bool) (tail : Tail) (old new : WindowState) (rule : Rule) → Needs 24 old (Ok there) new
+    → pcap_header_fault old.offset new.shown ≡ Some rule
+    → SeesStop false (pcap_header_fault old.offset (coming old)) tail
     (stops.Refused (record { file = old.file; offset = old.offset; rule = rule })) old new
 SeesStop-header true tail old new rule n fault =
     SeesStop-fault false _ tail rule old new n.0.goes (λ t. refl)
-    (λ t. ap (header_fault old.offset) (sym (n.0.coming_same t))
+    (λ t. ap (pcap_header_fault old.offset) (sym (n.0.coming_same t))
     ∙ (header_fault-append old.offset new.shown new.unread n.1 ∙ fault))
 SeesStop-header false tail old new rule n fault =
     SeesStop-fault false _ tail rule old new n.0.goes (λ t. refl)
-    (λ t. ap (header_fault old.offset) (all_shown old new n.0 n.2 t) ∙ fault)
+    (λ t. ap (pcap_header_fault old.offset) (all_shown old new n.0 n.2 t) ∙ fault)
 
-module _ (header : PcapHeader) (tail : Tail) (old : State) where
+module _ (header : PcapHeader) (tail : Tail) (old : WindowState) where
   -- no record is there, since nothing is
-  pub SeesStop-none : (new : State) → Needs 16 old (Ok false) new → length new.shown ≡ 0
+  pub SeesStop-none : (new : WindowState) → Needs 16 old (Ok false) new → length new.shown ≡ 0
       → SeesStop true (record_fault header.order old.offset (coming old)) tail stops.End old new
   SeesStop-none new n none = grind (arith, SeesStop-end, all_shown, nil_from_length)
 
   -- no record is there, since the input ends inside it
-  pub SeesStop-cut : (new : State) → Shows old new → (IsTrue old.told → new.unread ≡ []) → 0 < length new.shown
+  pub SeesStop-cut : (new : WindowState) → WindowShows old new → (IsTrue old.told → new.unread ≡ [])
+      → 0 < length new.shown
       → record_fault header.order old.offset new.shown ≡ Some Cut
       → SeesStop true (record_fault header.order old.offset (coming old)) tail
       (stop_by true tail old.file old.offset Cut) old new
@@ -61,7 +63,7 @@ module _ (header : PcapHeader) (tail : Tail) (old : State) where
       (λ t. ap (record_fault header.order old.offset) (all_shown old new s none t) ∙ fault)
 
   -- no record is there, since another condition is met
-  pub SeesStop-broken : (new : State) (rule : Rule) → Shows old new → 0 < length new.shown
+  pub SeesStop-broken : (new : WindowState) (rule : Rule) → WindowShows old new → 0 < length new.shown
       → Some rule ≡ record_fault header.order old.offset new.shown → (rule ≡ Cut → ⊥)
       → SeesStop true (record_fault header.order old.offset (coming old)) tail
       (stop_by true tail old.file old.offset rule) old new
@@ -71,7 +73,7 @@ module _ (header : PcapHeader) (tail : Tail) (old : State) where
       ∙ record_fault-append header.order old.offset new.shown new.unread rule (sym fault) other)
 
   -- what is seen in a second look, of all the bytes that the record takes
-  module _ (b c : State) (size : ℕ) (p : Shows old b) (k : Keeps old b) (head : 16 ≤ length b.shown)
+  module _ (b c : WindowState) (size : ℕ) (p : WindowShows old b) (k : WindowKeeps old b) (head : 16 ≤ length b.shown)
       (is : size ≡ 16 + captured_at header.order b.shown) (few : size ≤ 262160) where
     pub FailsBy-second : (f : Fault) → Needs size b (Err f) c
         → FailsBy 262160 (old.room < 16 + captured_at header.order (coming old)) old f c
@@ -129,13 +131,13 @@ module _ (header : PcapHeader) (tail : Tail) (old : State) where
           limit = omega (arith, fits.limit, shows.offset);
           offset = refl;
           spelled = SpellsRecord-at header.order header.unit old.offset c.shown fits;
-          none = λ t. ap (stop_at header.order tail old.file old.offset) (sym (shows.coming_same t))
+          none = λ t. ap (record_stop_at header.order tail old.file old.offset) (sym (shows.coming_same t))
               ∙ stop_at-fits header.order tail old.file old.offset (coming c)
               (Fits-append header.order old.offset c.shown c.unread fits);
         }
 
 -- A record is shown already, after the bytes that are passed.
-pub SeesRecord-shown : (header : PcapHeader) (tail : Tail) (new : State) (size : ℕ) → new.broken ≡ None
+pub SeesRecord-shown : (header : PcapHeader) (tail : Tail) (new : WindowState) (size : ℕ) → new.broken ≡ None
     → 16 ≤ length new.shown
     → size ≡ 16 + captured_at header.order new.shown → size ≤ 262160 → new.offset + size ≤ 2 ^ 40
     → size ≤ length new.shown
@@ -164,8 +166,8 @@ SeesRecord-shown header tail new size whole head is few limit enough =
           (Fits-append header.order new.offset new.shown new.unread fits);
     }
 
-pub SeesRecord-passed : (header : PcapHeader) (tail : Tail) (w u : State) (given size offset : ℕ) (bytes : List ℕ)
-    → Passes given w u → bytes ≡ drop given w.shown
+pub SeesRecord-passed : (header : PcapHeader) (tail : Tail) (w u : WindowState) (given size offset : ℕ) (bytes : List ℕ)
+    → WindowPasses given w u → bytes ≡ drop given w.shown
     → offset ≡ w.offset + given → w.broken ≡ None → given + 16 ≤ length w.shown
     → Measures header.order offset bytes (Ok size) → size ≤ length bytes
     → SeesRecord header tail (record_at header.order header.unit offset bytes) u u

@@ -4,9 +4,9 @@ use Rattle.std.proofs.Common.{true, false, IsTrue, Result, refl, sym, ◌∙◌,
 use Rattle.std.proofs.Common.{length-take-le}
 use Rattle.std.proofs.lemmas.List.{take-append-le}
 use Rattle.cap_bytes.specs.Items.{stop_where, given, stopped, items_by_stop}
-use Rattle.cap_bytes.specs.inner.Reader.{State, Keeps}
+use Rattle.cap_bytes.specs.inner.Reader.{ReaderState, ReaderKeeps}
 use Rattle.cap_bytes.specs.inner.Reach.{ReachesTo}
-use Rattle.cap_bytes.specs.inner.Window.{State as WindowState, Passes, coming, read_to}
+use Rattle.cap_bytes.specs.inner.Window.{WindowState, WindowPasses, coming, read_to}
 use Rattle.cap_bytes.specs.declared.faults.Fault.{Fault}
 use Rattle.cap_bytes.specs.declared.faults.Rule.{Rule}
 use Rattle.cap_bytes.specs.declared.faults.Tail.{Tail}
@@ -15,11 +15,13 @@ use Rattle.cap_bytes.proofs.Readers.{Stands, Stands-here, Stands-passed, Gives-s
 use Rattle.cap_bytes.proofs.Readers as readers
 use Rattle.cap_bytes.proofs.Reach.{ReachesTo-passed}
 use Rattle.cap_bytes.proofs.Parsing.{coming-passed, from_none, from_some}
-use Rattle.cap_pcap.specs.inner.Reader.{HasHeader, GivesHeader, packet_of, GivesRecord, GivesNext, KeepsItems}
+use Rattle.cap_pcap.specs.inner.Reader.{HasHeader, GivesHeader, packet_of, GivesRecord, GivesNextRecord, KeepsRecords}
 use Rattle.cap_pcap.specs.inner.Reader.{ReachesHeader}
-use Rattle.cap_pcap.specs.inner.Reader.{TakesItem, items_at, items_of, size_of, frame_of, state_of, IsInOrder, MayGoOn}
-use Rattle.cap_pcap.specs.inner.Parsing.{SeesHeader, SeesRecord}
-use Rattle.cap_pcap.specs.Split.{header_fault, header_at, record_fault, stop_at, record_at, frame_at, file_items}
+use Rattle.cap_pcap.specs.inner.Reader.{TakesRecord, record_items_at, records_to_come, shown_record_size, lent_frame}
+use Rattle.cap_pcap.specs.inner.Reader.{record_reader_state, IsInOrder, MayGoOn}
+use Rattle.cap_pcap.specs.inner.Parsing.{SeesPcapHeader, SeesRecord}
+use Rattle.cap_pcap.specs.Split.{pcap_header_fault, header_at, record_fault, record_stop_at, record_at, record_frame_at}
+use Rattle.cap_pcap.specs.Split.{pcap_file_items}
 use Rattle.cap_pcap.specs.declared.headers.PcapHeader.{PcapHeader}
 use Rattle.cap_pcap.specs.declared.records.Record.{Record}
 use Rattle.cap_pcap.proofs.Faults.{FitsHeader-from_none}
@@ -33,8 +35,9 @@ pub unread : (P : Option PcapHeader → Option ℕ → Option Stop → Type 0) (
 unread P known captured stop none order free p = grind arith
 
 -- the header is seen, and passed
-pub HasHeader-seen : (w v u : WindowState) (tail : Tail) (header : PcapHeader) → SeesHeader header w v → Passes 24 v u
-    → HasHeader header (state_of w tail None None None) (state_of u tail (Some header) None None)
+pub HasHeader-seen : (w v u : WindowState) (tail : Tail) (header : PcapHeader) → SeesPcapHeader header w v
+    → WindowPasses 24 v u
+    → HasHeader header (record_reader_state w tail None None None) (record_reader_state u tail (Some header) None None)
 HasHeader-seen w v u tail header s p =
     let goes = s.shows.goes in
     record {
@@ -42,7 +45,8 @@ HasHeader-seen w v u tail header s p =
       header_known = refl;
       again = tt;
       first = record {
-        gives = Gives-seen (state_of w tail None None None) w u (Stands-here w tail None) (Some header) 24 0 None
+        gives = Gives-seen (record_reader_state w tail None None None) w u (Stands-here w tail None) (Some header) 24
+            0 None
             (record { before = goes.before; after = p.broken ∙ goes.after; failed = p.failed ∙ goes.failed })
             (omega (arith, p.offset, s.shows.offset)) (λ t. coming-passed 24 v u s.size p
             ∙ ap (drop 24) (s.shows.coming_same t));
@@ -55,21 +59,24 @@ HasHeader-seen w v u tail header s p =
     }
 
 -- how far that was read
-pub ReachesHeader-seen : (w v u : WindowState) (tail : Tail) (header : PcapHeader) → SeesHeader header w v
-    → Passes 24 v u
+pub ReachesHeader-seen : (w v u : WindowState) (tail : Tail) (header : PcapHeader) → SeesPcapHeader header w v
+    → WindowPasses 24 v u
     → ReachesTo w.most (w.offset + 24) (read_to w) (read_to v)
-    → ReachesHeader (state_of w tail None None None) (Ok header) (state_of u tail (Some header) None None)
+    → ReachesHeader (record_reader_state w tail None None None) (Ok header)
+    (record_reader_state u tail (Some header) None None)
 ReachesHeader-seen w v u tail header s p h = rw add-zero (ReachesTo-passed w.most (w.offset + 24) 24 w v u s.size p h)
 
 -- a record is seen after the one that was given last
 pub GivesRecord-seen : (header : PcapHeader) (w u v : WindowState) (tail : Tail) (known : Option PcapHeader)
     (captured : Option ℕ) (stop : Option Stop) (r : Record)
-    → stop ≡ None → size_of captured ≤ length w.shown → Passes (size_of captured) w u → SeesRecord header tail r u v
-    → GivesRecord header (state_of w tail known captured stop) r (state_of v tail known (Some r.captured) stop)
+    → stop ≡ None → shown_record_size captured ≤ length w.shown → WindowPasses (shown_record_size captured) w u
+    → SeesRecord header tail r u v
+    → GivesRecord header (record_reader_state w tail known captured stop) r
+    (record_reader_state v tail known (Some r.captured) stop)
 GivesRecord-seen header w u v tail known captured stop r free within p s = record {
-  gives = Gives-seen (state_of w tail known captured stop) u v
-      (Stands-passed w u tail known (size_of captured) (frame_of captured w.shown) stop free within p)
-      known (16 + r.captured) (16 + r.captured) (frame_of (Some r.captured) v.shown) s.shows.goes
+  gives = Gives-seen (record_reader_state w tail known captured stop) u v
+      (Stands-passed w u tail known (shown_record_size captured) (lent_frame captured w.shown) stop free within p)
+      known (16 + r.captured) (16 + r.captured) (lent_frame (Some r.captured) v.shown) s.shows.goes
       (ap (λ n. n + (16 + r.captured)) s.shows.offset)
       (λ t. ap (drop (16 + r.captured)) (s.shows.coming_same t));
   offset = s.offset ∙ p.offset;
@@ -82,36 +89,39 @@ GivesRecord-seen header w u v tail known captured stop r free within p s = recor
 -- the items of a file whose header is refused
 header_ends : (a : Option PcapHeader) (tail : Tail) (file offset : ℕ) (bytes : List ℕ) (fault : Option Rule)
     (stop : Stop) → a ≡ None
-    → header_fault offset bytes ≡ fault → stop_where false tail file offset bytes fault ≡ Some stop
-    → items_at a tail file offset bytes ≡ stopped stop ∷ []
-unfolding file_items stop_where
+    → pcap_header_fault offset bytes ≡ fault → stop_where false tail file offset bytes fault ≡ Some stop
+    → record_items_at a tail file offset bytes ≡ stopped stop ∷ []
+unfolding pcap_file_items stop_where
 header_ends a tail file offset bytes fault stop unknown is h = grind arith
 
 -- and of one whose header isn't
 header_items : (s t : Option Stop) (a b : Option PcapHeader) (tail tail' : Tail) (file file' offset offset' : ℕ)
     (bytes bytes' : List ℕ) (header : PcapHeader)
     → s ≡ None → t ≡ None → a ≡ None → b ≡ Some header → tail' ≡ tail → file' ≡ file → offset' ≡ offset + 24
-    → header_fault offset bytes ≡ None → header ≡ header_at bytes → bytes' ≡ drop 24 bytes
-    → items_by_stop t (items_at b tail' file' offset' bytes') ≡ items_by_stop s (items_at a tail file offset bytes)
-unfolding file_items
+    → pcap_header_fault offset bytes ≡ None → header ≡ header_at bytes → bytes' ≡ drop 24 bytes
+    → items_by_stop t (record_items_at b tail' file' offset' bytes')
+    ≡ items_by_stop s (record_items_at a tail file offset bytes)
+unfolding pcap_file_items
 header_items s t a b tail tail' file file' offset offset' bytes bytes' header ss ts aa bb e f o whole is l = cc
 
 -- the header leaves the items to come
-header_kept : (old new : State PcapHeader) (header : PcapHeader) (known : Option PcapHeader) → old.known ≡ known
+header_kept : (old new : ReaderState PcapHeader) (header : PcapHeader) (known : Option PcapHeader) → old.known ≡ known
     → HasHeader header old new
-    → Keeps old new → IsTrue old.told → items_of new ≡ items_of old
+    → ReaderKeeps old new → IsTrue old.told → records_to_come new ≡ records_to_come old
 header_kept old new header known is h k t = grind (arith, from_some, from_none, header_items)
 
 -- What `header` answers tells what it does to the items to come.
-pub KeepsItems_header : (old new : State PcapHeader) (result : Result PcapHeader Fault) → GivesHeader old result new
-    → Keeps old new → IsTrue old.told
-    → KeepsItems (items_of old) result (items_of new)
+pub KeepsItems_header : (old new : ReaderState PcapHeader) (result : Result PcapHeader Fault)
+    → GivesHeader old result new
+    → ReaderKeeps old new → IsTrue old.told
+    → KeepsRecords (records_to_come old) result (records_to_come new)
 KeepsItems_header old new result h k t = grind (arith, header_kept, stop_kept, header_ends, from_none, waits_kept)
 
 -- the items if something ends the records
 ended_items : (a : Option PcapHeader) (header : PcapHeader) (tail : Tail) (file offset : ℕ) (bytes : List ℕ)
     → a ≡ Some header → (stop : Stop)
-    → stop_at header.order tail file offset bytes ≡ Some stop → items_at a tail file offset bytes ≡ stopped stop ∷ []
+    → record_stop_at header.order tail file offset bytes ≡ Some stop
+    → record_items_at a tail file offset bytes ≡ stopped stop ∷ []
 ended_items a header tail file offset bytes known stop is =
     rw known (items_from-stop header tail file offset bytes stop is)
 
@@ -119,19 +129,19 @@ ended_items a header tail file offset bytes known stop is =
 given_items : (s t : Option Stop) (a b : Option PcapHeader) (tail tail' : Tail) (file file' offset offset' : ℕ)
     (bytes bytes' : List ℕ) (header : PcapHeader) (r : Record) (frame : List ℕ)
     → s ≡ None → t ≡ None → a ≡ Some header → b ≡ a → tail' ≡ tail → file' ≡ file → offset' ≡ offset + (16 + r.captured)
-    → stop_at header.order tail file offset bytes ≡ None → r ≡ record_at header.order header.unit offset bytes
-    → frame ≡ frame_at header.order bytes
+    → record_stop_at header.order tail file offset bytes ≡ None → r ≡ record_at header.order header.unit offset bytes
+    → frame ≡ record_frame_at header.order bytes
     → bytes' ≡ drop (16 + r.captured) bytes
-    → items_by_stop s (items_at a tail file offset bytes) ≡ given r frame
-    ∷ items_by_stop t (items_at b tail' file' offset' bytes')
+    → items_by_stop s (record_items_at a tail file offset bytes) ≡ given r frame
+    ∷ items_by_stop t (record_items_at b tail' file' offset' bytes')
 unfolding record_at
 given_items s t a b tail tail' file file' offset offset' bytes bytes' header r frame ss ts aa ba e f o none is frame_is
     l = grind (arith, items_from-record)
 
-record_taken : (header : PcapHeader) (old new : State PcapHeader) (r : Record) (frame : Option (List ℕ))
+record_taken : (header : PcapHeader) (old new : ReaderState PcapHeader) (r : Record) (frame : Option (List ℕ))
     → new.lent ≡ frame → old.known ≡ Some header
-    → GivesRecord header old r new → Keeps old new → IsTrue old.told
-    → IsSomeAnd frame (λ bytes. items_of old ≡ given r bytes ∷ items_of new)
+    → GivesRecord header old r new → ReaderKeeps old new → IsTrue old.told
+    → IsSomeAnd frame (λ bytes. records_to_come old ≡ given r bytes ∷ records_to_come new)
 record_taken header old new r None is known g k t = absurd (rw is at g.frame)
 record_taken header old new r (Some bytes) is known g k t =
     let size : length bytes ≡ r.captured = rw is at g.frame in
@@ -146,21 +156,22 @@ record_taken header old new r (Some bytes) is known g k t =
     (sym reads.frame_is) (g.gives.coming_next t)
 
 -- What `next_record` answers tells what it does to the items to come.
-pub TakesItem_next : (header : PcapHeader) (old new : State PcapHeader) (result : Result (Option Record) Fault)
+pub TakesItem_next : (header : PcapHeader) (old new : ReaderState PcapHeader) (result : Result (Option Record) Fault)
     → old.known ≡ Some header
-    → GivesNext header old result new → Keeps old new → IsTrue old.told
-    → TakesItem (items_of old) result new.lent (items_of new)
+    → GivesNextRecord header old result new → ReaderKeeps old new → IsTrue old.told
+    → TakesRecord (records_to_come old) result new.lent (records_to_come new)
 TakesItem_next header old new result known g k t =
-    readers.TakesItem-next items_at true (record_fault header.order old.offset old.coming) old new
+    readers.TakesItem-next record_items_at true (record_fault header.order old.offset old.coming) old new
     (λ free. ended_items old.known header old.tail old.file old.offset old.coming known)
-    (λ r. GivesRecord header old r new) (λ r. IsSomeAnd new.lent (λ bytes. items_of old ≡ given r bytes ∷ items_of new))
+    (λ r. GivesRecord header old r new) (λ r. IsSomeAnd new.lent
+    (λ bytes. records_to_come old ≡ given r bytes ∷ records_to_come new))
     262160 _ result
     (λ r h. record_taken header old new r new.lent refl known h k t) g k t
 
 -- The same of a record that was shown already.
-pub TakesItem_shown : (header : PcapHeader) (old new : State PcapHeader) (found : Option Record)
+pub TakesItem_shown : (header : PcapHeader) (old new : ReaderState PcapHeader) (found : Option Record)
     → old.known ≡ Some header
-    → IfSome found (λ r. GivesNext header old (Ok (Some r)) new) → Keeps old new → IsTrue old.told
-    → IfSome found (λ r. TakesItem (items_of old) (Ok (Some r)) new.lent (items_of new))
+    → IfSome found (λ r. GivesNextRecord header old (Ok (Some r)) new) → ReaderKeeps old new → IsTrue old.told
+    → IfSome found (λ r. TakesRecord (records_to_come old) (Ok (Some r)) new.lent (records_to_come new))
 TakesItem_shown header old new None known g k t = tt
 TakesItem_shown header old new (Some r) known g k t = TakesItem_next header old new (Ok (Some r)) known g k t

@@ -10,14 +10,15 @@ use Rattle.cap_time.specs.Unit.{in_second}
 use Rattle.cap_time.specs.declared.stamps.Unit.{Unit as Fraction}
 use Rattle.cap_pcap.specs.Grammar.{magic_of, SpellsHeader, Packet, packet_size, SpellsRecord}
 use Rattle.cap_pcap.specs.inner.Reader.{packet_of}
-use Rattle.cap_pcap.specs.Split.{is_magic, order_at, unit_at, header_at, captured_at, record_at, frame_at}
+use Rattle.cap_pcap.specs.Split.{is_magic, pcap_order_at, pcap_unit_at, header_at, captured_at, record_at}
+use Rattle.cap_pcap.specs.Split.{record_frame_at}
 use Rattle.cap_bytes.proofs.Spelling.{number-drop_take}
 use Rattle.cap_pcap.proofs.Faults.{Fits, FitsHeader}
 
 -- the magic of a header that isn't refused, in the order in which it reads
 magic_there : (big little : Bool) (bytes : List ℕ) → is_magic Big bytes ≡ big → is_magic Little bytes ≡ little
     → (big || little) ≡ true
-    → number (order_at bytes) 4 bytes ≡ magic_of (unit_at (order_at bytes) bytes)
+    → number (pcap_order_at bytes) 4 bytes ≡ magic_of (pcap_unit_at (pcap_order_at bytes) bytes)
 magic_there big little bytes is_big is_little one = grind arith
 
 -- a header that isn't refused is spelled by its bytes
@@ -26,7 +27,7 @@ pub SpellsHeader-at : (offset : ℕ) (bytes : List ℕ) → FitsHeader offset by
 unfolding header_at
 SpellsHeader-at offset bytes f =
     let within = f.whole in
-    let order = order_at bytes in
+    let order = pcap_order_at bytes in
     record {
       size = length-take-le 24 bytes within;
       magic = number-drop_take order 4 0 24 bytes (omega arith) within ∙ magic_there _ _ bytes refl refl f.magic;
@@ -40,13 +41,13 @@ SpellsHeader-at offset bytes f =
 
 -- a record that isn't refused is spelled by its bytes
 pub SpellsRecord-at : (order : Order) (unit : Fraction) (offset : ℕ) (bytes : List ℕ) → Fits order offset bytes
-    → SpellsRecord order unit (packet_of (record_at order unit offset bytes) (frame_at order bytes))
+    → SpellsRecord order unit (packet_of (record_at order unit offset bytes) (record_frame_at order bytes))
     (take (16 + captured_at order bytes) bytes)
 unfolding record_at
 SpellsRecord-at order unit offset bytes f =
     let size = 16 + captured_at order bytes in
     let within = f.whole in
-    let frame_size : length (frame_at order bytes) ≡ captured_at order bytes =
+    let frame_size : length (record_frame_at order bytes) ≡ captured_at order bytes =
     length-take-le (captured_at order bytes) (drop 16 bytes) (omega (arith, length-drop 16 bytes)) in
     record {
       size = omega (arith, length-take-le size bytes within);
@@ -66,7 +67,7 @@ pub record Reads (order : Order) (unit : Fraction) (offset : ℕ) (packet : Pack
   pub captured : captured_at order bytes ≡ length packet.frame
   pub record_is : record_at order unit offset bytes
       ≡ record { offset = offset; units = packet.units; captured = length packet.frame; original = packet.original }
-  pub frame_is : frame_at order bytes ≡ packet.frame
+  pub frame_is : record_frame_at order bytes ≡ packet.frame
 
 pub Reads-spelled : (order : Order) (unit : Fraction) (offset : ℕ) (packet : Packet) (bytes : List ℕ)
     → SpellsRecord order unit packet (take (packet_size packet) bytes) → offset + packet_size packet ≤ 2 ^ 40

@@ -9,9 +9,10 @@ use Rattle.cap_bytes.specs.declared.faults.Tail.TheVariants.{Refuse}
 use Rattle.cap_bytes.specs.declared.numbers.Order.{Order}
 use Rattle.cap_time.specs.declared.stamps.Unit.{Unit as Fraction}
 use Rattle.cap_pcap.specs.Grammar.{Packet, packet_size, SpellsRecord}
-use Rattle.cap_pcap.specs.inner.Laws.{OneRecord, OneSplit, EverySplit, SplitItems, RecordRead}
+use Rattle.cap_pcap.specs.inner.Laws.{OneRecord, OneRecordSplit, EveryRecordSplit, RecordSplitItems, RecordRead}
 use Rattle.cap_pcap.specs.inner.Reader.{packet_of}
-use Rattle.cap_pcap.specs.Split.{captured_at, record_at, frame_at, stop_at, items_from, HasNoRecord, Splits, record_of}
+use Rattle.cap_pcap.specs.Split.{captured_at, record_at, record_frame_at, record_stop_at, record_items_from}
+use Rattle.cap_pcap.specs.Split.{HasNoRecord, SplitsRecords, record_of}
 use Rattle.cap_pcap.specs.declared.headers.PcapHeader.{PcapHeader}
 use Rattle.cap_bytes.specs.declared.stops.Stop.{Stop}
 use Rattle.cap_pcap.proofs.Faults.{Fits-from_stop_at, stop_at-fits}
@@ -49,11 +50,11 @@ one_record-law order unit p q a b x y s t whole =
 -- a split after the same packet
 moved : (order : Order) (unit : Fraction) (offset : ℕ) (bytes : List ℕ) (p q : Packet) (qs : List Packet)
     (s : List ℕ) → p ≡ q
-    → Splits order unit (offset + packet_size q) (drop (packet_size q) bytes) qs s
-    → Splits order unit (offset + packet_size p) (drop (packet_size p) bytes) qs s
+    → SplitsRecords order unit (offset + packet_size q) (drop (packet_size q) bytes) qs s
+    → SplitsRecords order unit (offset + packet_size p) (drop (packet_size p) bytes) qs s
 moved order unit offset bytes p q qs s same rest = grind arith
 
-pub one_split-law : OneSplit
+pub one_split-law : OneRecordSplit
 one_split-law order unit offset bytes [] [] r s a b = (refl, sym a.0 ∙ b.0)
 one_split-law order unit offset bytes [] (q ∷ qs) r s a b =
     absurd (a.1 q (subst (λ l. SpellsRecord order unit q (take (packet_size q) l)) a.0 b.0) b.1)
@@ -70,7 +71,7 @@ one_split-law order unit offset bytes (p ∷ ps) (q ∷ qs) r s a b =
 -- if a record stands, nothing ends the records
 spelled_goes : (order : Order) (unit : Fraction) (tail : Tail) (file offset : ℕ) (bytes : List ℕ) (p : Packet)
     → SpellsRecord order unit p (take (packet_size p) bytes) → offset + packet_size p ≤ 2 ^ 40
-    → stop_at order tail file offset bytes ≡ None
+    → record_stop_at order tail file offset bytes ≡ None
 spelled_goes order unit tail file offset bytes p s limit =
     stop_at-fits order tail file offset bytes (Reads-spelled order unit offset p bytes s limit).fits
 
@@ -83,13 +84,13 @@ record Stands (order : Order) (unit : Fraction) (offset : ℕ) (bytes : List ℕ
 
 -- there is one if nothing ends the records
 stands : (order : Order) (unit : Fraction) (tail : Tail) (file offset : ℕ) (bytes : List ℕ)
-    → stop_at order tail file offset bytes ≡ None
+    → record_stop_at order tail file offset bytes ≡ None
     → Stands order unit offset bytes
 stands order unit tail file offset bytes none =
     let fits = Fits-from_stop_at order tail file offset bytes none in
-    let size : length (frame_at order bytes) ≡ captured_at order bytes =
+    let size : length (record_frame_at order bytes) ≡ captured_at order bytes =
     length-take-le (captured_at order bytes) (drop 16 bytes) (omega (arith, length-drop 16 bytes, fits.whole)) in
-    let packet = packet_of (record_at order unit offset bytes) (frame_at order bytes) in
+    let packet = packet_of (record_at order unit offset bytes) (record_frame_at order bytes) in
     record {
       packet = packet;
       spelled = subst (λ (n : ℕ). SpellsRecord order unit packet (take (16 + n) bytes)) (sym size)
@@ -100,10 +101,10 @@ stands order unit tail file offset bytes none =
 
 -- what ends the records if no record begins
 ends : (header : PcapHeader) (tail : Tail) (file offset : ℕ) (bytes : List ℕ) (stop : Option Stop)
-    → stop_at header.order tail file offset bytes ≡ stop
+    → record_stop_at header.order tail file offset bytes ≡ stop
     → HasNoRecord header.order header.unit offset bytes
-    → (s : Stop) × (stop_at header.order tail file offset bytes ≡ Some s)
-    × (items_from header tail file offset bytes ≡ stopped s ∷ [])
+    → (s : Stop) × (record_stop_at header.order tail file offset bytes ≡ Some s)
+    × (record_items_from header tail file offset bytes ≡ stopped s ∷ [])
 ends header tail file offset bytes (Some stop) is none =
     (stop, is, items_from-stop header tail file offset bytes stop is)
 ends header tail file offset bytes None is none =
@@ -113,16 +114,16 @@ ends header tail file offset bytes None is none =
 -- the first item, if a record stands
 pub items_from-spelled : (header : PcapHeader) (tail : Tail) (file offset : ℕ) (bytes : List ℕ) (p : Packet)
     → SpellsRecord header.order header.unit p (take (packet_size p) bytes) → offset + packet_size p ≤ 2 ^ 40
-    → items_from header tail file offset bytes
-    ≡ given (record_of offset p) p.frame ∷ items_from header tail file (offset + packet_size p)
+    → record_items_from header tail file offset bytes
+    ≡ given (record_of offset p) p.frame ∷ record_items_from header tail file (offset + packet_size p)
     (drop (packet_size p) bytes)
 items_from-spelled header tail file offset bytes p s limit =
     grind (arith, Reads-spelled, items_from-record, stop_at-fits)
 
-pub split_items-law : SplitItems
+pub split_items-law : RecordSplitItems
 split_items-law header tail file offset bytes [] rest split =
-    let end = ends header tail file offset rest (stop_at header.order tail file offset rest) refl split.1 in
-    (end.0, end.1, ap (items_from header tail file offset) split.0 ∙ end.2)
+    let end = ends header tail file offset rest (record_stop_at header.order tail file offset rest) refl split.1 in
+    (end.0, end.1, ap (record_items_from header tail file offset) split.0 ∙ end.2)
 split_items-law header tail file offset bytes (p ∷ ps) rest split =
     let later = split_items-law header tail file (offset + packet_size p)
     (drop (packet_size p) bytes) ps rest split.2 in (
@@ -134,10 +135,10 @@ split_items-law header tail file offset bytes (p ∷ ps) rest split =
 
 -- a split by what ends the records
 split_by : (n : ℕ) (order : Order) (unit : Fraction) (offset : ℕ) (bytes : List ℕ) (stop : Option Stop)
-    → stop_at order Refuse 0 offset bytes ≡ stop
+    → record_stop_at order Refuse 0 offset bytes ≡ stop
     → ((later : ℕ) (rest : List ℕ) → length rest < length bytes → (ps : List Packet) × (r : List ℕ)
-    × Splits order unit later rest ps r)
-    → (packets : List Packet) × (rest : List ℕ) × Splits order unit offset bytes packets rest
+    × SplitsRecords order unit later rest ps r)
+    → (packets : List Packet) × (rest : List ℕ) × SplitsRecords order unit offset bytes packets rest
 split_by n order unit offset bytes (Some stop) is behind = (
   [],
   bytes,
@@ -155,13 +156,13 @@ split_by n order unit offset bytes None is behind =
     (there.packet ∷ later.0, later.1, (there.spelled, there.limit, later.2))
 
 split_below : (n : ℕ) (order : Order) (unit : Fraction) (offset : ℕ) (bytes : List ℕ) → length bytes < n
-    → (packets : List Packet) × (rest : List ℕ) × Splits order unit offset bytes packets rest
+    → (packets : List Packet) × (rest : List ℕ) × SplitsRecords order unit offset bytes packets rest
 split_below zero order unit offset bytes few = absurd (omega arith)
 split_below (suc n) order unit offset bytes few =
-    split_by n order unit offset bytes (stop_at order Refuse 0 offset bytes) refl
+    split_by n order unit offset bytes (record_stop_at order Refuse 0 offset bytes) refl
     (λ later rest fewer. split_below n order unit later rest (omega arith))
 
-pub every_split-law : EverySplit
+pub every_split-law : EveryRecordSplit
 every_split-law order unit offset bytes = split_below (suc (length bytes)) order unit offset bytes (omega arith)
 
 pub record_read-law : RecordRead

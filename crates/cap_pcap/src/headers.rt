@@ -3,10 +3,10 @@ ghost use Rattle.std.specs.Prelude.{◌≡◌, true, false, ◌≤◌, ◌^◌, 
 ghost use Rattle.std.specs.Prelude.{IfNone};
 ghost use Rattle.cap_bytes.specs.Device.{Puts, WriterKeeps, writer_of};
 ghost use Rattle.cap_bytes.specs.inner.Reach.{Reaches};
-ghost use Rattle.cap_bytes.specs.inner.Window.{Keeps, position, read_to};
+ghost use Rattle.cap_bytes.specs.inner.Window.{WindowKeeps, position, read_to};
 ghost use Rattle.cap_pcap.specs.Grammar.{magic_of, header_bytes};
-ghost use Rattle.cap_pcap.specs.inner.Parsing.{HasMagic, ParsesHeader, LooksForHeader};
-ghost use Rattle.cap_pcap.specs.Split.{is_magic, unit_at};
+ghost use Rattle.cap_pcap.specs.inner.Parsing.{HasMagic, ParsesPcapHeader, LooksForHeader};
+ghost use Rattle.cap_pcap.specs.Split.{is_magic, pcap_unit_at};
 
 use cap_bytes::{
     FILE_LIMIT, Fault, Order, Refusal, Rule, Sink, Source, Window, put_all, put_u16, put_u32,
@@ -38,7 +38,7 @@ pub struct PcapHeader {
 fn unit_in(order: Order, bytes: &[u8]) -> Option<Unit>
     requires { 4 ≤ length bytes.now }
     ensures found { IfSome result (λ unit. (is_magic order bytes.now ≡ true)
-        × (unit ≡ unit_at order bytes.now)) }
+        × (unit ≡ pcap_unit_at order bytes.now)) }
     ensures none { IfNone result (is_magic order bytes.now ≡ false) }
 {
     match u32_at(order, bytes, 0) {
@@ -66,10 +66,10 @@ fn spelling_of(bytes: &[u8]) -> Option<(Order, Unit)>
 
 /// The header that stands at the front of some bytes, which begin at `offset`. If there is none,
 /// the first rule that is broken; `Rule::Cut` if they are too few.
-#[tactic(auto, unfolding(crate::specs::Split::header_fault, crate::specs::Split::header_at))]
+#[tactic(auto, unfolding(crate::specs::Split::pcap_header_fault, crate::specs::Split::header_at))]
 pub fn header_of(offset: u64, bytes: &[u8]) -> Result<PcapHeader, Rule>
     requires { offset ≤ 2 ^ 40 }
-    ensures parses { ParsesHeader offset bytes.now result }
+    ensures parses { ParsesPcapHeader offset bytes.now result }
 {
     if bytes.len() < 4 {
         return Err(Rule::Cut);
@@ -101,7 +101,7 @@ pub fn look_for_header<R: Source>(
     ensures answer { LooksForHeader window.old result window.new }
     ensures reaches { Reaches (λ _. Some 24) 24 (position window.old) result (read_to window.new) }
     ensures offset { window.new.offset ≡ window.old.offset }
-    ensures keeps { Keeps window.old window.new }
+    ensures keeps { WindowKeeps window.old window.new }
 {
     let file = window.file();
     let offset = window.offset();

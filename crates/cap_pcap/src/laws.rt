@@ -1,5 +1,6 @@
 //! The laws of the grammar of pcap files.
-ghost use Rattle.cap_pcap.specs.inner.Laws.{OneRecord, OneSplit, EverySplit, SplitItems, HeaderRead, RecordRead};
+ghost use Rattle.cap_pcap.specs.inner.Laws.{OneRecord, OneRecordSplit, EveryRecordSplit, RecordSplitItems, HeaderRead};
+ghost use Rattle.cap_pcap.specs.inner.Laws.{RecordRead};
 ghost use Rattle.cap_pcap.specs.inner.Laws.{HeaderAgain};
 ghost use Rattle.cap_pcap.specs.inner.Laws.{RecordAgain};
 
@@ -14,9 +15,9 @@ ghost use Rattle.cap_pcap.specs.inner.Laws.{RecordAgain};
 ///   values, whatever follows it.
 pub fn grammar_laws()
     ensures record { OneRecord }
-    ensures one { OneSplit }
-    ensures every { EverySplit }
-    ensures items { SplitItems }
+    ensures one { OneRecordSplit }
+    ensures every { EveryRecordSplit }
+    ensures items { RecordSplitItems }
     ensures header_spelled { HeaderRead }
     ensures packet_spelled { RecordRead }
     ensures header { HeaderAgain }

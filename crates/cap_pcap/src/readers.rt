@@ -1,9 +1,10 @@
 //! A reader of pcap files.
 ghost use Rattle.std.specs.Prelude.{◌≡◌, ◌↔◌, ◌≤◌, ◌+◌, length, IsTrue, IsSome, IsNone, Some, Ok, IfSome, OnErr};
 ghost use Rattle.std.specs.Prelude.{is_some};
-ghost use Rattle.cap_bytes.specs.inner.Reader.{opened, Keeps, HasWindow};
-ghost use Rattle.cap_pcap.specs.inner.Reader.{items_of, GivesHeader, GivesNext, KeepsHeader, KeepsItems, ReachesHeader};
-ghost use Rattle.cap_pcap.specs.inner.Reader.{ReachesNext, TakesItem, RefusesAgain, size_of, place_after};
+ghost use Rattle.cap_bytes.specs.inner.Reader.{opened_reader, ReaderKeeps, HasWindow};
+ghost use Rattle.cap_pcap.specs.inner.Reader.{records_to_come, GivesHeader, GivesNextRecord, KeepsHeader, KeepsRecords};
+ghost use Rattle.cap_pcap.specs.inner.Reader.{ReachesHeader};
+ghost use Rattle.cap_pcap.specs.inner.Reader.{ReachesRecord, TakesRecord, RefusesAgain, shown_record_size, place_after};
 
 use crate::headers::{HEADER_SIZE, PcapHeader, look_for_header};
 use crate::records::{HEAD_SIZE, Record, look_for_record, take_shown};
@@ -23,22 +24,22 @@ pub struct PcapReader<R: Source> {
 
 impl<R: Source> Model for PcapReader<R> {
     ghost use Rattle.std.specs.Prelude.{length};
-    ghost use Rattle.cap_bytes.specs.inner.Reader.{State};
+    ghost use Rattle.cap_bytes.specs.inner.Reader.{ReaderState};
     ghost use Rattle.cap_pcap.specs.declared.headers.PcapHeader.{PcapHeader};
-    ghost use Rattle.cap_pcap.specs.inner.Reader.{IsSound, state_of};
+    ghost use Rattle.cap_pcap.specs.inner.Reader.{IsSoundRecordReader, record_reader_state};
 
-    ghost Value = { State PcapHeader };
+    ghost Value = { ReaderState PcapHeader };
 
-    ghost view = { λ r. state_of r.window r.tail r.header r.captured r.stop };
+    ghost view = { λ r. record_reader_state r.window r.tail r.header r.captured r.stop };
 
-    ghost invariant = { λ r. IsSound r.header r.captured r.stop
+    ghost invariant = { λ r. IsSoundRecordReader r.header r.captured r.stop
         (length r.window.shown) r.window.offset r.window.held };
 }
 
 // How many bytes the record that was given last takes.
 fn size_given(captured: Option<usize>) -> usize
-    requires { size_of captured ≤ 262160 }
-    ensures { result ≡ size_of captured }
+    requires { shown_record_size captured ≤ 262160 }
+    ensures { result ≡ shown_record_size captured }
 {
     match captured {
         Some(captured) => HEAD_SIZE + captured,
@@ -59,7 +60,7 @@ fn refuse_again(stop: Option<Stop>) -> Result<(), Fault>
 impl<R: Source> PcapReader<R> {
     /// A reader of the bytes that a window shows from now on. It reads nothing yet.
     pub fn new(window: Window<R>, tail: Tail) -> PcapReader<R>
-        ensures opened { result ≡ opened window tail }
+        ensures opened { result ≡ opened_reader window tail }
         ensures held { result.held ≤ 524288 }
     {
         // The limits that these two ensure are part of what a reader always meets.
@@ -79,7 +80,7 @@ impl<R: Source> PcapReader<R> {
         ensures reaches { ReachesHeader self.old result self.new }
         ensures header { KeepsHeader self.old self.new }
         ensures place { OnErr result (self.new.offset ≡ self.old.offset) }
-        ensures keeps { Keeps self.old self.new }
+        ensures keeps { ReaderKeeps self.old self.new }
     {
         refuse_again(self.stop)?;
         if let Some(header) = self.header {
@@ -115,9 +116,9 @@ impl<R: Source> PcapReader<R> {
         ensures reaches { ReachesHeader self.old result self.new }
         ensures header { KeepsHeader self.old self.new }
         ensures place { OnErr result (self.new.offset ≡ self.old.offset) }
-        ensures keeps { Keeps self.old self.new }
+        ensures keeps { ReaderKeeps self.old self.new }
         ensures items { IsTrue self.old.told
-            → KeepsItems (items_of self.old) result (items_of self.new) }
+            → KeepsRecords (records_to_come self.old) result (records_to_come self.new) }
     {
         self.read_header()
     }
@@ -127,13 +128,13 @@ impl<R: Source> PcapReader<R> {
     #[inline(always)]
     pub fn take_shown(&mut self, header: PcapHeader) -> Option<Record>
         requires { self.old.known ≡ Some header }
-        ensures answer { IfSome result (λ r. GivesNext header self.old (Ok (Some r)) self.new) }
-        ensures reaches { IfSome result (λ r. ReachesNext header self.old (Ok (Some r)) self.new) }
+        ensures answer { IfSome result (λ r. GivesNextRecord header self.old (Ok (Some r)) self.new) }
+        ensures reaches { IfSome result (λ r. ReachesRecord header self.old (Ok (Some r)) self.new) }
         ensures place { IfSome result (λ r. self.new.offset ≡ place_after self.old.offset (Ok (Some r))) }
         ensures header { self.new.known ≡ self.old.known }
-        ensures keeps { Keeps self.old self.new }
+        ensures keeps { ReaderKeeps self.old self.new }
         ensures items { IsTrue self.old.told → IfSome result (λ r.
-            TakesItem (items_of self.old) (Ok (Some r)) self.new.lent (items_of self.new)) }
+            TakesRecord (records_to_come self.old) (Ok (Some r)) self.new.lent (records_to_come self.new)) }
         ensures none { IsNone result → self.new ≡ self.old }
     {
         self.read_shown(header)
@@ -143,11 +144,11 @@ impl<R: Source> PcapReader<R> {
     #[inline(always)]
     fn read_shown(&mut self, header: PcapHeader) -> Option<Record>
         requires { self.old.known ≡ Some header }
-        ensures answer { IfSome result (λ r. GivesNext header self.old (Ok (Some r)) self.new) }
-        ensures reaches { IfSome result (λ r. ReachesNext header self.old (Ok (Some r)) self.new) }
+        ensures answer { IfSome result (λ r. GivesNextRecord header self.old (Ok (Some r)) self.new) }
+        ensures reaches { IfSome result (λ r. ReachesRecord header self.old (Ok (Some r)) self.new) }
         ensures place { IfSome result (λ r. self.new.offset ≡ place_after self.old.offset (Ok (Some r))) }
         ensures header { self.new.known ≡ self.old.known }
-        ensures keeps { Keeps self.old self.new }
+        ensures keeps { ReaderKeeps self.old self.new }
         ensures none { IsNone result → self.new ≡ self.old }
     {
         if self.stop.is_some() {
@@ -165,11 +166,11 @@ impl<R: Source> PcapReader<R> {
     // Looks for the next record, after the one that was given last.
     fn read_record(&mut self, header: PcapHeader) -> Result<Option<Record>, Fault>
         requires { self.old.known ≡ Some header }
-        ensures answer { GivesNext header self.old result self.new }
-        ensures reaches { ReachesNext header self.old result self.new }
+        ensures answer { GivesNextRecord header self.old result self.new }
+        ensures reaches { ReachesRecord header self.old result self.new }
         ensures place { self.new.offset ≡ place_after self.old.offset result }
         ensures header { self.new.known ≡ self.old.known }
-        ensures keeps { Keeps self.old self.new }
+        ensures keeps { ReaderKeeps self.old self.new }
     {
         if let Some(stop) = self.stop {
             return stop.answer();
@@ -196,14 +197,14 @@ impl<R: Source> PcapReader<R> {
     pub fn next_record(&mut self) -> Result<Option<Record>, Fault>
         requires { IsSome self.old.known }
         ensures answer { IfSome self.old.known
-            (λ header. GivesNext header self.old result self.new) }
+            (λ header. GivesNextRecord header self.old result self.new) }
         ensures reaches { IfSome self.old.known
-            (λ header. ReachesNext header self.old result self.new) }
+            (λ header. ReachesRecord header self.old result self.new) }
         ensures place { self.new.offset ≡ place_after self.old.offset result }
         ensures header { self.new.known ≡ self.old.known }
-        ensures keeps { Keeps self.old self.new }
+        ensures keeps { ReaderKeeps self.old self.new }
         ensures items { IsTrue self.old.told
-            → TakesItem (items_of self.old) result self.new.lent (items_of self.new) }
+            → TakesRecord (records_to_come self.old) result self.new.lent (records_to_come self.new) }
     {
         let header = self.header.unwrap();
         self.read_record(header)

@@ -3,7 +3,7 @@ ghost use Rattle.std.specs.Prelude.{◌≡◌, ◌+◌, ◌≤◌, ◌^◌, leng
 ghost use Rattle.std.specs.Prelude.{IsOkUnless};
 ghost use Rattle.cap_bytes.specs.Device.{Puts, WriterKeeps, writer_of};
 ghost use Rattle.cap_bytes.specs.inner.Reach.{Reaches, size_found};
-ghost use Rattle.cap_bytes.specs.inner.Window.{Keeps, Passes, coming, position, read_to};
+ghost use Rattle.cap_bytes.specs.inner.Window.{WindowKeeps, WindowPasses, coming, position, read_to};
 ghost use Rattle.cap_bytes.specs.declared.faults.Tail.{Tail};
 ghost use Rattle.cap_pcap.specs.Grammar.{head_bytes, record_bytes};
 ghost use Rattle.cap_pcap.specs.inner.Parsing.{Measures, LooksForRecord, SeesRecord};
@@ -101,7 +101,7 @@ pub fn take_shown<R: Source>(
 ) -> Option<Record>
     requires given { given ≤ length window.old.shown }
     requires limit { window.old.offset + given ≤ 2 ^ 40 }
-    ensures passes { OnSome result (Passes given window.old window.new) }
+    ensures passes { OnSome result (WindowPasses given window.old window.new) }
     ensures held { OnSome result (window.new.held ≤ 524288) }
     ensures sees { IfSome result (λ r. (tail : Tail) → SeesRecord header tail r window.new window.new) }
     ensures none { IsNone result → window.new ≡ window.old }
@@ -134,7 +134,7 @@ pub fn look_for_record<R: Source>(
     ensures reaches { Reaches (size_found record_size) (16 + captured_at header.order (coming window.old))
         (position window.old) result (read_to window.new) }
     ensures offset { window.new.offset ≡ window.old.offset }
-    ensures keeps { Keeps window.old window.new }
+    ensures keeps { WindowKeeps window.old window.new }
 {
     let file = window.file();
     let offset = window.offset();

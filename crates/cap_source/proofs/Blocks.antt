@@ -7,11 +7,12 @@ use Rattle.cap_bytes.specs.declared.faults.Refusal.{Refusal}
 use Rattle.cap_bytes.specs.declared.faults.Rule.{Rule}
 use Rattle.cap_bytes.specs.declared.numbers.Order.{Order}
 use Rattle.cap_time.specs.declared.resolutions.Interface.{Interface}
-use Rattle.cap_blocks.specs.Grammar.{section_kind, interface_kind, obsolete_kind, simple_kind, enhanced_kind, is_known}
+use Rattle.cap_blocks.specs.Grammar.{section_kind, interface_kind, obsolete_kind, simple_kind, enhanced_kind}
+use Rattle.cap_blocks.specs.Grammar.{is_known_kind}
 use Rattle.cap_blocks.specs.Grammar.{is_total, least_total}
-use Rattle.cap_bytes.specs.Items.{IsEnd, Item, given, stopped}
-use Rattle.cap_bytes.specs.inner.Reader.{State, Keeps, GivesStop}
-use Rattle.cap_blocks.specs.inner.Reader.{items_of, GivesBlock, ReachesNext}
+use Rattle.cap_bytes.specs.Items.{IsEnd, PieceItem, given, stopped}
+use Rattle.cap_bytes.specs.inner.Reader.{ReaderState, ReaderKeeps, GivesStop}
+use Rattle.cap_blocks.specs.inner.Reader.{blocks_to_come, GivesBlock, ReachesBlock}
 use Rattle.cap_blocks.specs.Split.{body_in, block_fault}
 use Rattle.cap_blocks.specs.declared.blocks.Block.{Block}
 use Rattle.cap_bytes.specs.declared.stops.Stop.{Stop}
@@ -23,12 +24,13 @@ use Rattle.cap_bytes.specs.declared.faults.Rule.TheVariants as rules
 use Rattle.cap_source.specs.TimeBases.{interface_in}
 use Rattle.cap_source.specs.Contents.{fitting, of_interface, timed_in, simple_in, of_body, described, content_in}
 use Rattle.cap_source.specs.Feed as feeds
-use Rattle.cap_source.specs.Items.{Progress, behind, frame_in, items_at, items_in, ending_with, ending_in}
+use Rattle.cap_source.specs.Items.{Progress, behind, frame_in, items_at_block, items_of_blocks, ending_with, ending_in}
 use Rattle.cap_source.specs.Items.{unless_faulty, first_in, unless_item, is_cut}
-use Rattle.cap_source.specs.inner.FileState.{FileState, pcapng_state, size_of, part_of, Learns, FileKeeps, GoesOn}
+use Rattle.cap_source.specs.inner.FileState.{FileState, pcapng_state, lent_length, part_of, FileLearns, FileKeeps}
+use Rattle.cap_source.specs.inner.FileState.{GoesOn}
 use Rattle.cap_source.specs.inner.FileState.{StepsTo}
-use Rattle.cap_source.specs.inner.FileState.{Takes, TakesShown, next_at}
-use Rattle.cap_source.specs.inner.Reached.{counted}
+use Rattle.cap_source.specs.inner.FileState.{FileTakes, TakesShown, next_at}
+use Rattle.cap_source.specs.inner.Reached.{counted_blocks}
 use Rattle.cap_source.specs.declared.contents.Content.{Content}
 use Rattle.cap_source.specs.declared.contents.Content.TheVariants as contents
 use Rattle.cap_source.specs.declared.contents.Packet.{Packet}
@@ -96,7 +98,7 @@ content_fit interfaces kind order body =
     (if_fit few body (kind == obsolete_kind) _ _ (timed_fit few interfaces (number order 2 body) order body)
     (if_fit few body (kind == simple_kind) _ _ (simple_fit few interfaces order body) tt))))
 
-pub other : (interfaces : List Interface) (kind : ℕ) (order : Order) (body : List ℕ) → is_known kind ≡ false
+pub other : (interfaces : List Interface) (kind : ℕ) (order : Order) (body : List ℕ) → is_known_kind kind ≡ false
     → content_in interfaces kind order body ≡ Ok contents.Other
 unfolding content_in
 other interfaces kind order body unknown = grind (arith, nat_tests)
@@ -107,13 +109,13 @@ padded_body kind total size allowed is = grind (arith, nat_tests)
 
 -- What a block says doesn't depend on a body that isn't lent.
 content_same : (interfaces : List Interface) (kind : ℕ) (order : Order) (lent : Option (List ℕ)) (body : List ℕ)
-    → is_some lent ≡ is_known kind
+    → is_some lent ≡ is_known_kind kind
     → IfSome lent (λ b. b ≡ body) → content_in interfaces kind order body
     ≡ content_in interfaces kind order (unwrap_or lent [])
 content_same interfaces kind order lent body known is = grind (arith, other)
 
 packet_lent : (interfaces : List Interface) (kind : ℕ) (order : Order) (lent : Option (List ℕ)) (p : Packet)
-    → is_some lent ≡ is_known kind
+    → is_some lent ≡ is_known_kind kind
     → Ok (contents.Packet p) ≡ content_in interfaces kind order (unwrap_or lent []) → IsSome lent
 packet_lent interfaces kind order lent p known is = grind (arith, other)
 
@@ -122,103 +124,108 @@ frame_same : (lent : Option (List ℕ)) (body : List ℕ) (p : Packet) → IsSom
 frame_same lent body p there is = grind arith
 
 lent_size : (few : ℕ) (lent : Option (List ℕ)) (p : Packet) → IsSome lent
-    → IsFit few (unwrap_or lent []) (Ok (contents.Packet p)) → p.place + p.captured + 1 ≤ size_of lent
+    → IsFit few (unwrap_or lent []) (Ok (contents.Packet p)) → p.place + p.captured + 1 ≤ lent_length lent
 lent_size few lent p there fit = grind arith
 
 items_behind : (f g : ℕ) (p : Progress) (block : Block) (body : List ℕ) (content : Result Content Rule)
-    (old new : List (Item Block)) → f ≡ g → old ≡ given block body ∷ new
+    (old new : List (PieceItem Block)) → f ≡ g → old ≡ given block body ∷ new
     → content_in p.interfaces block.kind block.order body ≡ content
-    → items_at f p block body content (items_in f (behind p content) new) ≡ items_in g p old
-unfolding items_in
+    → items_at_block f p block body content (items_of_blocks f (behind p content) new) ≡ items_of_blocks g p old
+unfolding items_of_blocks
 items_behind f g p block body content old new fg is e = rw (is, ← e, fg) refl
 
 ending_behind : (p : Progress) (block : Block) (body : List ℕ) (content : Result Content Rule)
-    (old new : List (Item Block)) → old ≡ given block body ∷ new
+    (old new : List (PieceItem Block)) → old ≡ given block body ∷ new
     → content_in p.interfaces block.kind block.order body ≡ content
     → unless_faulty content (ending_with p false) (ending_in (behind p content) new) ≡ ending_in p old
 unfolding ending_in
 ending_behind p block body content old new is e = rw (is, ← e) refl
 
 first_behind : (p : Progress) (block : Block) (body : List ℕ) (content : Result Content Rule)
-    (old new : List (Item Block)) → old ≡ given block body ∷ new
+    (old new : List (PieceItem Block)) → old ≡ given block body ∷ new
     → content_in p.interfaces block.kind block.order body ≡ content
     → unless_item content p.first (first_in (behind p content) new) ≡ first_in p old
 unfolding first_in
 first_behind p block body content old new is e = rw (is, ← e) refl
 
 -- After a block the file goes on, or a packet or a refusal comes next.
-pub block_steps : (file : ℕ) (old new : State Order) (p : Progress) (block : Block) (content : Result Content Rule)
-    → file ≡ old.file → GivesBlock old block new → Keeps old new
-    → (IsTrue old.told → items_of old ≡ given block (body_in block.total old.coming) ∷ items_of new)
+pub block_steps : (file : ℕ) (old new : ReaderState Order) (p : Progress) (block : Block)
+    (content : Result Content Rule)
+    → file ≡ old.file → GivesBlock old block new → ReaderKeeps old new
+    → (IsTrue old.told → blocks_to_come old ≡ given block (body_in block.total old.coming) ∷ blocks_to_come new)
     → content ≡ content_in p.interfaces block.kind block.order (unwrap_or new.lent [])
     → StepsTo (pcapng_state old p) (next_at file p block content) (pcapng_state new (behind p content))
 block_steps file old new p block content named g k taken is =
     by content is
     (subst (IsFit (length p.interfaces) (unwrap_or new.lent [])) (sym is)
     (content_fit p.interfaces block.kind block.order (unwrap_or new.lent [])))
-    (λ t. items_behind new.file old.file p block (body_in block.total old.coming) content (items_of old)
-    (items_of new) k.file (taken t) (says t))
-    (λ t. ending_behind p block (body_in block.total old.coming) content (items_of old) (items_of new)
+    (λ t. items_behind new.file old.file p block (body_in block.total old.coming) content (blocks_to_come old)
+    (blocks_to_come new) k.file (taken t) (says t))
+    (λ t. ending_behind p block (body_in block.total old.coming) content (blocks_to_come old) (blocks_to_come new)
     (taken t) (says t))
-    (λ t. first_behind p block (body_in block.total old.coming) content (items_of old) (items_of new)
+    (λ t. first_behind p block (body_in block.total old.coming) content (blocks_to_come old) (blocks_to_come new)
     (taken t) (says t))
   where
     says : IsTrue old.told → content_in p.interfaces block.kind block.order (body_in block.total old.coming) ≡ content
     says t = content_same p.interfaces block.kind block.order new.lent (body_in block.total old.coming) g.known
         (g.body_is t) ∙ sym is
 
-    goes : (q : Progress) → (IsTrue old.told → items_in new.file q (items_of new) ≡ items_in old.file p (items_of old))
-        → (IsTrue old.told → ending_in q (items_of new) ≡ ending_in p (items_of old))
-        → (IsTrue old.told → first_in q (items_of new) ≡ first_in p (items_of old))
+    goes : (q : Progress)
+        → (IsTrue old.told
+        → items_of_blocks new.file q (blocks_to_come new) ≡ items_of_blocks old.file p (blocks_to_come old))
+        → (IsTrue old.told → ending_in q (blocks_to_come new) ≡ ending_in p (blocks_to_come old))
+        → (IsTrue old.told → first_in q (blocks_to_come new) ≡ first_in p (blocks_to_come old))
         → GoesOn (pcapng_state old p) (pcapng_state new q)
     goes q items ending first = grind arith
 
     by : (c : Result Content Rule) → c ≡ content_in p.interfaces block.kind block.order (unwrap_or new.lent [])
         → IsFit (length p.interfaces) (unwrap_or new.lent []) c
-        → (IsTrue old.told → items_at new.file p block (body_in block.total old.coming) c
-        (items_in new.file (behind p c) (items_of new)) ≡ items_in old.file p (items_of old))
-        → (IsTrue old.told → unless_faulty c (ending_with p false) (ending_in (behind p c) (items_of new))
-        ≡ ending_in p (items_of old))
-        → (IsTrue old.told → unless_item c p.first (first_in (behind p c) (items_of new)) ≡ first_in p (items_of old))
+        → (IsTrue old.told → items_at_block new.file p block (body_in block.total old.coming) c
+        (items_of_blocks new.file (behind p c) (blocks_to_come new)) ≡ items_of_blocks old.file p (blocks_to_come old))
+        → (IsTrue old.told → unless_faulty c (ending_with p false) (ending_in (behind p c) (blocks_to_come new))
+        ≡ ending_in p (blocks_to_come old))
+        → (IsTrue old.told
+        → unless_item c p.first (first_in (behind p c) (blocks_to_come new)) ≡ first_in p (blocks_to_come old))
         → StepsTo (pcapng_state old p) (next_at file p block c) (pcapng_state new (behind p c))
-    by c same fit items ending first = grind (arith, packet_lent, lent_size, none_stops, items_in, frame_same)
+    by c same fit items ending first = grind (arith, packet_lent, lent_size, none_stops, items_of_blocks, frame_same)
 
 -- What a block leaves of the counts.
-pub block_keeps : (old new : State Order) (p : Progress) (block : Block) (content : Result Content Rule)
-    → GivesBlock old block new → Keeps old new
+pub block_keeps : (old new : ReaderState Order) (p : Progress) (block : Block) (content : Result Content Rule)
+    → GivesBlock old block new → ReaderKeeps old new
     → content ≡ content_in p.interfaces block.kind block.order (unwrap_or new.lent [])
     → FileKeeps (pcapng_state old p) (pcapng_state new (behind p content))
-block_keeps old new p block content g k is = grind (arith, unwrap_or, content_fit, counted, length-append)
+block_keeps old new p block content g k is = grind (arith, unwrap_or, content_fit, counted_blocks, length-append)
 
-stopped_again : (new : State Order) (stop : Stop) → new.stop ≡ Some stop → items_of new ≡ stopped stop ∷ []
+stopped_again : (new : ReaderState Order) (stop : Stop) → new.stop ≡ Some stop → blocks_to_come new ≡ stopped stop ∷ []
 stopped_again new stop is = rw is refl
 
-no_items : (stop : Stop) (file : ℕ) (p : Progress) (items : List (Item Block)) → IsEnd stop → items ≡ stopped stop ∷ []
-    → [] ≡ items_in file p items
-unfolding items_in
+no_items : (stop : Stop) (file : ℕ) (p : Progress) (items : List (PieceItem Block)) → IsEnd stop
+    → items ≡ stopped stop ∷ []
+    → [] ≡ items_of_blocks file p items
+unfolding items_of_blocks
 no_items stop file p items h is = grind arith
 
-ending_stopped : (stop : Stop) (p : Progress) (items : List (Item Block)) → items ≡ stopped stop ∷ []
+ending_stopped : (stop : Stop) (p : Progress) (items : List (PieceItem Block)) → items ≡ stopped stop ∷ []
     → ending_with p (is_cut stop) ≡ ending_in p items
 unfolding ending_in
 ending_stopped stop p items is = rw is refl
 
-first_stopped : (stop : Stop) (p : Progress) (items : List (Item Block)) → items ≡ stopped stop ∷ []
+first_stopped : (stop : Stop) (p : Progress) (items : List (PieceItem Block)) → items ≡ stopped stop ∷ []
     → p.first ≡ first_in p items
 unfolding first_in
 first_stopped stop p items is = rw is refl
 
-refused_items : (refusal : Refusal) (file : ℕ) (p : Progress) (items : List (Item Block))
-    → items ≡ stopped (stops.Refused refusal) ∷ [] → feeds.refused refusal ∷ [] ≡ items_in file p items
-unfolding items_in
+refused_items : (refusal : Refusal) (file : ℕ) (p : Progress) (items : List (PieceItem Block))
+    → items ≡ stopped (stops.Refused refusal) ∷ [] → feeds.refused refusal ∷ [] ≡ items_of_blocks file p items
+unfolding items_of_blocks
 refused_items refusal file p items is = rw is refl
 
 -- The blocks end.
-pub end_learned : (cut : Bool) (stop : Stop) (old new : State Order) (p : Progress) → old.stop ≡ None
+pub end_learned : (cut : Bool) (stop : Stop) (old new : ReaderState Order) (p : Progress) → old.stop ≡ None
     → IsEnd stop → GivesStop (is_some old.known) (block_fault old.known old.offset old.coming) stop old new
-    → IsTrue cut ↔ (new.stop ≡ Some stops.Cut) → Keeps old new
-    → (IsTrue old.told → items_of new ≡ items_of old)
-    → Learns (pcapng_state old p) (nexts.End (ending_with p cut)) (pcapng_state new p)
+    → IsTrue cut ↔ (new.stop ≡ Some stops.Cut) → ReaderKeeps old new
+    → (IsTrue old.told → blocks_to_come new ≡ blocks_to_come old)
+    → FileLearns (pcapng_state old p) (nexts.End (ending_with p cut)) (pcapng_state new p)
 end_learned cut stop old new p free ends g was k same =
     let at = from_none old.stop _ free g.first in
     let which = cut_is cut stop (rw (g.stop_is) at was) in
@@ -227,18 +234,18 @@ end_learned cut stop old new p free ends g was k same =
       place = k.offset;
       free = refl;
       goes = record { before = at.goes.before; after = at.goes.after; failed = at.goes.failed };
-      items = λ t. no_items stop old.file p (items_of old) ends (sym (same t) ∙ stopped_again new stop g.stop_is);
-      ending = λ t. ap (ending_with p) which ∙ ending_stopped stop p (items_of old) (sym (same t)
+      items = λ t. no_items stop old.file p (blocks_to_come old) ends (sym (same t) ∙ stopped_again new stop g.stop_is);
+      ending = λ t. ap (ending_with p) which ∙ ending_stopped stop p (blocks_to_come old) (sym (same t)
           ∙ stopped_again new stop g.stop_is);
-      first = λ t. first_stopped stop p (items_of old) (sym (same t) ∙ stopped_again new stop g.stop_is);
+      first = λ t. first_stopped stop p (blocks_to_come old) (sym (same t) ∙ stopped_again new stop g.stop_is);
     }
 
 -- A rest is refused.
-pub refusal_learned : (refusal : Refusal) (old new : State Order) (p : Progress) → old.stop ≡ None
+pub refusal_learned : (refusal : Refusal) (old new : ReaderState Order) (p : Progress) → old.stop ≡ None
     → GivesStop (is_some old.known) (block_fault old.known old.offset old.coming) (stops.Refused refusal) old new
-    → Keeps old new
-    → (IsTrue old.told → items_of old ≡ stopped (stops.Refused refusal) ∷ [])
-    → Learns (pcapng_state old p) (nexts.Refused refusal (ending_with p false)) (pcapng_state new p)
+    → ReaderKeeps old new
+    → (IsTrue old.told → blocks_to_come old ≡ stopped (stops.Refused refusal) ∷ [])
+    → FileLearns (pcapng_state old p) (nexts.Refused refusal (ending_with p false)) (pcapng_state new p)
 refusal_learned refusal old new p free g k same =
     let at = from_none old.stop _ free g.first in
     record {
@@ -251,17 +258,18 @@ refusal_learned refusal old new p free g k same =
       place = k.offset;
       free = refl;
       goes = record { before = at.goes.before; after = at.goes.after; failed = at.goes.failed };
-      items = λ t. refused_items refusal old.file p (items_of old) (same t);
-      ending = λ t. ending_stopped (stops.Refused refusal) p (items_of old) (same t);
-      first = λ t. first_stopped (stops.Refused refusal) p (items_of old) (same t);
+      items = λ t. refused_items refusal old.file p (blocks_to_come old) (same t);
+      ending = λ t. ending_stopped (stops.Refused refusal) p (blocks_to_come old) (same t);
+      first = λ t. first_stopped (stops.Refused refusal) p (blocks_to_come old) (same t);
     }
 
 -- the same, of what a call answered
-pub block_stepped : (file : ℕ) (old new : State Order) (p q : Progress) (block : Block) (content : Result Content Rule)
+pub block_stepped : (file : ℕ) (old new : ReaderState Order) (p q : Progress) (block : Block)
+    (content : Result Content Rule)
     (next : Option Next)
     → next ≡ next_at file p block content → q ≡ behind p content
-    → file ≡ old.file → GivesBlock old block new → Keeps old new
-    → (IsTrue old.told → items_of old ≡ given block (body_in block.total old.coming) ∷ items_of new)
+    → file ≡ old.file → GivesBlock old block new → ReaderKeeps old new
+    → (IsTrue old.told → blocks_to_come old ≡ given block (body_in block.total old.coming) ∷ blocks_to_come new)
     → content ≡ content_in p.interfaces block.kind block.order (unwrap_or new.lent [])
     → StepsTo (pcapng_state old p) next (pcapng_state new q)
 block_stepped file old new p q block content next is_next is_q named g k taken is = grind (arith, block_steps)
@@ -274,20 +282,21 @@ packet_shown old new file p block said (Some next) is steps = (next, refl, steps
 packet_shown old new file p block (Ok packet) None is steps = cc
 packet_shown old new file p block (Err rule) None is steps = cc
 
-pub block_kept : (old new : State Order) (p q : Progress) (block : Block) (content : Result Content Rule)
-    → q ≡ behind p content → GivesBlock old block new → Keeps old new
+pub block_kept : (old new : ReaderState Order) (p q : Progress) (block : Block) (content : Result Content Rule)
+    → q ≡ behind p content → GivesBlock old block new → ReaderKeeps old new
     → content ≡ content_in p.interfaces block.kind block.order (unwrap_or new.lent [])
     → FileKeeps (pcapng_state old p) (pcapng_state new q)
 block_kept old new p q block content is_q g k is = grind (arith, block_keeps)
 
-pub refusal_kept : (refusal : Refusal) (ending : FileEnd) (old new : State Order) (p : Progress)
+pub refusal_kept : (refusal : Refusal) (ending : FileEnd) (old new : ReaderState Order) (p : Progress)
     → ending ≡ ending_with p false → old.stop ≡ None
     → GivesStop (is_some old.known) (block_fault old.known old.offset old.coming) (stops.Refused refusal) old new
-    → Keeps old new
-    → (IsTrue old.told → items_of old ≡ stopped (stops.Refused refusal) ∷ [])
-    → Learns (pcapng_state old p) (nexts.Refused refusal ending) (pcapng_state new p)
+    → ReaderKeeps old new
+    → (IsTrue old.told → blocks_to_come old ≡ stopped (stops.Refused refusal) ∷ [])
+    → FileLearns (pcapng_state old p) (nexts.Refused refusal ending) (pcapng_state new p)
 refusal_kept refusal ending old new p is_ending free g k same =
-    subst (λ (e : FileEnd). Learns (pcapng_state old p) (nexts.Refused refusal e) (pcapng_state new p)) (sym is_ending)
+    subst (λ (e : FileEnd). FileLearns (pcapng_state old p) (nexts.Refused refusal e) (pcapng_state new p))
+    (sym is_ending)
     (refusal_learned refusal old new p free g k same)
 
 -- a packet, or a refusal of one, leaves what was read of the file
@@ -309,7 +318,7 @@ enhanced_size kind total size allowed is kind_is = let least = rw kind_is at (to
     omega (arith, least)
 
 -- How far is read for a block.
-pub block_taken : (old new : State Order) (block : Block) (p q : Progress) → GivesBlock old block new
-    → ReachesNext old (Ok (Some block)) new
-    → Takes (pcapng_state old p) (pcapng_state new q)
+pub block_taken : (old new : ReaderState Order) (block : Block) (p q : Progress) → GivesBlock old block new
+    → ReachesBlock old (Ok (Some block)) new
+    → FileTakes (pcapng_state old p) (pcapng_state new q)
 block_taken old new block p q g h = (omega (arith, g.gives.next, g.least), rw g.gives.next h)

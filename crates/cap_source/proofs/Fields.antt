@@ -24,7 +24,7 @@ use Rattle.cap_bytes.specs.declared.numbers.Order.{Order}
 use Rattle.cap_pcap.proofs.Splitting.{every_split-law, split_items-law}
 use Rattle.cap_pcap.specs.Grammar.{Packet as Record, packet_size, SpellsRecord}
 use Rattle.cap_pcap.specs.Split as records
-use Rattle.cap_pcap.specs.Split.{Splits}
+use Rattle.cap_pcap.specs.Split.{SplitsRecords}
 use Rattle.cap_source.proofs.Blocks.{IsFit, content_fit}
 use Rattle.cap_source.proofs.Frames.{block-frame, read_header}
 use Rattle.cap_source.proofs.Saying.{OfContent, content-holds}
@@ -32,7 +32,8 @@ use Rattle.cap_source.specs.TimeBases.{interface_in, interface_or, interface_at,
 use Rattle.cap_source.specs.Contents.{content_in}
 use Rattle.cap_source.specs.Feed.{Item}
 use Rattle.cap_source.specs.inner.Fields.{FitsInterface, ItemFits, FieldsFit}
-use Rattle.cap_source.specs.Items.{Progress, behind, items_at, items_in, items_of_stop, items_from, pcap_items}
+use Rattle.cap_source.specs.Items.{Progress, behind, items_at_block, items_of_blocks, items_of_stop, items_from}
+use Rattle.cap_source.specs.Items.{pcap_items}
 use Rattle.cap_source.specs.Items.{interface_of}
 use Rattle.cap_source.specs.declared.contents.Content.{Content}
 use Rattle.cap_source.specs.declared.contents.Packet.{Packet}
@@ -127,18 +128,18 @@ content-fits interfaces kind order body fit are =
 -- ---- blocks
 
 -- The bodies of a file's blocks are bytes.
-abbrev pub IsOfBytes : pieces.Item Block → Type 0
+abbrev pub IsOfBytes : pieces.PieceItem Block → Type 0
 IsOfBytes (pieces.given block body) = AreBytes body
 IsOfBytes (pieces.stopped stop) = Unit {0}
 
-of_item : (stop : Option Stop) (block : Block) (body : List ℕ) (rest : List (pieces.Item Block)) → AreBytes body
+of_item : (stop : Option Stop) (block : Block) (body : List ℕ) (rest : List (pieces.PieceItem Block)) → AreBytes body
     → AllByRecursion IsOfBytes rest
     → AllByRecursion IsOfBytes (pieces.item_or stop (pieces.given block body) rest)
 of_item stop block body rest are later = grind arith
 
 pub blocks-bytes : (fuel : ℕ) (section : Option Order) (tail : Tail) (file offset : ℕ) (bytes : List ℕ) → AreBytes bytes
-    → AllByRecursion IsOfBytes (pieces.items_by blocks.blocks fuel section tail file offset bytes)
-unfolding pieces.items_by
+    → AllByRecursion IsOfBytes (pieces.piece_items_by blocks.block_format fuel section tail file offset bytes)
+unfolding pieces.piece_items_by
 blocks-bytes zero section tail file offset bytes are = tt
 blocks-bytes (suc fuel) section tail file offset bytes are =
     search (blocks-bytes fuel, of_item, drop, AreBytes-take, AreBytes-drop)
@@ -148,21 +149,21 @@ block-fits : (file few : ℕ) (progress : Progress) (block : Block) (body : List
     → IfOk content (OfContent FitsInterface FitsPacket) → IsFit few body content
     → AllByRecursion FitsInterface progress.interfaces
     → (AllByRecursion FitsInterface (behind progress content).interfaces → AllByRecursion ItemFits items)
-    → AllByRecursion ItemFits (items_at file progress block body content items)
+    → AllByRecursion ItemFits (items_at_block file progress block body content items)
 block-fits file few progress block body content items fits within all rest =
     grind (arith, common_steps, nat_tests, one_more, block-frame)
 
 stop-fits : (stop : Stop) → AllByRecursion ItemFits (items_of_stop stop)
 stop-fits stop = grind arith
 
-blocks-fit : (file : ℕ) (progress : Progress) (items : List (pieces.Item Block))
+blocks-fit : (file : ℕ) (progress : Progress) (items : List (pieces.PieceItem Block))
     → AllByRecursion FitsInterface progress.interfaces
-    → AllByRecursion IsOfBytes items → AllByRecursion ItemFits (items_in file progress items)
-unfolding items_in
+    → AllByRecursion IsOfBytes items → AllByRecursion ItemFits (items_of_blocks file progress items)
+unfolding items_of_blocks
 blocks-fit file progress (pieces.given block body ∷ rest) fit are =
     let content = content_in progress.interfaces block.kind block.order body in
     block-fits file (length progress.interfaces) progress block body content
-    (items_in file (behind progress content) rest)
+    (items_of_blocks file (behind progress content) rest)
     (content-fits progress.interfaces block.kind block.order body fit are.0)
     (content_fit progress.interfaces block.kind block.order body) fit
     (λ all. blocks-fit file (behind progress content) rest all are.1)
@@ -193,7 +194,7 @@ held-spelled order unit p xs are s =
 
 pub held-splits : (order : Order) (unit : Fraction) (offset : ℕ) (bytes : List ℕ) (ps : List Record) (rest : List ℕ)
     → AreBytes bytes
-    → Splits order unit offset bytes ps rest → AllHeld ps
+    → SplitsRecords order unit offset bytes ps rest → AllHeld ps
 held-splits order unit offset bytes [] rest are s = tt
 held-splits order unit offset bytes (p ∷ ps) rest are s =
     grind (
@@ -209,14 +210,14 @@ pub below_header : (bytes : List ℕ) → AreBytes bytes → ((records.header_at
     × ((records.header_at bytes).link < 2 ^ 16)
 unfolding records.header_at
 below_header bytes are = (
-  omega (arith, number-lt (records.order_at bytes) 4 (drop 16 bytes) (AreBytes-drop 16 bytes are)),
-  mod-lt (number (records.order_at bytes) 4 (drop 20 bytes)) {m = 65536} (omega arith),
+  omega (arith, number-lt (records.pcap_order_at bytes) 4 (drop 16 bytes) (AreBytes-drop 16 bytes are)),
+  mod-lt (number (records.pcap_order_at bytes) 4 (drop 20 bytes)) {m = 65536} (omega arith),
 )
 
 -- the packets of records have the one interface of the header
 records-fit : (file : ℕ) (i : Interface) (offset : ℕ) (packets : List Record) (stop : Stop) → FitsInterface i
     → AllHeld packets
-    → AllByRecursion ItemFits (pcap_items file i (records.items_with offset packets stop))
+    → AllByRecursion ItemFits (pcap_items file i (records.record_items_with offset packets stop))
 unfolding pcap_items
 records-fit file i offset (p ∷ ps) stop fits held =
     grind (arith, records-fit file i (offset + packet_size p) ps stop fits held.3)
@@ -232,13 +233,13 @@ header-fits bytes are = record {
 
 pcap-fits : (tail : Tail) (file : ℕ) (bytes : List ℕ) → AreBytes bytes
     → AllByRecursion ItemFits (pcap_items file (interface_of (records.header_at bytes))
-    (records.file_items tail file 0 bytes))
-unfolding records.file_items pcap_items
-pcap-fits tail file bytes are = by (records.header_fault 0 bytes) refl
+    (records.pcap_file_items tail file 0 bytes))
+unfolding records.pcap_file_items pcap_items
+pcap-fits tail file bytes are = by (records.pcap_header_fault 0 bytes) refl
   where
-    by : (fault : Option Rule) → records.header_fault 0 bytes ≡ fault
+    by : (fault : Option Rule) → records.pcap_header_fault 0 bytes ≡ fault
         → AllByRecursion ItemFits (pcap_items file (interface_of (records.header_at bytes))
-        (records.file_items tail file 0 bytes))
+        (records.pcap_file_items tail file 0 bytes))
     by (Some rule) is = rw is ((tt, tt))
     by None is =
         let header = records.header_at bytes in
@@ -250,5 +251,5 @@ pcap-fits tail file bytes are = by (records.header_fault 0 bytes) refl
         (held-splits header.order header.unit 24 (drop 24 bytes) split.0 split.1 (AreBytes-drop 24 bytes are) split.2))
 
 pub fields_fit-law : FieldsFit
-unfolding items_from pieces.items_in
+unfolding items_from pieces.piece_items
 fields_fit-law tail file bytes are = grind (arith, blocks-fit, blocks-bytes, pcap-fits)

@@ -14,12 +14,13 @@ use Rattle.cap_bytes.specs.declared.numbers.Order.{Order}
 use Rattle.cap_pcap.proofs.Splitting.{every_split-law, split_items-law}
 use Rattle.cap_pcap.specs.Grammar.{Packet as Record, packet_size}
 use Rattle.cap_pcap.specs.Split as records
-use Rattle.cap_pcap.specs.Split.{Splits}
+use Rattle.cap_pcap.specs.Split.{SplitsRecords}
 use Rattle.cap_source.proofs.Blocks.{IsFit, content_fit}
 use Rattle.cap_source.specs.Contents.{content_in}
 use Rattle.cap_source.specs.Feed.{Item}
 use Rattle.cap_source.specs.inner.Fields.{HasFrame, IsFrame, FramesFit}
-use Rattle.cap_source.specs.Items.{Progress, behind, frame_in, meta_in, items_at, items_in, items_of_stop, items_from}
+use Rattle.cap_source.specs.Items.{Progress, behind, frame_in, meta_in, items_at_block, items_of_blocks, items_of_stop}
+use Rattle.cap_source.specs.Items.{items_from}
 use Rattle.cap_source.specs.Items.{pcap_items, interface_of}
 use Rattle.cap_source.specs.declared.contents.Content.{Content}
 use Rattle.cap_source.specs.declared.contents.Packet.{Packet}
@@ -37,20 +38,20 @@ block-frame file progress block p body within = grind (arith, length-take-le, dr
 block-frames : (file few : ℕ) (progress : Progress) (block : Block) (body : List ℕ) (content : Result Content Rule)
     (items : List Item)
     → IsFit few body content → AllByRecursion HasFrame items
-    → AllByRecursion HasFrame (items_at file progress block body content items)
+    → AllByRecursion HasFrame (items_at_block file progress block body content items)
 block-frames file few progress block body content items within rest =
     grind (arith, common_steps, nat_tests, block-frame)
 
 stop-frames : (stop : Stop) → AllByRecursion HasFrame (items_of_stop stop)
 stop-frames stop = grind arith
 
-blocks-frames : (file : ℕ) (progress : Progress) (items : List (pieces.Item Block))
-    → AllByRecursion HasFrame (items_in file progress items)
-unfolding items_in
+blocks-frames : (file : ℕ) (progress : Progress) (items : List (pieces.PieceItem Block))
+    → AllByRecursion HasFrame (items_of_blocks file progress items)
+unfolding items_of_blocks
 blocks-frames file progress (pieces.given block body ∷ rest) =
     let content = content_in progress.interfaces block.kind block.order body in
     block-frames file (length progress.interfaces) progress block body content
-    (items_in file (behind progress content) rest)
+    (items_of_blocks file (behind progress content) rest)
     (content_fit progress.interfaces block.kind block.order body) (blocks-frames file (behind progress content) rest)
 blocks-frames file progress items = grind (arith, stop-frames)
 
@@ -58,8 +59,8 @@ blocks-frames file progress items = grind (arith, stop-frames)
 
 records-frames : (file : ℕ) (i : Interface) (order : Order) (unit : Fraction) (offset : ℕ) (bytes : List ℕ)
     (packets : List Record) (rest : List ℕ) (stop : Stop)
-    → Splits order unit offset bytes packets rest → AllByRecursion HasFrame
-    (pcap_items file i (records.items_with offset packets stop))
+    → SplitsRecords order unit offset bytes packets rest → AllByRecursion HasFrame
+    (pcap_items file i (records.record_items_with offset packets stop))
 unfolding pcap_items
 records-frames file i order unit offset bytes (p ∷ ps) rest stop s =
     grind (
@@ -69,20 +70,21 @@ records-frames file i order unit offset bytes (p ∷ ps) rest stop s =
     )
 records-frames file i order unit offset bytes packets rest stop s = grind arith
 
-pub read_header : (tail : Tail) (file : ℕ) (bytes : List ℕ) → records.header_fault 0 bytes ≡ None
-    → records.file_items tail file 0 bytes ≡ records.items_from (records.header_at bytes) tail file 24 (drop 24 bytes)
-unfolding records.file_items
+pub read_header : (tail : Tail) (file : ℕ) (bytes : List ℕ) → records.pcap_header_fault 0 bytes ≡ None
+    → records.pcap_file_items tail file 0 bytes ≡ records.record_items_from (records.header_at bytes) tail file 24
+    (drop 24 bytes)
+unfolding records.pcap_file_items
 read_header tail file bytes is = rw is refl
 
 pcap-frames : (tail : Tail) (file : ℕ) (bytes : List ℕ)
     → AllByRecursion HasFrame (pcap_items file (interface_of (records.header_at bytes))
-    (records.file_items tail file 0 bytes))
-unfolding records.file_items pcap_items
-pcap-frames tail file bytes = by (records.header_fault 0 bytes) refl
+    (records.pcap_file_items tail file 0 bytes))
+unfolding records.pcap_file_items pcap_items
+pcap-frames tail file bytes = by (records.pcap_header_fault 0 bytes) refl
   where
-    by : (fault : Option Rule) → records.header_fault 0 bytes ≡ fault
+    by : (fault : Option Rule) → records.pcap_header_fault 0 bytes ≡ fault
         → AllByRecursion HasFrame (pcap_items file (interface_of (records.header_at bytes))
-        (records.file_items tail file 0 bytes))
+        (records.pcap_file_items tail file 0 bytes))
     by (Some rule) is = rw is ((tt, tt))
     by None is =
         let header = records.header_at bytes in

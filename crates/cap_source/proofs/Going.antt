@@ -5,12 +5,13 @@ use Rattle.std.specs.Bool.{⊤}
 use Rattle.cap_bytes.specs.declared.faults.Fault.{Fault}
 use Rattle.cap_bytes.specs.inner.Reach.{ReachesTo}
 use Rattle.cap_bytes.proofs.Reach.{ReachesTo-here, ReachesTo-later}
-use Rattle.cap_source.specs.inner.FileState.{FileState, IfTaken, ReadsTo, Takes, FileKeeps, Waits, Learns, StepsTo}
-use Rattle.cap_source.specs.inner.FileState.{Answers}
-use Rattle.cap_source.specs.inner.FileState.{TakesShown, LearnsNext, IsSound}
+use Rattle.cap_source.specs.inner.FileState.{FileState, IfTaken, ReadsTo, FileTakes, FileKeeps, FileWaits, FileLearns}
+use Rattle.cap_source.specs.inner.FileState.{StepsTo}
+use Rattle.cap_source.specs.inner.FileState.{FileAnswers}
+use Rattle.cap_source.specs.inner.FileState.{TakesShown, LearnsNext, IsSoundFile}
 use Rattle.cap_source.specs.Items.{Progress}
-use Rattle.cap_source.specs.inner.Reached.{counted}
-use Rattle.cap_source.specs.inner.Readers.{state_of, is_there, is_stopped}
+use Rattle.cap_source.specs.inner.Reached.{counted_blocks}
+use Rattle.cap_source.specs.inner.Readers.{reader_file_state, is_there, is_stopped}
 use Rattle.cap_source.specs.declared.readers.Next.{Next}
 use Rattle.cap_source.specs.declared.readers.Next.TheVariants as nexts
 use Rattle.cap_source.specs.declared.readers.Reader.{Reader}
@@ -19,14 +20,14 @@ use Rattle.cap_source.specs.declared.readers.Reader.TheVariants as readers
 pub FileKeeps-trans : (a b c : FileState) → FileKeeps a b → FileKeeps b c → FileKeeps a c
 FileKeeps-trans a b c k l = grind arith
 
-pub Answers-behind : {A : Type 0} (a b c : FileState) (result : Result A Fault) (after : Option Next) → Waits a b
-    → FileKeeps a b → Answers b result after c → Answers a result after c
+pub Answers-behind : {A : Type 0} (a b c : FileState) (result : Result A Fault) (after : Option Next) → FileWaits a b
+    → FileKeeps a b → FileAnswers b result after c → FileAnswers a result after c
 Answers-behind a b c result after w k h = grind arith
 
 -- a look at one more block learned what comes next
-pub Learns-behind : (a b c : FileState) (after : Option Next) → Waits a b → FileKeeps a b → StepsTo b after c
+pub Learns-behind : (a b c : FileState) (after : Option Next) → FileWaits a b → FileKeeps a b → StepsTo b after c
     → IsTrue (is_some after)
-    → (next : Next) × (after ≡ Some next) × Learns a next c
+    → (next : Next) × (after ≡ Some next) × FileLearns a next c
 Learns-behind a b c None w k h is = grind arith
 Learns-behind a b c (Some next) w k h is = (next, refl, grind arith)
 
@@ -36,35 +37,37 @@ pub LearnsNext-shown : (old new : FileState) (known after : Option Next) → is_
     → LearnsNext {A = ⊤} old known (Ok tt) new after
 LearnsNext-shown old new known after not h = grind arith
 
-pub IsSound-shown : (old new : FileState) (known after : Option Next) → IsSound old known → FileKeeps old new
+pub IsSound-shown : (old new : FileState) (known after : Option Next) → IsSoundFile old known → FileKeeps old new
     → TakesShown old true after new
-    → IsSound new after
+    → IsSoundFile new after
 IsSound-shown old new known after i k h = grind arith
 
 -- How much is counted of a file, as the calls below ask it: cases of the reader stand here alone.
 counted_of : {R : Type 0} (reader : Reader R) (p : Progress) → IsTrue (is_there reader)
-    → (state_of reader p).counted ≡ counted p
+    → (reader_file_state reader p).counted ≡ counted_blocks p
 counted_of (readers.Unread window tail) p there = refl
 counted_of (readers.Pcap reader) p there = refl
 counted_of (readers.Pcapng reader) p there = refl
 counted_of readers.Moved p there = grind arith
 
 pub counted_limit : {R : Type 0} (reader : Reader R) (p : Progress) (known : Option Next) → IsTrue (is_there reader)
-    → IsSound (state_of reader p) known → counted p ≤ 2 ^ 40
+    → IsSoundFile (reader_file_state reader p) known → counted_blocks p ≤ 2 ^ 40
 counted_limit reader p known there i = omega (arith, counted_of reader p there, i.counted, i.limit)
 
 pub counted_kept : {R : Type 0} (old new : Reader R) (p : Progress) (known : Option Next) → IsTrue (is_there new)
-    → IsSound (state_of old p) known → FileKeeps (state_of old p) (state_of new p) → counted p ≤ (state_of new p).offset
+    → IsSoundFile (reader_file_state old p) known → FileKeeps (reader_file_state old p) (reader_file_state new p)
+    → counted_blocks p ≤ (reader_file_state new p).offset
 counted_kept old new p known there i k = omega (arith, counted_of new p there, k.counted i.counted)
 
 -- the same of a reader that was made
 pub counted_opened : {R : Type 0} (old : Reader R) (p : Progress) (new : FileState) → IsTrue (is_there old)
-    → counted p ≤ (state_of old p).offset → FileKeeps (state_of old p) new → new.counted ≤ new.offset
+    → counted_blocks p ≤ (reader_file_state old p).offset → FileKeeps (reader_file_state old p) new
+    → new.counted ≤ new.offset
 counted_opened old p new there few k = k.counted (omega (arith, counted_of old p there, few))
 
 -- a reader of which nothing is known has not come to an end
 pub free_of : {R : Type 0} (reader : Reader R) (p : Progress) (known : Option Next) → is_some known ≡ false
-    → IsSound (state_of reader p) known → is_stopped reader ≡ false
+    → IsSoundFile (reader_file_state reader p) known → is_stopped reader ≡ false
 free_of reader p (Some next) not i = grind arith
 free_of (readers.Unread window tail) p None not i = refl
 free_of (readers.Pcap reader) p None not i = grind arith
@@ -74,12 +77,12 @@ free_of readers.Moved p None not i = refl
 -- what comes next wasn't known, and was asked for
 pub LearnsNext-asked : {A : Type 0} (old new : FileState) (known after : Option Next) (result : Result A Fault)
     → is_some known ≡ false
-    → Answers old result after new → LearnsNext old known result new after
+    → FileAnswers old result after new → LearnsNext old known result new after
 LearnsNext-asked old new known after result not h = grind arith
 
 pub IsSound-asked : {A : Type 0} (old new : FileState) (known after : Option Next) (result : Result A Fault)
     → is_some known ≡ false
-    → IsSound old known → FileKeeps old new → Answers old result after new → IsSound new after
+    → IsSoundFile old known → FileKeeps old new → FileAnswers old result after new → IsSoundFile new after
 IsSound-asked old new known after result not i k h = grind arith
 
 -- it was known
@@ -88,7 +91,7 @@ pub LearnsNext-known : (s : FileState) (known : Option Next) → IsTrue (is_some
 LearnsNext-known s None is = grind arith
 LearnsNext-known s (Some next) is = (next, refl, (refl, refl))
 
-pub Waits-refl : (s : FileState) → s.stops ≡ false → Waits s s
+pub Waits-refl : (s : FileState) → s.stops ≡ false → FileWaits s s
 Waits-refl s free = grind arith
 
 pub FileKeeps-refl : (s : FileState) → FileKeeps s s
@@ -99,8 +102,8 @@ none_of None not = refl
 none_of (Some a) not = grind arith
 
 -- a block after which the file goes on
-pub Waits-further : (a b c : FileState) (after : Option Next) → Waits a b → FileKeeps a b → StepsTo b after c
-    → is_some after ≡ false → Waits a c
+pub Waits-further : (a b c : FileState) (after : Option Next) → FileWaits a b → FileKeeps a b → StepsTo b after c
+    → is_some after ≡ false → FileWaits a c
 Waits-further a b c after w k h not = grind arith
 
 -- How far a file is read, in one look and in another after it.
@@ -108,15 +111,15 @@ pub ReadsTo-here : (s : FileState) → ReadsTo s s
 ReadsTo-here s = ReachesTo-here s.most s.offset s.read
 
 Takes-later : (a b c : FileState) (end : ℕ) → FileKeeps a b → end ≤ c.offset → ReachesTo a.most end a.read b.read
-    → Takes b c → Takes a c
+    → FileTakes b c → FileTakes a c
 Takes-later a b c end k few h t =
     (omega (arith, k.offset, t.0), ReachesTo-later a.most end c.offset a.read b.read c.read few h (rw k.most at t.1))
 
-pub Takes-behind : (a b c : FileState) → FileKeeps a b → ReadsTo a b → Takes b c → Takes a c
+pub Takes-behind : (a b c : FileState) → FileKeeps a b → ReadsTo a b → FileTakes b c → FileTakes a c
 Takes-behind a b c k h t = Takes-later a b c b.offset k (omega (arith, t.0)) h t
 
 Takes-opened : (a b c : FileState) → FileKeeps a b → ReachesTo a.most (a.offset + 4) a.read b.read
-    → Takes b c → Takes a c
+    → FileTakes b c → FileTakes a c
 Takes-opened a b c k h t = Takes-later a b c (a.offset + 4) k (omega (arith, k.offset, t.0)) h t
 
 -- what holds if a record or block is taken, and what follows from that
@@ -137,22 +140,24 @@ taken_map (Err fault) known P Q f h = tt
 
 pub taken_behind : {A : Type 0} (a b c : FileState) (result : Result A Fault) (known : Option Next) → FileKeeps a b
     → ReadsTo a b
-    → IfOk result (λ x. IfTaken known (Takes b c)) → IfOk result (λ x. IfTaken known (Takes a c))
-taken_behind a b c result known k h t = taken_map result known (Takes b c) (Takes a c) (Takes-behind a b c k h) t
+    → IfOk result (λ x. IfTaken known (FileTakes b c)) → IfOk result (λ x. IfTaken known (FileTakes a c))
+taken_behind a b c result known k h t = taken_map result known (FileTakes b c) (FileTakes a c)
+    (Takes-behind a b c k h) t
 
 pub taken_opened : {A : Type 0} (a b c : FileState) (result : Result A Fault) (known : Option Next) → FileKeeps a b
     → ReachesTo a.most (a.offset + 4) a.read b.read
-    → IfOk result (λ x. IfTaken known (Takes b c)) → IfOk result (λ x. IfTaken known (Takes a c))
-taken_opened a b c result known k h t = taken_map result known (Takes b c) (Takes a c) (Takes-opened a b c k h) t
+    → IfOk result (λ x. IfTaken known (FileTakes b c)) → IfOk result (λ x. IfTaken known (FileTakes a c))
+taken_opened a b c result known k h t = taken_map result known (FileTakes b c) (FileTakes a c)
+    (Takes-opened a b c k h) t
 
 -- a block after which what comes next is known, or isn't: then the file goes on
-pub taken_last : (a b c : FileState) (known : Option Next) → FileKeeps a b → ReadsTo a b → IfTaken known (Takes b c)
-    → IfTaken known (Takes a c)
-taken_last a b c known k h t = IfTaken-map known (Takes b c) (Takes a c) (Takes-behind a b c k h) t
+pub taken_last : (a b c : FileState) (known : Option Next) → FileKeeps a b → ReadsTo a b → IfTaken known (FileTakes b c)
+    → IfTaken known (FileTakes a c)
+taken_last a b c known k h t = IfTaken-map known (FileTakes b c) (FileTakes a c) (Takes-behind a b c k h) t
 
 taken_none : (known : Option Next) (P : Type 0) → known ≡ None → IfTaken known P → P
 taken_none known P is h = grind arith
 
 pub ReadsTo-further : (a b c : FileState) (known : Option Next) → known ≡ None → FileKeeps a b → ReadsTo a b
-    → IfTaken known (Takes b c) → ReadsTo a c
-ReadsTo-further a b c known none k h t = (Takes-behind a b c k h (taken_none known (Takes b c) none t)).1
+    → IfTaken known (FileTakes b c) → ReadsTo a c
+ReadsTo-further a b c known none k h t = (Takes-behind a b c k h (taken_none known (FileTakes b c) none t)).1

@@ -1,5 +1,5 @@
 -- What options say of an interface's times, one after the other.
-use Rattle.cap_blocks.specs.Split.{or_else}
+use Rattle.cap_blocks.specs.Split.{first_of_rules}
 use Rattle.cap_time.specs.declared.resolutions.Resolution.{Resolution}
 use Rattle.std.proofs.Common.{Bool, true, false, ◌||◌, ◌&&◌, not, ◌==◌, Option, Some, None, is_some, unwrap_or, ℤ, pos}
 use Rattle.std.proofs.Common.{arith, ◌≡◌, ℕ, List, [], ◌∷◌, Result, Ok, Err, refl, if◌then◌else◌, ◌≤◌, ◌<◌, nat_le}
@@ -49,7 +49,8 @@ base_with res off = record { resolution = res; offset = off }
 set_resolution : (order : Order) (off : Option ℤ) (value : List ℕ) (rest items : List OptionItem)
     (read : Result TimeBase Rule) (x : Result Resolution Rule)
     → resolution_in value ≡ x → read ≡ with_resolution (base_with None off) x
-    → options_fault order false (is_some off) items ≡ or_else (fault_of x) (options_fault order true (is_some off) rest)
+    → options_fault order false (is_some off) items
+    ≡ first_of_rules (fault_of x) (options_fault order true (is_some off) rest)
     → value_of 9 items ≡ Some value → value_of 14 items ≡ value_of 14 rest
     → ((res : Option Resolution) → Agrees order res off rest (options_read order (base_with res off) rest))
     → Agrees order None off items (then_read read (λ next. options_read order next rest))
@@ -58,7 +59,8 @@ set_resolution order off value rest items read x' x is f v w ih = grind arith
 set_offset : (order : Order) (res : Option Resolution) (value : List ℕ) (rest items : List OptionItem)
     (read : Result TimeBase Rule) (x : Result ℤ Rule)
     → offset_in order value ≡ x → read ≡ with_offset (base_with res None) x
-    → options_fault order (is_some res) false items ≡ or_else (fault_of x) (options_fault order (is_some res) true rest)
+    → options_fault order (is_some res) false items
+    ≡ first_of_rules (fault_of x) (options_fault order (is_some res) true rest)
     → value_of 9 items ≡ value_of 9 rest → value_of 14 items ≡ Some value
     → ((off : Option ℤ) → Agrees order res off rest (options_read order (base_with res off) rest))
     → Agrees order res None items (then_read read (λ next. options_read order next rest))
@@ -68,7 +70,7 @@ one : (order : Order) (res : Option Resolution) (off : Option ℤ) (value : List
     (a b : Bool) (read : Result TimeBase Rule)
     → (a ≡ true → b ≡ true → ⊥)
     → options_fault order (is_some res) (is_some off) items
-    ≡ or_else (if a && not (is_some res) then fault_of (resolution_in value) else if b
+    ≡ first_of_rules (if a && not (is_some res) then fault_of (resolution_in value) else if b
     && not (is_some off) then fault_of (offset_in order value) else None)
     (options_fault order (is_some res || a) (is_some off || b) rest)
     → value_of 9 items ≡ (if a then Some value else value_of 9 rest)

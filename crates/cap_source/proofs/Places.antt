@@ -16,7 +16,8 @@ use Rattle.cap_blocks.specs.Grammar.{obsolete_kind, simple_kind, enhanced_kind}
 use Rattle.cap_blocks.specs.OptionList.{options_of}
 use Rattle.cap_blocks.specs.declared.blocks.Block.{Block}
 use Rattle.cap_source.specs.Contents.{of_body, timed_in, simple_in, described, content_in}
-use Rattle.cap_source.specs.Items.{Progress, fresh, first_or, after, behind, items_at, items_in, ending_with, ending_in}
+use Rattle.cap_source.specs.Items.{Progress, fresh, first_or, after, behind, items_at_block, items_of_blocks}
+use Rattle.cap_source.specs.Items.{ending_with, ending_in}
 use Rattle.cap_source.specs.Items.{unless_faulty, unless_item, first_in}
 use Rattle.cap_source.specs.inner.Places.{Standing, is_header, is_interface, is_other, is_named_interface, told}
 use Rattle.cap_source.specs.inner.Places.{interfaces_of, known_behind, items_behind, ending_behind, first_behind}
@@ -243,18 +244,18 @@ module _ {A : Type 0} (at : Progress → Result Content Rule → A → A) (at-fa
   one before b (Err rule) later there tells is =
       at-faulty (known_behind before) rule (later (known_behind before)) there
 
-items-from : (file : ℕ) (before : List Standing) (items : List (pieces.Item Block))
-    → items_in file (known_behind before) items ≡ items_behind file before items
-unfolding items_in items_behind
+items-from : (file : ℕ) (before : List Standing) (items : List (pieces.PieceItem Block))
+    → items_of_blocks file (known_behind before) items ≡ items_behind file before items
+unfolding items_of_blocks items_behind
 items-from file before [] = refl
 items-from file before (pieces.stopped stop ∷ rest) = refl
 items-from file before (pieces.given block body ∷ rest) =
-    one (λ p content later. items_at file p block body content later) (λ p rule x y. refl) before (block, body)
-    (content_in (known_behind before).interfaces block.kind block.order body) (λ p. items_in file p rest)
+    one (λ p content later. items_at_block file p block body content later) (λ p rule x y. refl) before (block, body)
+    (content_in (known_behind before).interfaces block.kind block.order body) (λ p. items_of_blocks file p rest)
     (items_behind file (before ++ (block, body) ∷ []) rest)
     (content-tells (known_behind before).interfaces (block, body)) (items-from file (before ++ (block, body) ∷ []) rest)
 
-ending-from : (before : List Standing) (items : List (pieces.Item Block))
+ending-from : (before : List Standing) (items : List (pieces.PieceItem Block))
     → ending_in (known_behind before) items ≡ ending_behind before items
 unfolding ending_in ending_behind
 ending-from before [] = refl
@@ -265,7 +266,7 @@ ending-from before (pieces.given block body ∷ rest) =
     (ending_behind (before ++ (block, body) ∷ []) rest)
     (content-tells (known_behind before).interfaces (block, body)) (ending-from (before ++ (block, body) ∷ []) rest)
 
-first-from : (before : List Standing) (items : List (pieces.Item Block))
+first-from : (before : List Standing) (items : List (pieces.PieceItem Block))
     → first_in (known_behind before) items ≡ first_behind before items
 unfolding first_in first_behind
 first-from before [] = refl
@@ -282,7 +283,7 @@ unfolding known_behind
 none-behind = refl
 
 pub items-law : ItemsByPlaces
-items-law file items = ap (λ p. items_in file p items) (sym none-behind) ∙ items-from file [] items
+items-law file items = ap (λ p. items_of_blocks file p items) (sym none-behind) ∙ items-from file [] items
 
 pub ending-law : EndingByPlaces
 ending-law items = ap (λ p. ending_in p items) (sym none-behind) ∙ ending-from [] items

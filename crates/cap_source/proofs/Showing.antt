@@ -2,7 +2,8 @@
 use Rattle.std.proofs.Common.{◌≡◌, IsTrue, Bool, true, false, Option, Some, None, is_some, refl, sym, ap, subst, ◌∙◌}
 use Rattle.std.proofs.Common.{inl, inr, arith}
 use Rattle.cap_source.specs.Feed.{Knows, ShowsPacket}
-use Rattle.cap_source.specs.inner.FileState.{FileState, feed_of, head_of, is_packet, is_whole, Learns, LearnsOr}
+use Rattle.cap_source.specs.inner.FileState.{FileState, file_feed, head_of, is_packet, is_unbroken, FileLearns}
+use Rattle.cap_source.specs.inner.FileState.{LearnsOr}
 use Rattle.cap_source.specs.inner.FileState.{ShowsNext}
 use Rattle.cap_source.specs.inner.FileState.{TakesShown}
 use Rattle.cap_source.specs.declared.readers.Next.{Next}
@@ -30,7 +31,8 @@ shows-learned old new (Some next) after shown is h e = grind arith
 shows-learned old new None after shown is h e =
     subst (λ (a : Option Next). ShowsNext old None shown new a) (sym h.1) (by h.0 h.2 (e ∙ ap is_packet h.1))
   where
-    by : (next : Next) → Learns old next new → shown ≡ is_packet (Some next) → ShowsNext old None shown new (Some next)
+    by : (next : Next) → FileLearns old next new → shown ≡ is_packet (Some next)
+        → ShowsNext old None shown new (Some next)
     by (nexts.Packet meta place) l s = subst (λ (b : Bool). ShowsNext old None b new (Some (nexts.Packet meta place)))
         (sym s) (meta, place, refl, l)
     by (nexts.Refused refusal ending) l s =
@@ -39,18 +41,19 @@ shows-learned old new None after shown is h e =
     by (nexts.End ending) l s = subst (λ (b : Bool). ShowsNext old None b new (Some (nexts.End ending))) (sym s)
         (inr (nexts.End ending, refl, l))
 
-knows-learned : (old new : FileState) (known after : Option Next) (next : Next) → IsTrue (is_whole known old.broken)
+knows-learned : (old new : FileState) (known after : Option Next) (next : Next) → IsTrue (is_unbroken known old.broken)
     → after ≡ Some next → LearnsOr old known next new
-    → Knows (feed_of old known) (head_of next) (feed_of new after)
+    → Knows (file_feed old known) (head_of next) (file_feed new after)
 knows-learned old new None after next whole is l = grind arith
 knows-learned old new (Some k) after next whole is l = grind arith
 
 -- the same of the file as a feed
-pub shows-packet : (old new : FileState) (known after : Option Next) (shown : Bool) → IsTrue (is_whole known old.broken)
+pub shows-packet : (old new : FileState) (known after : Option Next) (shown : Bool)
+    → IsTrue (is_unbroken known old.broken)
     → ShowsNext old known shown new after
-    → ShowsPacket (feed_of old known) shown (feed_of new after)
+    → ShowsPacket (file_feed old known) shown (file_feed new after)
 shows-packet old new known after true whole h =
     (h.0, knows-learned old new known after (nexts.Packet h.0 h.1) whole h.2 h.3)
-shows-packet old new known after false whole (inl h) = inl (λ i. feed_of (h.0 i) (h.1 i))
+shows-packet old new known after false whole (inl h) = inl (λ i. file_feed (h.0 i) (h.1 i))
 shows-packet old new known after false whole (inr h) =
     inr (head_of h.0, knows-learned old new known after h.0 whole h.1 h.2)

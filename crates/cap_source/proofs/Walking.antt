@@ -9,7 +9,7 @@ use Rattle.cap_bytes.specs.Printing.{Prints}
 use Rattle.cap_bytes.specs.declared.faults.Fault.{Fault}
 use Rattle.cap_bytes.specs.declared.faults.Fault.TheVariants.{Refused, Read, Write, Memory}
 use Rattle.cap_bytes.specs.declared.faults.Refusal.{Refusal}
-use Rattle.cap_source.specs.Feed.{Feed, Item, packet, refused, Keeps}
+use Rattle.cap_source.specs.Feed.{Feed, Item, packet, refused, FeedKeeps}
 use Rattle.cap_source.specs.inner.Walk.{ShowsItem}
 use Rattle.cap_source.specs.declared.packets.Meta.{Meta}
 
@@ -81,8 +81,8 @@ Walking-by first plan next old mid new fo fm fn from m to line p tells can less 
 pub Walking-more : (first plan next : Plan) (old mid shown new : Feed) (fo fm fn : Bool) (from m to : Writer)
     (meta : Meta) (line : List ℕ)
     → Walking first plan old mid fo fm from m
-    → Keeps mid shown → (IsTrue mid.told → ShowsItem mid (Ok (Some meta)) shown)
-    → Keeps shown new → (IsTrue shown.told → new.items ≡ drop 1 shown.items)
+    → FeedKeeps mid shown → (IsTrue mid.told → ShowsItem mid (Ok (Some meta)) shown)
+    → FeedKeeps shown new → (IsTrue shown.told → new.items ≡ drop 1 shown.items)
     → GoesOn plan meta shown.frame line next
     → (IsTrue m.told → to.held ≡ m.held ++ line)
     → (IsTrue m.told → IsTrue to.told) → (IsTrue to.can_fail → IsTrue m.can_fail) → fn ≡ fm

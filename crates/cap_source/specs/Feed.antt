@@ -59,7 +59,7 @@ IfPacket (Some (heads.Refused refusal)) Holds = ⊤
 IfPacket (Some heads.End) Holds = ⊤
 
 -- what every answer of every call keeps
-pub record Keeps (old new : Feed) : Type 0 where
+pub record FeedKeeps (old new : Feed) : Type 0 where
   pub files : new.files ≡ old.files
   pub told : IsTrue old.told → IsTrue new.told
   pub can_fail : (file : ℕ) → IsTrue (new.can_fail file) → IsTrue (old.can_fail file)
@@ -72,7 +72,7 @@ pub record SameItems (old new : Feed) : Type 0 where
   pub endings : (file : ℕ) → new.endings file ≡ old.endings file
 
 -- No read has failed, and none does.
-pub record Goes (old new : Feed) : Type 0 where
+pub record FeedGoes (old new : Feed) : Type 0 where
   pub before : old.broken ≡ None
   pub after : new.broken ≡ None
   pub failed : new.held.failed ≡ old.held.failed
@@ -81,12 +81,12 @@ pub record Goes (old new : Feed) : Type 0 where
 pub record Knows (old : Feed) (head : Head) (new : Feed) : Type 0 where
   pub known : new.known ≡ Some head
   pub again : IfSome old.known (λ first. (head ≡ first) × (new ≡ old))
-  pub goes : Goes old new
+  pub goes : FeedGoes old new
 
 -- A read of one of the files fails in this call, or failed in an earlier one: then the file and the offset
 -- are the same. The offset is where the header, the record or the block begins that was being read, which
 -- is the file's place from then on.
-pub record Breaks (old : Feed) (file offset : ℕ) (new : Feed) : Type 0 where
+pub record FeedBreaks (old : Feed) (file offset : ℕ) (new : Feed) : Type 0 where
   pub before : old.known ≡ None
   pub after : new.known ≡ None
   pub of : HasFile old.files file
@@ -97,18 +97,18 @@ pub record Breaks (old : Feed) (file offset : ℕ) (new : Feed) : Type 0 where
   pub can_fail : IsTrue (old.can_fail file)
 
 -- A growth was refused.
-pub record Waits (old new : Feed) : Type 0 where
+pub record FeedWaits (old new : Feed) : Type 0 where
   pub before : old.known ≡ None
   pub after : new.known ≡ None
-  pub goes : Goes old new
+  pub goes : FeedGoes old new
 
 -- what `head` answers
 abbrev pub GivesHead : Feed → Result Head Fault → Feed → Type 0
 GivesHead old (Ok head) new = Knows old head new
 GivesHead old (Err (Refused refusal)) new = ⊥
-GivesHead old (Err (Read file offset)) new = Breaks old file offset new
+GivesHead old (Err (Read file offset)) new = FeedBreaks old file offset new
 GivesHead old (Err Write) new = ⊥
-GivesHead old (Err Memory) new = Waits old new
+GivesHead old (Err Memory) new = FeedWaits old new
 
 -- what it does to the items to come
 abbrev pub KeepsItems : Feed → Result Head Fault → Feed → Type 0
@@ -123,9 +123,9 @@ abbrev pub FindsPacket : Feed → Result Bool Fault → Feed → Type 0
 FindsPacket old (Ok true) new = (meta : Meta) × Knows old (heads.Packet meta) new
 FindsPacket old (Ok false) new = Knows old heads.End new
 FindsPacket old (Err (Refused refusal)) new = Knows old (heads.Refused refusal) new
-FindsPacket old (Err (Read file offset)) new = Breaks old file offset new
+FindsPacket old (Err (Read file offset)) new = FeedBreaks old file offset new
 FindsPacket old (Err Write) new = ⊥
-FindsPacket old (Err Memory) new = Waits old new
+FindsPacket old (Err Memory) new = FeedWaits old new
 
 -- what it does to the items to come
 abbrev pub FindsItem : Feed → Result Bool Fault → Feed → Type 0
@@ -142,7 +142,7 @@ ShowsPacket old true new = (meta : Meta) × Knows old (heads.Packet meta) new
 ShowsPacket old false new = (new ≡ old) ⊎ ((head : Head) × Knows old head new)
 
 -- The packet that came next is dropped: the packets of its file that are to come begin after its offset.
-pub record Passes (old new : Feed) : Type 0 where
+pub record FeedPasses (old new : Feed) : Type 0 where
   pub known : new.known ≡ None
   pub broken : new.broken ≡ None
   pub held : new.held ≡ old.held

@@ -91,13 +91,13 @@ abbrev pub frame_in : Packet → List ℕ → List ℕ
 frame_in p body = take p.captured (drop p.place body)
 
 -- the items of a file from a block on that says this, before those after the block
-abbrev pub items_at : ℕ → Progress → Block → List ℕ → Result Content Rule → List Item → List Item
-items_at file progress block body (Ok contents.Section) rest = rest
-items_at file progress block body (Ok (contents.Interface described)) rest = rest
-items_at file progress block body (Ok (contents.Packet p)) rest =
+abbrev pub items_at_block : ℕ → Progress → Block → List ℕ → Result Content Rule → List Item → List Item
+items_at_block file progress block body (Ok contents.Section) rest = rest
+items_at_block file progress block body (Ok (contents.Interface described)) rest = rest
+items_at_block file progress block body (Ok (contents.Packet p)) rest =
     packet (meta_in file progress block p) (frame_in p body) ∷ rest
-items_at file progress block body (Ok contents.Other) rest = rest
-items_at file progress block body (Err rule) rest =
+items_at_block file progress block body (Ok contents.Other) rest = rest
+items_at_block file progress block body (Err rule) rest =
     refused (record { file = file; offset = block.offset; rule = rule }) ∷ []
 
 -- how far a file was read after that block
@@ -112,12 +112,12 @@ items_of_stop stops.Cut = []
 items_of_stop (stops.Refused refusal) = refused refusal ∷ []
 
 -- the items of the rest of a pcapng file, by the blocks that it splits into
-unfoldable pub items_in : ℕ → Progress → List (pieces.Item Block) → List Item
-items_in file progress [] = []
-items_in file progress (pieces.stopped stop ∷ rest) = items_of_stop stop
-items_in file progress (pieces.given block body ∷ rest) =
+unfoldable pub items_of_blocks : ℕ → Progress → List (pieces.PieceItem Block) → List Item
+items_of_blocks file progress [] = []
+items_of_blocks file progress (pieces.stopped stop ∷ rest) = items_of_stop stop
+items_of_blocks file progress (pieces.given block body ∷ rest) =
     let content = content_in progress.interfaces block.kind block.order body in
-    items_at file progress block body content (items_in file (behind progress content) rest)
+    items_at_block file progress block body content (items_of_blocks file (behind progress content) rest)
 
 -- how a pcapng file ends that was read so far, whether a rest was dropped, and how many interfaces have a name
 abbrev pub ending_with : Progress → Bool → FileEnd
@@ -138,7 +138,7 @@ unless_faulty (Ok content) here later = later
 unless_faulty (Err rule) here later = here
 
 -- how it ends, by the blocks of its rest
-unfoldable pub ending_in : Progress → List (pieces.Item Block) → FileEnd
+unfoldable pub ending_in : Progress → List (pieces.PieceItem Block) → FileEnd
 ending_in progress [] = ending_with progress false
 ending_in progress (pieces.stopped stop ∷ rest) = ending_with progress (is_cut stop)
 ending_in progress (pieces.given block body ∷ rest) =
@@ -154,7 +154,7 @@ unless_item (Ok contents.Other) here later = later
 unless_item (Err rule) here later = here
 
 -- the interface of instance 0 that stands before the next item or the end, by the blocks of its rest
-unfoldable pub first_in : Progress → List (pieces.Item Block) → Option Interface
+unfoldable pub first_in : Progress → List (pieces.PieceItem Block) → Option Interface
 first_in progress [] = progress.first
 first_in progress (pieces.stopped stop ∷ rest) = progress.first
 first_in progress (pieces.given block body ∷ rest) =
@@ -192,7 +192,7 @@ meta_of file interface r =
     }
 
 -- the items of the rest of a pcap file, by the records that it splits into
-unfoldable pub pcap_items : ℕ → Interface → List (pieces.Item Record) → List Item
+unfoldable pub pcap_items : ℕ → Interface → List (pieces.PieceItem Record) → List Item
 pcap_items file interface [] = []
 pcap_items file interface (pieces.stopped stop ∷ rest) = items_of_stop stop
 pcap_items file interface (pieces.given r frame ∷ rest) =
@@ -202,7 +202,7 @@ pcap_items file interface (pieces.given r frame ∷ rest) =
 abbrev pub pcap_ending_with : Bool → FileEnd
 pcap_ending_with was_cut = record { ending = record { format = Pcap; skipped = 0; was_cut = was_cut }; named = 0 }
 
-unfoldable pub pcap_ending : List (pieces.Item Record) → FileEnd
+unfoldable pub pcap_ending : List (pieces.PieceItem Record) → FileEnd
 pcap_ending [] = pcap_ending_with false
 pcap_ending (pieces.stopped stop ∷ rest) = pcap_ending_with (is_cut stop)
 pcap_ending (pieces.given r frame ∷ rest) = pcap_ending rest
@@ -219,18 +219,18 @@ is_pcapng bytes = nat_le 4 (length bytes) && is_section bytes
 
 unfoldable pub items_from : Tail → ℕ → Progress → ℕ → List ℕ → List Item
 items_from tail file progress offset bytes =
-    if is_pcapng bytes then items_in file progress (blocks.items_from None tail file offset bytes)
-    else pcap_items file (interface_of (records.header_at bytes)) (records.file_items tail file offset bytes)
+    if is_pcapng bytes then items_of_blocks file progress (blocks.block_items_from None tail file offset bytes)
+    else pcap_items file (interface_of (records.header_at bytes)) (records.pcap_file_items tail file offset bytes)
 
 unfoldable pub ending_from : Tail → ℕ → Progress → ℕ → List ℕ → FileEnd
 ending_from tail file progress offset bytes =
-    if is_pcapng bytes then ending_in progress (blocks.items_from None tail file offset bytes)
-    else pcap_ending (records.file_items tail file offset bytes)
+    if is_pcapng bytes then ending_in progress (blocks.block_items_from None tail file offset bytes)
+    else pcap_ending (records.pcap_file_items tail file offset bytes)
 
 unfoldable pub first_from : Tail → ℕ → Progress → ℕ → List ℕ → Option Interface
 first_from tail file progress offset bytes =
-    if is_pcapng bytes then first_in progress (blocks.items_from None tail file offset bytes)
-    else unless_refused (records.header_fault offset bytes) (interface_of (records.header_at bytes))
+    if is_pcapng bytes then first_in progress (blocks.block_items_from None tail file offset bytes)
+    else unless_refused (records.pcap_header_fault offset bytes) (interface_of (records.header_at bytes))
 
 -- the same of a whole file
 abbrev pub file_items : Tail → ℕ → List ℕ → List Item

@@ -13,7 +13,7 @@ use Rattle.cap_time.specs.Code.{is_allowed}
 use Rattle.cap_time.specs.declared.resolutions.Resolution.{Resolution}
 use Rattle.cap_time.specs.declared.resolutions.Interface.{Interface}
 use Rattle.cap_blocks.specs.OptionList.{OptionItem, options_of}
-use Rattle.cap_blocks.specs.Split.{or_else}
+use Rattle.cap_blocks.specs.Split.{first_of_rules}
 use Rattle.cap_source.specs.declared.interfaces.TimeBase.{TimeBase}
 
 -- the resolution of a code, if it is one that is read
@@ -121,7 +121,7 @@ unfoldable pub options_fault : Order → (resolved moved : Bool) → List Option
 options_fault order resolved moved [] = None
 options_fault order resolved moved (Err rule ∷ rest) = Some rule
 options_fault order resolved moved (Ok option ∷ rest) =
-    or_else (option_fault order resolved moved option.0 option.1)
+    first_of_rules (option_fault order resolved moved option.0 option.1)
     (options_fault order (resolved || (option.0 == 9)) (moved || (option.0 == 14)) rest)
 
 -- an option is an if_name, of code 2

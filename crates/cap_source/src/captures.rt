@@ -2,12 +2,12 @@
 ghost use Rattle.std.specs.Prelude.{◌≡◌, [], ◌∷◌, ℕ, None, IfOk, IsTrue};
 ghost use Rattle.std.proofs.Props.{props};
 ghost use Rattle.cap_bytes.specs.inner.SourceState.{source_of};
-ghost use Rattle.cap_source.specs.Feed.{Keeps, GivesHead, KeepsItems, FindsPacket, FindsItem, IsPacket, Passes};
+ghost use Rattle.cap_source.specs.Feed.{FeedKeeps, GivesHead, KeepsItems, FindsPacket, FindsItem, IsPacket, FeedPasses};
 ghost use Rattle.cap_source.specs.Items.{file_items, file_ending, file_first};
-ghost use Rattle.cap_source.specs.inner.FileState.{feed_of, GivesFirst, KeepsFirst, IsSound};
+ghost use Rattle.cap_source.specs.inner.FileState.{file_feed, GivesFirst, KeepsFirst, IsSoundFile};
 ghost use Rattle.cap_source.specs.inner.Laws.{captures_lawful};
 ghost use Rattle.cap_source.specs.inner.Reached.{progress_of};
-ghost use Rattle.cap_source.specs.inner.Readers.{state_of, is_there, reader_room};
+ghost use Rattle.cap_source.specs.inner.Readers.{reader_file_state, is_there, reader_room};
 
 use crate::feeds::{Ending, FeedHeld, Head, PacketFeed};
 use crate::known::Known;
@@ -29,11 +29,12 @@ pub struct Capture<R: Source> {
     next: Known,
     ghost there: { IsTrue (is_there reader) },
     ghost room: { IsTrue (reader_room reader reached) },
-    ghost sound: { IsSound (state_of reader (progress_of reached)) next } by { Prim.hlevel props },
+    ghost sound: { IsSoundFile (reader_file_state reader (progress_of reached)) next } by { Prim.hlevel props },
 }
 
 impl<R: Source> Capture<R> {
-    ghost use Rattle.cap_source.specs.inner.Captures.{number_of, first_of, position_of, unread_position, ReadsToPacket};
+    ghost use Rattle.cap_source.specs.inner.Captures.{capture_number, capture_first, position_of, unread_position};
+    ghost use Rattle.cap_source.specs.inner.Captures.{ReadsToPacket};
 
     /// The packets that `reader` gives, which is the file of that number. It reads nothing yet, so a faulty
     /// file header is the first item.
@@ -48,8 +49,8 @@ impl<R: Source> Capture<R> {
         ensures can_fail { (⟦<Capture<R> as PacketFeed>⟧.feed result).can_fail file ≡ R.can_fail reader }
         ensures held { (⟦<Capture<R> as PacketFeed>⟧.feed result).held
             ≡ record { window = 0; interfaces = 0; failed = R.has_failed reader } }
-        ensures first { first_of result ≡ file_first tail file (R.coming reader) }
-        ensures number { number_of result ≡ file }
+        ensures first { capture_first result ≡ file_first tail file (R.coming reader) }
+        ensures number { capture_number result ≡ file }
         ensures position { position_of result ≡ unread_position (source_of R.Source reader) }
     {
         Capture {
@@ -61,7 +62,7 @@ impl<R: Source> Capture<R> {
 
     /// The number of the file.
     pub fn file(&self) -> u32
-        ensures file { result ≡ number_of self.now }
+        ensures file { result ≡ capture_number self.now }
     {
         number_of(&self.reader)
     }
@@ -69,13 +70,13 @@ impl<R: Source> Capture<R> {
     /// The first interface of the file that stands before what comes next: before the first item if
     /// nothing was passed. `Read` and `Memory` come as of `head`, which is known afterwards.
     pub fn first(&mut self) -> Result<Option<Interface>, Fault>
-        ensures answer { GivesFirst (⟦<Capture<R> as PacketFeed>⟧.feed self.old) (first_of self.old) result
+        ensures answer { GivesFirst (⟦<Capture<R> as PacketFeed>⟧.feed self.old) (capture_first self.old) result
             (⟦<Capture<R> as PacketFeed>⟧.feed self.new) }
-        ensures keeps { Keeps (⟦<Capture<R> as PacketFeed>⟧.feed self.old)
+        ensures keeps { FeedKeeps (⟦<Capture<R> as PacketFeed>⟧.feed self.old)
             (⟦<Capture<R> as PacketFeed>⟧.feed self.new) }
         ensures items { IsTrue (⟦<Capture<R> as PacketFeed>⟧.feed self.old).told
-            → KeepsFirst (⟦<Capture<R> as PacketFeed>⟧.feed self.old) (first_of self.old) result
-            (⟦<Capture<R> as PacketFeed>⟧.feed self.new) (first_of self.new) }
+            → KeepsFirst (⟦<Capture<R> as PacketFeed>⟧.feed self.old) (capture_first self.old) result
+            (⟦<Capture<R> as PacketFeed>⟧.feed self.new) (capture_first self.new) }
         ensures reads { IfOk result (λ _. IsPacket (⟦<Capture<R> as PacketFeed>⟧.feed self.new).known
             → ReadsToPacket (position_of self.old) (position_of self.new)) }
         ensures most { (position_of self.new).most ≡ (position_of self.old).most }
@@ -86,14 +87,14 @@ impl<R: Source> Capture<R> {
 }
 
 impl<R: Source> PacketFeed for Capture<R> {
-    ghost use Rattle.cap_source.specs.inner.Captures.{feed_of as capture_feed, position_of, ReadsForHead};
+    ghost use Rattle.cap_source.specs.inner.Captures.{capture_feed, position_of, ReadsForHead};
     ghost use Rattle.cap_source.specs.inner.Captures.{ReadsForPacket};
 
-    ghost feed = { λ c. feed_of (state_of c.reader (progress_of c.reached)) c.next };
+    ghost feed = { λ c. file_feed (reader_file_state c.reader (progress_of c.reached)) c.next };
 
     fn head(&mut self) -> Result<Head, Fault>
         ensures answer { GivesHead (capture_feed self.old) result (capture_feed self.new) }
-        ensures keeps { Keeps (capture_feed self.old) (capture_feed self.new) }
+        ensures keeps { FeedKeeps (capture_feed self.old) (capture_feed self.new) }
         ensures items { IsTrue (capture_feed self.old).told
             → KeepsItems (capture_feed self.old) result (capture_feed self.new) }
         ensures reads { ReadsForHead (position_of self.old) result (position_of self.new) }
@@ -111,7 +112,7 @@ impl<R: Source> PacketFeed for Capture<R> {
     #[inline(always)]
     fn has_packet(&mut self) -> Result<bool, Fault>
         ensures answer { FindsPacket (capture_feed self.old) result (capture_feed self.new) }
-        ensures keeps { Keeps (capture_feed self.old) (capture_feed self.new) }
+        ensures keeps { FeedKeeps (capture_feed self.old) (capture_feed self.new) }
         ensures items { IsTrue (capture_feed self.old).told
             → FindsItem (capture_feed self.old) result (capture_feed self.new) }
         ensures reads { ReadsForPacket (position_of self.old) result (position_of self.new) }
@@ -142,8 +143,8 @@ impl<R: Source> PacketFeed for Capture<R> {
 
     fn pass(&mut self)
         requires packet { IsPacket (capture_feed self.old).known }
-        ensures passes { Passes (capture_feed self.old) (capture_feed self.new) }
-        ensures keeps { Keeps (capture_feed self.old) (capture_feed self.new) }
+        ensures passes { FeedPasses (capture_feed self.old) (capture_feed self.new) }
+        ensures keeps { FeedKeeps (capture_feed self.old) (capture_feed self.new) }
         ensures position { position_of self.new ≡ position_of self.old }
     {
         self.next.forget();
@@ -165,5 +166,5 @@ impl<R: Source> PacketFeed for Capture<R> {
         }
     }
 
-    ghost lawful = { λ c. captures_lawful (state_of c.reader (progress_of c.reached)) c.next c.sound };
+    ghost lawful = { λ c. captures_lawful (reader_file_state c.reader (progress_of c.reached)) c.next c.sound };
 }

@@ -1,7 +1,7 @@
 //! A list of packets that comes one by one, from wherever it comes.
 ghost use Rattle.std.specs.Prelude.{◌≡◌, IsTrue, Some};
-ghost use Rattle.cap_source.specs.Feed.{Feed, GivesHead, Keeps, KeepsItems, SameItems, FindsPacket, ShowsPacket};
-ghost use Rattle.cap_source.specs.Feed.{FindsItem, Passes, IsPacket, HasFile, IsFeed};
+ghost use Rattle.cap_source.specs.Feed.{Feed, GivesHead, FeedKeeps, KeepsItems, SameItems, FindsPacket, ShowsPacket};
+ghost use Rattle.cap_source.specs.Feed.{FindsItem, FeedPasses, IsPacket, HasFile, IsFeed};
 
 use crate::packets::{Format, Meta};
 use cap_bytes::{Fault, Refusal};
@@ -60,7 +60,7 @@ pub trait PacketFeed: Drop {
     /// a growth was refused, and no other fault comes.
     fn head(&mut self) -> Result<Head, Fault>
         ensures answer { GivesHead (feed self.old) result (feed self.new) }
-        ensures keeps { Keeps (feed self.old) (feed self.new) }
+        ensures keeps { FeedKeeps (feed self.old) (feed self.new) }
         ensures items { IsTrue (feed self.old).told
             → KeepsItems (feed self.old) result (feed self.new) };
 
@@ -68,7 +68,7 @@ pub trait PacketFeed: Drop {
     /// is answered as a fault, again and again.
     fn has_packet(&mut self) -> Result<bool, Fault>
         ensures answer { FindsPacket (feed self.old) result (feed self.new) }
-        ensures keeps { Keeps (feed self.old) (feed self.new) }
+        ensures keeps { FeedKeeps (feed self.old) (feed self.new) }
         ensures items { IsTrue (feed self.old).told
             → FindsItem (feed self.old) result (feed self.new) };
 
@@ -76,7 +76,7 @@ pub trait PacketFeed: Drop {
     /// says nothing of what comes next. It can't fail, so whoever takes many packets asks it first.
     fn shows_packet(&mut self) -> bool
         ensures answer { ShowsPacket (feed self.old) result (feed self.new) }
-        ensures keeps { Keeps (feed self.old) (feed self.new) }
+        ensures keeps { FeedKeeps (feed self.old) (feed self.new) }
         ensures items { IsTrue (feed self.old).told → SameItems (feed self.old) (feed self.new) };
 
     /// The packet that comes next, without its bytes.
@@ -92,8 +92,8 @@ pub trait PacketFeed: Drop {
     /// Drops the packet that comes next.
     fn pass(&mut self)
         requires packet { IsPacket (feed self.old).known }
-        ensures passes { Passes (feed self.old) (feed self.new) }
-        ensures keeps { Keeps (feed self.old) (feed self.new) };
+        ensures passes { FeedPasses (feed self.old) (feed self.new) }
+        ensures keeps { FeedKeeps (feed self.old) (feed self.new) };
 
     /// How a file of that number, which is one of the feed's, ended.
     fn ending(&self, file: u32) -> Ending

@@ -1,7 +1,7 @@
 //! The interface blocks of a pcapng file. draft-ietf-opsawg-pcapng, 4.2.
 ghost use Rattle.std.specs.Prelude.{◌≡◌, ◌≤◌, ◌%◌, drop, length, unwrap_or, pos};
 ghost use Rattle.cap_blocks.specs.OptionList.{options_of};
-ghost use Rattle.cap_blocks.specs.inner.Options.{item_of};
+ghost use Rattle.cap_blocks.specs.inner.Options.{option_item};
 ghost use Rattle.cap_source.specs.TimeBases.{resolution_of, resolution_in, offset_in, with_resolution, with_offset};
 ghost use Rattle.cap_source.specs.TimeBases.{option_read, options_read, no_base, microseconds, interface_with};
 ghost use Rattle.cap_source.specs.TimeBases.{interface_by, interface_in, is_name, is_named};
@@ -150,7 +150,7 @@ pub fn interface_of(before: usize, order: Order, body: &[u8]) -> Result<Interfac
 
 // Whether an option is a name.
 fn is_name(option: Result<(u16, &[u8]), Rule>) -> bool
-    ensures { result ≡ is_name (item_of option.entry) }
+    ensures { result ≡ is_name (option_item option.entry) }
 {
     match option {
         Ok((code, _)) => code == NAME,

@@ -2,7 +2,7 @@
 ghost use Rattle.std.specs.Prelude.{◌≡◌, Some, None, is_some};
 ghost use Rattle.cap_source.specs.Feed.{IsPacket};
 ghost use Rattle.cap_source.specs.declared.feeds.Head.TheVariants as heads;
-ghost use Rattle.cap_source.specs.inner.FileState.{head_by, is_packet, start_of};
+ghost use Rattle.cap_source.specs.inner.FileState.{next_head, is_packet, start_of};
 ghost use Rattle.cap_source.specs.declared.readers.Next.TheVariants.{Packet, Refused, End};
 
 use crate::feeds::{Ending, FileEnd};
@@ -103,8 +103,8 @@ impl Known {
     /// That packet, without its bytes.
     #[inline(always)]
     pub fn packet(&self) -> &Meta
-        requires { IsPacket (head_by self.now) }
-        ensures { head_by self.now ≡ Some (heads.Packet result.now) }
+        requires { IsPacket (next_head self.now) }
+        ensures { next_head self.now ≡ Some (heads.Packet result.now) }
     {
         &self.meta
     }
@@ -112,7 +112,7 @@ impl Known {
     /// Where its captured bytes begin in what the reader lends.
     #[inline(always)]
     pub fn place(&self) -> usize
-        requires { IsPacket (head_by self.now) }
+        requires { IsPacket (next_head self.now) }
         ensures { result ≡ start_of self.now }
     {
         self.place as usize

@@ -3,11 +3,13 @@ ghost use Rattle.std.specs.Prelude.{◌≡◌, ◌≤◌, ◌+◌, ◌^◌, fals
 ghost use Rattle.cap_bytes.specs.inner.Reach.{Reaches, ReachesTo};
 ghost use Rattle.cap_bytes.specs.inner.Window as windows;
 ghost use Rattle.cap_source.specs.Items.{Progress};
-ghost use Rattle.cap_source.specs.inner.FileState.{IsSound, LearnsNext, ShowsNext, Answers, TakesShown, FileKeeps};
+ghost use Rattle.cap_source.specs.inner.FileState.{IsSoundFile, LearnsNext, ShowsNext, FileAnswers, TakesShown};
+ghost use Rattle.cap_source.specs.inner.FileState.{FileKeeps};
 ghost use Rattle.cap_source.specs.inner.FileState.{IfTaken};
-ghost use Rattle.cap_source.specs.inner.FileState.{ReadsTo, Takes};
-ghost use Rattle.cap_source.specs.inner.Reached.{progress_of, counted};
-ghost use Rattle.cap_source.specs.inner.Readers.{state_of, is_there, IsReady, is_stopped, Opens, LooksAtWindow};
+ghost use Rattle.cap_source.specs.inner.FileState.{ReadsTo, FileTakes};
+ghost use Rattle.cap_source.specs.inner.Reached.{progress_of, counted_blocks};
+ghost use Rattle.cap_source.specs.inner.Readers.{reader_file_state, is_there, IsReadyReader, is_stopped, OpensReader};
+ghost use Rattle.cap_source.specs.inner.Readers.{LooksAtWindow};
 ghost use Rattle.cap_source.specs.inner.Readers.{reader_by};
 ghost use Rattle.cap_source.specs.inner.Readers.{reader_room};
 ghost use Rattle.cap_source.specs.declared.reached.Reached.{Reached};
@@ -28,7 +30,7 @@ use std::mem;
 fn look<R: Source>(window: &mut Window<R>) -> Result<Format, Fault>
     ensures answer { LooksAtWindow window.old result window.new }
     ensures reaches { Reaches (λ _. Some 4) 4 (windows.position window.old) result (windows.read_to window.new) }
-    ensures keeps { windows.Keeps window.old window.new }
+    ensures keeps { windows.WindowKeeps window.old window.new }
 {
     if !window.need(4)? {
         return Ok(Format::Pcap);
@@ -60,13 +62,14 @@ fn open<R: Source>(reader: &mut Reader<R>) -> Result<(), Fault>
     requires there { IsTrue (is_there reader.old) }
     requires free { is_stopped reader.old ≡ false }
     ensures there { IsTrue (is_there reader.new) }
-    ensures ready { IfOk result (λ _. IsReady reader.new) }
-    ensures answer { (progress : Progress) → Opens (state_of reader.old progress) result
-        (state_of reader.new progress) }
-    ensures reaches { (progress : Progress) → IfOk result (λ _. ReachesTo (state_of reader.old progress).most
-        ((state_of reader.old progress).offset + 4) (state_of reader.old progress).read
-        (state_of reader.new progress).read) }
-    ensures keeps { (progress : Progress) → FileKeeps (state_of reader.old progress) (state_of reader.new progress) }
+    ensures ready { IfOk result (λ _. IsReadyReader reader.new) }
+    ensures answer { (progress : Progress) → OpensReader (reader_file_state reader.old progress) result
+        (reader_file_state reader.new progress) }
+    ensures reaches { (progress : Progress) → IfOk result (λ _. ReachesTo (reader_file_state reader.old progress).most
+        ((reader_file_state reader.old progress).offset + 4) (reader_file_state reader.old progress).read
+        (reader_file_state reader.new progress).read) }
+    ensures keeps { (progress : Progress)
+        → FileKeeps (reader_file_state reader.old progress) (reader_file_state reader.new progress) }
     ensures room { (reached : Reached) → IsTrue (reader_room reader.old reached)
         → IsTrue (reader_room reader.new reached) }
 {
@@ -87,14 +90,14 @@ fn open<R: Source>(reader: &mut Reader<R>) -> Result<(), Fault>
 fn take_shown<R: Source>(reader: &mut Reader<R>, reached: &Reached, known: &mut Known) -> bool
     requires unknown { known.old ≡ None }
     requires there { IsTrue (is_there reader.old) }
-    requires counted { counted (progress_of reached.now) ≤ 2 ^ 40 }
+    requires counted { counted_blocks (progress_of reached.now) ≤ 2 ^ 40 }
     ensures there { IsTrue (is_there reader.new) }
-    ensures answer { TakesShown (state_of reader.old (progress_of reached.now)) result known.new
-        (state_of reader.new (progress_of reached.now)) }
-    ensures reaches { IsTrue result → Takes (state_of reader.old (progress_of reached.now))
-        (state_of reader.new (progress_of reached.now)) }
-    ensures keeps { FileKeeps (state_of reader.old (progress_of reached.now))
-        (state_of reader.new (progress_of reached.now)) }
+    ensures answer { TakesShown (reader_file_state reader.old (progress_of reached.now)) result known.new
+        (reader_file_state reader.new (progress_of reached.now)) }
+    ensures reaches { IsTrue result → FileTakes (reader_file_state reader.old (progress_of reached.now))
+        (reader_file_state reader.new (progress_of reached.now)) }
+    ensures keeps { FileKeeps (reader_file_state reader.old (progress_of reached.now))
+        (reader_file_state reader.new (progress_of reached.now)) }
     ensures room { IsTrue (reader_room reader.old reached.now) → IsTrue (reader_room reader.new reached.now) }
     ensures none { result ≡ false → (reader.new ≡ reader.old) × (known.new ≡ None) }
 {
@@ -119,16 +122,18 @@ pub fn next_of<R: Source>(
     requires unknown { known.old ≡ None }
     requires there { IsTrue (is_there reader.old) }
     requires free { is_stopped reader.old ≡ false }
-    requires limit { (state_of reader.old (progress_of reached.old)).offset ≤ 2 ^ 40 }
-    requires counted { counted (progress_of reached.old) ≤ (state_of reader.old (progress_of reached.old)).offset }
+    requires limit { (reader_file_state reader.old (progress_of reached.old)).offset ≤ 2 ^ 40 }
+    requires counted { counted_blocks (progress_of reached.old)
+        ≤ (reader_file_state reader.old (progress_of reached.old)).offset }
     requires room { IsTrue (reader_room reader.old reached.old) }
     ensures there { IsTrue (is_there reader.new) }
-    ensures answer { Answers (state_of reader.old (progress_of reached.old)) result known.new
-        (state_of reader.new (progress_of reached.new)) }
+    ensures answer { FileAnswers (reader_file_state reader.old (progress_of reached.old)) result known.new
+        (reader_file_state reader.new (progress_of reached.new)) }
     ensures reaches { IfOk result (λ _. IfTaken known.new
-        (Takes (state_of reader.old (progress_of reached.old)) (state_of reader.new (progress_of reached.new)))) }
-    ensures keeps { FileKeeps (state_of reader.old (progress_of reached.old))
-        (state_of reader.new (progress_of reached.new)) }
+        (FileTakes (reader_file_state reader.old (progress_of reached.old))
+        (reader_file_state reader.new (progress_of reached.new)))) }
+    ensures keeps { FileKeeps (reader_file_state reader.old (progress_of reached.old))
+        (reader_file_state reader.new (progress_of reached.new)) }
     ensures room { IsTrue (reader_room reader.new reached.new) }
 {
     open(reader)?;
@@ -144,14 +149,14 @@ pub fn next_of<R: Source>(
 #[inline(always)]
 pub fn shows<R: Source>(reader: &mut Reader<R>, reached: &Reached, known: &mut Known) -> bool
     requires there { IsTrue (is_there reader.old) }
-    requires sound { IsSound (state_of reader.old (progress_of reached.now)) known.old }
+    requires sound { IsSoundFile (reader_file_state reader.old (progress_of reached.now)) known.old }
     requires room { IsTrue (reader_room reader.old reached.now) }
     ensures there { IsTrue (is_there reader.new) }
-    ensures sound { IsSound (state_of reader.new (progress_of reached.now)) known.new }
-    ensures answer { ShowsNext (state_of reader.old (progress_of reached.now)) known.old result
-        (state_of reader.new (progress_of reached.now)) known.new }
-    ensures keeps { FileKeeps (state_of reader.old (progress_of reached.now))
-        (state_of reader.new (progress_of reached.now)) }
+    ensures sound { IsSoundFile (reader_file_state reader.new (progress_of reached.now)) known.new }
+    ensures answer { ShowsNext (reader_file_state reader.old (progress_of reached.now)) known.old result
+        (reader_file_state reader.new (progress_of reached.now)) known.new }
+    ensures keeps { FileKeeps (reader_file_state reader.old (progress_of reached.now))
+        (reader_file_state reader.new (progress_of reached.now)) }
     ensures room { IsTrue (reader_room reader.new reached.now) }
 {
     if known.is_some() {
@@ -168,16 +173,17 @@ pub fn learn<R: Source>(
     known: &mut Known,
 ) -> Result<(), Fault>
     requires there { IsTrue (is_there reader.old) }
-    requires sound { IsSound (state_of reader.old (progress_of reached.old)) known.old }
+    requires sound { IsSoundFile (reader_file_state reader.old (progress_of reached.old)) known.old }
     requires room { IsTrue (reader_room reader.old reached.old) }
     ensures there { IsTrue (is_there reader.new) }
-    ensures sound { IsSound (state_of reader.new (progress_of reached.new)) known.new }
-    ensures answer { LearnsNext (state_of reader.old (progress_of reached.old)) known.old result
-        (state_of reader.new (progress_of reached.new)) known.new }
+    ensures sound { IsSoundFile (reader_file_state reader.new (progress_of reached.new)) known.new }
+    ensures answer { LearnsNext (reader_file_state reader.old (progress_of reached.old)) known.old result
+        (reader_file_state reader.new (progress_of reached.new)) known.new }
     ensures reaches { IfOk result (λ _. IfTaken known.new
-        (ReadsTo (state_of reader.old (progress_of reached.old)) (state_of reader.new (progress_of reached.new)))) }
-    ensures keeps { FileKeeps (state_of reader.old (progress_of reached.old))
-        (state_of reader.new (progress_of reached.new)) }
+        (ReadsTo (reader_file_state reader.old (progress_of reached.old))
+        (reader_file_state reader.new (progress_of reached.new)))) }
+    ensures keeps { FileKeeps (reader_file_state reader.old (progress_of reached.old))
+        (reader_file_state reader.new (progress_of reached.new)) }
     ensures room { IsTrue (reader_room reader.new reached.new) }
 {
     if known.is_some() {

@@ -1,7 +1,7 @@
 //! What comes next of a pcap file.
 ghost use Rattle.std.specs.Prelude.{◌≡◌, IsTrue, IfOk, None, Some, false};
 ghost use Rattle.cap_source.specs.Items.{Progress, resolution_of_unit, interface_of, pcap_ending_with, meta_of};
-ghost use Rattle.cap_source.specs.inner.FileState.{Answers, TakesShown, FileKeeps, IfTaken, Takes, noted_by};
+ghost use Rattle.cap_source.specs.inner.FileState.{FileAnswers, TakesShown, FileKeeps, IfTaken, FileTakes, noted_by};
 ghost use Rattle.cap_source.specs.inner.FileState.{pcap_state};
 
 use crate::feeds::{Ending, FileEnd};
@@ -83,7 +83,7 @@ pub fn take_shown<R: Source>(reader: &mut PcapReader<R>, known: &mut Known) -> b
     ensures answer { (progress : Progress) → TakesShown (pcap_state reader.old progress) result known.new
         (pcap_state reader.new progress) }
     ensures reaches { (progress : Progress) → IsTrue result
-        → Takes (pcap_state reader.old progress) (pcap_state reader.new progress) }
+        → FileTakes (pcap_state reader.old progress) (pcap_state reader.new progress) }
     ensures keeps { (progress : Progress) → FileKeeps (pcap_state reader.old progress)
         (pcap_state reader.new progress) }
     ensures none { result ≡ false → (reader.new ≡ reader.old) × (known.new ≡ None) }
@@ -111,10 +111,10 @@ fn next_record_of<R: Source>(
     requires unknown { known.old ≡ None }
     requires header { reader.old.known ≡ Some header }
     requires free { reader.old.stop ≡ None }
-    ensures answer { (progress : Progress) → Answers (pcap_state reader.old progress) result known.new
+    ensures answer { (progress : Progress) → FileAnswers (pcap_state reader.old progress) result known.new
         (pcap_state reader.new progress) }
     ensures reaches { (progress : Progress) → IfOk result
-        (λ _. IfTaken known.new (Takes (pcap_state reader.old progress) (pcap_state reader.new progress))) }
+        (λ _. IfTaken known.new (FileTakes (pcap_state reader.old progress) (pcap_state reader.new progress))) }
     ensures keeps { (progress : Progress) → FileKeeps (pcap_state reader.old progress)
         (pcap_state reader.new progress) }
 {
@@ -142,10 +142,10 @@ fn next_record_of<R: Source>(
 pub fn next_of_pcap<R: Source>(reader: &mut PcapReader<R>, known: &mut Known) -> Result<(), Fault>
     requires unknown { known.old ≡ None }
     requires free { reader.old.stop ≡ None }
-    ensures answer { (progress : Progress) → Answers (pcap_state reader.old progress) result known.new
+    ensures answer { (progress : Progress) → FileAnswers (pcap_state reader.old progress) result known.new
         (pcap_state reader.new progress) }
     ensures reaches { (progress : Progress) → IfOk result
-        (λ _. IfTaken known.new (Takes (pcap_state reader.old progress) (pcap_state reader.new progress))) }
+        (λ _. IfTaken known.new (FileTakes (pcap_state reader.old progress) (pcap_state reader.new progress))) }
     ensures keeps { (progress : Progress) → FileKeeps (pcap_state reader.old progress)
         (pcap_state reader.new progress) }
 {

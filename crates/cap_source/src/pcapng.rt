@@ -1,12 +1,13 @@
 //! What comes next of a pcapng file.
 ghost use Rattle.std.specs.Prelude.{◌≡◌, ◌≤◌, ◌<◌, ◌+◌, ◌^◌, [], length, false, IsTrue, IfOk, IfSome, None, Some, Err};
 ghost use Rattle.std.specs.Prelude.{is_some, unwrap_or, vec_len, vec_capacity};
-ghost use Rattle.cap_blocks.specs.Grammar.{is_known, is_total};
+ghost use Rattle.cap_blocks.specs.Grammar.{is_known_kind, is_total};
 ghost use Rattle.cap_source.specs.Contents.{content_in, of_body};
 ghost use Rattle.cap_source.specs.Items.{ending_with, meta_in, behind};
-ghost use Rattle.cap_source.specs.inner.FileState.{Answers, TakesShown, FileKeeps, IfTaken, Steps, Takes, pcapng_state};
+ghost use Rattle.cap_source.specs.inner.FileState.{FileAnswers, TakesShown, FileKeeps, IfTaken, FileSteps, FileTakes};
+ghost use Rattle.cap_source.specs.inner.FileState.{pcapng_state};
 ghost use Rattle.cap_source.specs.inner.FileState.{next_at};
-ghost use Rattle.cap_source.specs.inner.Reached.{progress_of, counted, has_room};
+ghost use Rattle.cap_source.specs.inner.Reached.{progress_of, counted_blocks, has_room};
 
 use crate::contents::{Content, Packet, content_of, enhanced_packet};
 use crate::feeds::{Ending, FileEnd};
@@ -40,7 +41,7 @@ fn read_content<R: Source>(
     block: Block,
     interfaces: &[Interface],
 ) -> Result<Content, Rule>
-    requires known { is_some reader.now.lent ≡ is_known block.kind }
+    requires known { is_some reader.now.lent ≡ is_known_kind block.kind }
     requires allowed { IsTrue (is_total block.kind block.total) }
     requires size { IfSome reader.now.lent (λ body. length body + 12 ≡ block.total) }
     ensures { result ≡ content_in interfaces.now block.kind block.order (unwrap_or reader.now.lent []) }
@@ -80,7 +81,7 @@ fn take_content(
     known: &mut Known,
 )
     requires room { vec_len reached.old.interfaces < vec_capacity reached.old.interfaces }
-    requires limit { counted (progress_of reached.old) < 2 ^ 40 }
+    requires limit { counted_blocks (progress_of reached.old) < 2 ^ 40 }
     requires unknown { known.old ≡ None }
     ensures next { known.new ≡ next_at file (progress_of reached.old) block content }
     ensures behind { progress_of reached.new ≡ behind (progress_of reached.old) content }
@@ -105,10 +106,10 @@ pub fn take_shown<R: Source>(
     known: &mut Known,
 ) -> bool
     requires unknown { known.old ≡ None }
-    requires counted { counted (progress_of reached.now) ≤ 2 ^ 40 }
+    requires counted { counted_blocks (progress_of reached.now) ≤ 2 ^ 40 }
     ensures answer { TakesShown (pcapng_state reader.old (progress_of reached.now)) result known.new
         (pcapng_state reader.new (progress_of reached.now)) }
-    ensures reaches { IsTrue result → Takes (pcapng_state reader.old (progress_of reached.now))
+    ensures reaches { IsTrue result → FileTakes (pcapng_state reader.old (progress_of reached.now))
         (pcapng_state reader.new (progress_of reached.now)) }
     ensures keeps { FileKeeps (pcapng_state reader.old (progress_of reached.now))
         (pcapng_state reader.new (progress_of reached.now)) }
@@ -171,12 +172,12 @@ fn take_block<R: Source>(
 ) -> Result<(), Fault>
     requires room { vec_len reached.old.interfaces < vec_capacity reached.old.interfaces }
     requires unknown { known.old ≡ None }
-    requires counted { counted (progress_of reached.old) ≤ reader.old.offset }
+    requires counted { counted_blocks (progress_of reached.old) ≤ reader.old.offset }
     requires free { reader.old.stop ≡ None }
-    ensures answer { Steps (pcapng_state reader.old (progress_of reached.old)) result known.new
+    ensures answer { FileSteps (pcapng_state reader.old (progress_of reached.old)) result known.new
         (pcapng_state reader.new (progress_of reached.new)) }
     ensures reaches { IfOk result (λ _. IfTaken known.new
-        (Takes (pcapng_state reader.old (progress_of reached.old))
+        (FileTakes (pcapng_state reader.old (progress_of reached.old))
         (pcapng_state reader.new (progress_of reached.new)))) }
     ensures keeps { FileKeeps (pcapng_state reader.old (progress_of reached.old))
         (pcapng_state reader.new (progress_of reached.new)) }
@@ -210,13 +211,13 @@ fn step<R: Source>(
     known: &mut Known,
 ) -> Result<(), Fault>
     requires unknown { known.old ≡ None }
-    requires counted { counted (progress_of reached.old) ≤ reader.old.offset }
+    requires counted { counted_blocks (progress_of reached.old) ≤ reader.old.offset }
     requires free { reader.old.stop ≡ None }
     requires room { IsTrue (has_room reader.old.broken reached.old) }
-    ensures answer { Steps (pcapng_state reader.old (progress_of reached.old)) result known.new
+    ensures answer { FileSteps (pcapng_state reader.old (progress_of reached.old)) result known.new
         (pcapng_state reader.new (progress_of reached.new)) }
     ensures reaches { IfOk result (λ _. IfTaken known.new
-        (Takes (pcapng_state reader.old (progress_of reached.old))
+        (FileTakes (pcapng_state reader.old (progress_of reached.old))
         (pcapng_state reader.new (progress_of reached.new)))) }
     ensures keeps { FileKeeps (pcapng_state reader.old (progress_of reached.old))
         (pcapng_state reader.new (progress_of reached.new)) }
@@ -233,14 +234,14 @@ pub fn next_of_blocks<R: Source>(
     known: &mut Known,
 ) -> Result<(), Fault>
     requires unknown { known.old ≡ None }
-    requires counted { counted (progress_of reached.old) ≤ reader.old.offset }
+    requires counted { counted_blocks (progress_of reached.old) ≤ reader.old.offset }
     requires free { reader.old.stop ≡ None }
     requires limit { reader.old.offset ≤ 2 ^ 40 }
     requires room { IsTrue (has_room reader.old.broken reached.old) }
-    ensures answer { Answers (pcapng_state reader.old (progress_of reached.old)) result known.new
+    ensures answer { FileAnswers (pcapng_state reader.old (progress_of reached.old)) result known.new
         (pcapng_state reader.new (progress_of reached.new)) }
     ensures reaches { IfOk result (λ _. IfTaken known.new
-        (Takes (pcapng_state reader.old (progress_of reached.old))
+        (FileTakes (pcapng_state reader.old (progress_of reached.old))
         (pcapng_state reader.new (progress_of reached.new)))) }
     ensures keeps { FileKeeps (pcapng_state reader.old (progress_of reached.old))
         (pcapng_state reader.new (progress_of reached.new)) }

@@ -1,7 +1,7 @@
 //! How far a pcapng file was read, and what a block adds to that.
 ghost use Rattle.std.specs.Prelude.{◌≡◌, ◌<◌, ◌+◌, ◌^◌, vec_len, vec_capacity};
 ghost use Rattle.cap_source.specs.Items.{after, fresh};
-ghost use Rattle.cap_source.specs.inner.Reached.{progress_of, counted};
+ghost use Rattle.cap_source.specs.inner.Reached.{progress_of, counted_blocks};
 
 use crate::contents::{Content, Described};
 use cap_time::Interface;
@@ -37,7 +37,7 @@ pub fn nothing_reached(alloc: Global) -> Reached
 
 // After a section header.
 fn begin_section(reached: &mut Reached)
-    requires { counted (progress_of reached.old) < 2 ^ 40 }
+    requires { counted_blocks (progress_of reached.old) < 2 ^ 40 }
     ensures { progress_of reached.new ≡ after (progress_of reached.old) Content.Section }
 {
     reached.base += reached.interfaces.len() as u64;
@@ -47,7 +47,7 @@ fn begin_section(reached: &mut Reached)
 // After an interface block.
 fn add_interface(reached: &mut Reached, described: Described)
     requires room { vec_len reached.old.interfaces < vec_capacity reached.old.interfaces }
-    requires limit { counted (progress_of reached.old) < 2 ^ 40 }
+    requires limit { counted_blocks (progress_of reached.old) < 2 ^ 40 }
     ensures { progress_of reached.new ≡ after (progress_of reached.old) (Content.Interface described) }
 {
     reached.first = Some(reached.first.unwrap_or(described.interface));
@@ -60,7 +60,7 @@ fn add_interface(reached: &mut Reached, described: Described)
 /// Goes on after a block that says this. There is room for an interface.
 pub fn go_on(reached: &mut Reached, content: Content)
     requires room { vec_len reached.old.interfaces < vec_capacity reached.old.interfaces }
-    requires limit { counted (progress_of reached.old) < 2 ^ 40 }
+    requires limit { counted_blocks (progress_of reached.old) < 2 ^ 40 }
     ensures { progress_of reached.new ≡ after (progress_of reached.old) content }
 {
     match content {

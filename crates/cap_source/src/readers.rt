@@ -2,9 +2,9 @@
 ghost use Rattle.std.specs.Prelude.{◌≡◌, ◌≤◌, IsTrue, IsSome, Some};
 ghost use Rattle.cap_source.specs.Feed.{IsPacket};
 ghost use Rattle.cap_source.specs.Items.{Progress};
-ghost use Rattle.cap_source.specs.inner.FileState.{head_by, end_of, size_of, frame_of, ending_by};
+ghost use Rattle.cap_source.specs.inner.FileState.{next_head, lent_end, lent_length, next_frame, ending_by};
 ghost use Rattle.cap_source.specs.inner.Reached.{progress_of};
-ghost use Rattle.cap_source.specs.inner.Readers.{state_of, is_there, lent_of};
+ghost use Rattle.cap_source.specs.inner.Readers.{reader_file_state, is_there, lent_of};
 
 use crate::feeds::{FileEnd, Head};
 use crate::known::Known;
@@ -57,9 +57,9 @@ fn lent_of<R: Source>(reader: &Reader<R>) -> &[u8]
 
 /// The captured bytes of a packet that comes next.
 pub fn part_of<'a, R: Source>(reader: &'a Reader<R>, next: &Known) -> &'a [u8]
-    requires packet { IsPacket (head_by next.now) }
-    requires lent { end_of next.now ≤ size_of (lent_of reader.now) }
-    ensures { result.now ≡ frame_of next.now (lent_of reader.entry.now) }
+    requires packet { IsPacket (next_head next.now) }
+    requires lent { lent_end next.now ≤ lent_length (lent_of reader.now) }
+    ensures { result.now ≡ next_frame next.now (lent_of reader.entry.now) }
 {
     let (_, behind) = lent_of(reader).split_at(next.place());
     behind.split_at(next.packet().captured as usize).0
@@ -67,7 +67,7 @@ pub fn part_of<'a, R: Source>(reader: &'a Reader<R>, next: &Known) -> &'a [u8]
 
 /// How a file ended of which the end comes next.
 pub fn ending_of(next: Option<Next>) -> FileEnd
-    requires { head_by next ≡ Some Head.End }
+    requires { next_head next ≡ Some Head.End }
     ensures { (later : FileEnd) → result ≡ ending_by next later }
 {
     match next {
@@ -79,7 +79,7 @@ pub fn ending_of(next: Option<Next>) -> FileEnd
 /// The number of a file.
 pub fn number_of<R: Source>(reader: &Reader<R>) -> u32
     requires { IsTrue (is_there reader.now) }
-    ensures { (progress : Progress) → result ≡ (state_of reader.now progress).file }
+    ensures { (progress : Progress) → result ≡ (reader_file_state reader.now progress).file }
 {
     match reader {
         Reader::Unread(window, _) => window.file(),
@@ -92,7 +92,7 @@ pub fn number_of<R: Source>(reader: &Reader<R>) -> u32
 /// The first interface of a file, as far as it was read.
 pub fn noted_of<R: Source>(reader: &Reader<R>, reached: &Reached) -> Option<Interface>
     requires { IsTrue (is_there reader.now) }
-    ensures { result ≡ (state_of reader.now (progress_of reached.now)).noted }
+    ensures { result ≡ (reader_file_state reader.now (progress_of reached.now)).noted }
 {
     match reader {
         Reader::Unread(_, _) => reached.first,
@@ -105,7 +105,7 @@ pub fn noted_of<R: Source>(reader: &Reader<R>, reached: &Reached) -> Option<Inte
 /// How many bytes are kept of a file.
 pub fn held_of<R: Source>(reader: &Reader<R>) -> u64
     requires { IsTrue (is_there reader.now) }
-    ensures { (progress : Progress) → result ≡ (state_of reader.now progress).held }
+    ensures { (progress : Progress) → result ≡ (reader_file_state reader.now progress).held }
 {
     match reader {
         Reader::Unread(window, _) => window.held(),
@@ -118,7 +118,7 @@ pub fn held_of<R: Source>(reader: &Reader<R>) -> u64
 /// Whether a file's device has failed.
 pub fn failed_of<R: Source>(reader: &Reader<R>) -> bool
     requires { IsTrue (is_there reader.now) }
-    ensures { (progress : Progress) → result ≡ (state_of reader.now progress).failed }
+    ensures { (progress : Progress) → result ≡ (reader_file_state reader.now progress).failed }
 {
     match reader {
         Reader::Unread(window, _) => window.failed(),

@@ -1,6 +1,6 @@
 //! Going through a feed, packet by packet.
 ghost use Rattle.std.specs.Prelude.{IsTrue};
-ghost use Rattle.cap_source.specs.Feed.{Keeps};
+ghost use Rattle.cap_source.specs.Feed.{FeedKeeps};
 ghost use Rattle.cap_source.specs.inner.Walk.{GivesPacket, ShowsItem};
 
 use crate::feeds::PacketFeed;
@@ -13,7 +13,7 @@ use cap_bytes::Fault;
 #[inline(always)]
 pub fn next_packet<F: PacketFeed>(feed: &mut F) -> Result<Option<Meta>, Fault>
     ensures answer { GivesPacket (F.feed feed.old) result (F.feed feed.new) }
-    ensures keeps { Keeps (F.feed feed.old) (F.feed feed.new) }
+    ensures keeps { FeedKeeps (F.feed feed.old) (F.feed feed.new) }
     ensures items { IsTrue (F.feed feed.old).told
         → ShowsItem (F.feed feed.old) result (F.feed feed.new) }
 {

@@ -6,7 +6,7 @@ use Rattle.cap_talks.proofs.Counting.{counted-more}
 use Rattle.cap_talks.specs.counts.Counting.{packets_of, counted, with_packet}
 use Rattle.cap_talks.specs.declared.counts.counts.Counts.{Counts}
 use Rattle.cap_source.proofs.Onward.{Went, Went-none, Went-more}
-use Rattle.cap_source.specs.Feed.{Feed, Item, packet, Keeps, Passes, SameItems, FindsPacket, FindsItem, IsFeed}
+use Rattle.cap_source.specs.Feed.{Feed, Item, packet, FeedKeeps, FeedPasses, SameItems, FindsPacket, FindsItem, IsFeed}
 use Rattle.cap_source.specs.Feed.{refusal_of}
 use Rattle.cap_source.specs.inner.Walk.{GivesPacket, ShowsItem}
 use Rattle.cap_source.specs.declared.feeds.Head.TheVariants as heads
@@ -48,8 +48,8 @@ one_or_none captured original = grind arith
 
 -- one packet more is taken
 pub counted-taken : (old mid shown new : Feed) (counts more : Counts) (meta : Meta) → IsCounted old mid counts
-    → GivesPacket mid (Ok (Some meta)) shown → Keeps mid shown
-    → (IsTrue mid.told → ShowsItem mid (Ok (Some meta)) shown) → Keeps shown new → Passes shown new
+    → GivesPacket mid (Ok (Some meta)) shown → FeedKeeps mid shown
+    → (IsTrue mid.told → ShowsItem mid (Ok (Some meta)) shown) → FeedKeeps shown new → FeedPasses shown new
     → (IsTrue shown.told → new.items ≡ drop 1 shown.items)
     → (IsTrue shown.told → (file : ℕ) → new.endings file ≡ shown.endings file)
     → meta.original < 2 ^ 32 → more ≡ with_packet counts meta → IsCounted old new more

@@ -8,7 +8,7 @@ use Rattle.cap_ip.specs.Transport.{transport_of}
 use Rattle.cap_join.specs.ByteMap.{completes}
 use Rattle.cap_join.specs.Fragments.{Piece}
 use Rattle.cap_join.specs.inner.Groups.{IsDatagramOf}
-use Rattle.cap_join.specs.History.{Event, arrives, flushes, joined_pieces, state_of}
+use Rattle.cap_join.specs.History.{Event, arrives, flushes, joined_pieces, open_groups_after}
 use Rattle.cap_join.specs.Joiners.{JoinerState, IsAnswer, open_limit}
 use Rattle.cap_join.specs.declared.datagrams.Put.{Put}
 use Rattle.cap_join.specs.declared.datagrams.Put.TheVariants as puts
@@ -17,7 +17,7 @@ use Rattle.cap_join.specs.declared.datagrams.Datagram.{Datagram}
 use Rattle.cap_join.specs.declared.datagrams.Stamped.{Stamped}
 use Rattle.cap_talks.specs.table.Rows.{TalksState, frames_in, bytes_in, is_refused, talk_limit}
 use Rattle.cap_talks.specs.table.Rows as talks
-use Rattle.cap_talks.specs.table.Talks.{frames_of, bytes_of, key_of, rows_of}
+use Rattle.cap_talks.specs.table.Talks.{frames_of, units_bytes, talk_key, rows_of}
 use Rattle.cap_talks.specs.declared.table.units.CountedUnit.{CountedUnit}
 use Rattle.cap_talks.proofs.Frames.{frames-counted}
 use Rattle.cap_talks.proofs.Steps.{one-class}
@@ -30,45 +30,47 @@ use Rattle.cap_talks.specs.inner.table.Looking.{is_plain}
 use Rattle.cap_talks.specs.table.Taken.{Taken, plain, datagram, fragment, look, stamped_of, events_of}
 use Rattle.std.specs.Prelude.{Err}
 use Rattle.cap_talks.specs.declared.table.talks.TalksFault.{TalksFault}
-use Rattle.cap_talks.specs.inner.table.Tallies.{Joins, LimitBy, TallyState, Stands, IsSoundTally, Fits, Looks, one_if}
+use Rattle.cap_talks.specs.inner.table.Tallies.{Joins, LimitBy, TallyState, TallyStands, IsSoundTally, WaitingFits}
+use Rattle.cap_talks.specs.inner.table.Tallies.{Looks, one_if_waiting}
 use Rattle.cap_talks.specs.inner.table.Tallies.{counted_one, with_frames, with_group}
-use Rattle.cap_talks.specs.table.CountedUnits.{counted_in, first_unit, whole_unit, unit_at, listed, units_of}
+use Rattle.cap_talks.specs.table.CountedUnits.{counted_in, first_unit, whole_unit, unit_at, listed, counted_units}
 use Rattle.cap_talks.specs.table.CountedUnits.{is_limit_at}
 use Rattle.cap_talks.specs.declared.table.classes.Class.{Class}
 use Rattle.cap_talks.specs.declared.table.classes.Class.TheVariants as class
 use Rattle.cap_talks.specs.declared.table.classes.ClassCounts.{ClassCounts}
 
 -- no datagram waits: then it doesn't matter what comes next
-pub unwaited : (t : TallyState) (xs : List Taken) (old next : Option Taken) → t.waiting ≡ None → Stands t xs old
-    → Stands (state t.place t.classes t.joined t.talks t.joiner None) xs next
+pub unwaited : (t : TallyState) (xs : List Taken) (old next : Option Taken) → t.waiting ≡ None → TallyStands t xs old
+    → TallyStands (state t.place t.classes t.joined t.talks t.joiner None) xs next
 unwaited t xs old next none h = grind arith
 
 -- the seven counts are the packets'
-pub sum-taken : (t : TallyState) (xs : List Taken) (next : Option Taken) → Stands t xs next → sum_of t.classes ≡ t.place
+pub sum-taken : (t : TallyState) (xs : List Taken) (next : Option Taken) → TallyStands t xs next
+    → sum_of t.classes ≡ t.place
 sum-taken t xs next h = ap sum_of h.classes ∙ (one-class xs).sum ∙ sym h.place
 
 -- the frames of the conversations are among them
 pub frames-taken : (t : TallyState) (xs : List Taken) (next : Option Taken)
-    → ((us : List CountedUnit) → frames_in (rows_of us) ≡ frames_of us) → Stands t xs next
+    → ((us : List CountedUnit) → frames_in (rows_of us) ≡ frames_of us) → TallyStands t xs next
     → frames_in t.talks.rows ≤ t.place
 frames-taken t xs next sums h =
-    grind (arith, ap frames_in h.talks.rows, sums (units_of xs), frames-counted xs, (one-class xs).sum, h.place)
+    grind (arith, ap frames_in h.talks.rows, sums (counted_units xs), frames-counted xs, (one-class xs).sum, h.place)
 
 fit : (place joined : ℕ) (counts other : ClassCounts) (t : TalksState) (j : JoinerState) (w : Option Datagram)
     (xs : List Taken) (next : Option Taken) → w ≡ None → other ≡ counts
-    → Stands (state place counts joined t j None) xs next → Stands (state place other joined t j w) xs next
+    → TallyStands (state place counts joined t j None) xs next → TallyStands (state place other joined t j w) xs next
 fit place joined counts other t j w xs next none same h = grind arith
 
-no_fits : (w : Option Datagram) (place : ℕ) → w ≡ None → Fits w place
-no_fits w place none = subst (λ (v : Option Datagram). Fits v place) (sym none) tt
+no_fits : (w : Option Datagram) (place : ℕ) → w ≡ None → WaitingFits w place
+no_fits w place none = subst (λ (v : Option Datagram). WaitingFits v place) (sym none) tt
 
 no_limit : (x : Taken) (xs : List Taken) → unit_at xs x ≡ None → is_limit_at xs x ≡ false
 no_limit x xs is = ap
-    (λ u. option_map_or (λ unit. is_refused talk_limit (rows_of (units_of xs)) (key_of unit)) u false) is
+    (λ u. option_map_or (λ unit. is_refused talk_limit (rows_of (counted_units xs)) (talk_key unit)) u false) is
 
 -- the limit, as the table has it
 pub limit-is : (t : TallyState) (x : Taken) (xs : List Taken) (next : Option Taken) (u : Option CountedUnit)
-    → Stands t xs next → unit_at xs x ≡ u
+    → TallyStands t xs next → unit_at xs x ≡ u
     → is_over t.talks.rows u ≡ is_limit_at xs x
 limit-is t x xs next u h is = λ i. is_over (h.talks.rows i) (sym is i)
 
@@ -105,21 +107,23 @@ module _ (t : TallyState) (x : Taken) (none : t.waiting ≡ None) where
   -- a whole datagram
   module _ (header : HeaderFields) (captured : List ℕ) (is : (place : ℕ) → look place x ≡ datagram header captured)
       (u : TalksState) (k : JoinerState)
-      (new : (us : List CountedUnit) → talks.StandsFor t.talks us
-      → talks.StandsFor u (us ++ listed (whole_unit header captured (stamped_of t.place x.meta))))
-      (flushed : (es : List Event) → joiners.StandsFor t.joiner es → joiners.StandsFor k (flushes header.key ∷ es))
+      (new : (us : List CountedUnit) → talks.TalksStandFor t.talks us
+      → talks.TalksStandFor u (us ++ listed (whole_unit header captured (stamped_of t.place x.meta))))
+      (flushed : (es : List Event) → joiners.JoinerStandsFor t.joiner es
+      → joiners.JoinerStandsFor k (flushes header.key ∷ es))
       (counts : ClassCounts) (same : counts ≡ with_frames
       (class_of (transport_of header.key.protocol captured header.data_length)) 1 t.classes) where
-    behind : (xs : List Taken) (old next : Option Taken) → Stands t xs old
-        → Stands (record t { place = t.place + 1; classes = counts; talks = u; joiner = k }) (x ∷ xs) next
+    behind : (xs : List Taken) (old next : Option Taken) → TallyStands t xs old
+        → TallyStands (record t { place = t.place + 1; classes = counts; talks = u; joiner = k }) (x ∷ xs) next
     behind xs old next h =
         fit (t.place + 1) t.joined
         (with_frames (class_of (transport_of header.key.protocol captured header.data_length)) 1 t.classes) counts u
         k t.waiting (x ∷ xs) next none same
         (Stands-datagram t.place t.joined t.classes t.talks t.joiner xs x
         (unwaited t xs old (Some x) none h) header captured (is (length xs)) u k
-        (subst (λ (n : ℕ). talks.StandsFor u (units_of xs ++ listed (whole_unit header captured (stamped_of n x.meta))))
-        h.place (new (units_of xs) h.talks))
+        (subst (λ (n : ℕ). talks.TalksStandFor u (counted_units xs
+        ++ listed (whole_unit header captured (stamped_of n x.meta))))
+        h.place (new (counted_units xs) h.talks))
         (flushed (events_of xs) (unwaited t xs old (Some x) none h).joins) next)
 
     pub looks-datagram : is_over t.talks.rows (whole_unit header captured (stamped_of t.place x.meta)) ≡ false
@@ -146,31 +150,31 @@ module _ (t : TallyState) (x : Taken) (none : t.waiting ≡ None) where
 
   -- a fragment that is kept
   module _ (p : ℕ → Piece) (is : (place : ℕ) → look place x ≡ fragment (p place)) (k : JoinerState)
-      (put : (es : List Event) → joiners.StandsFor t.joiner es
-      → joiners.StandsFor k (arrives x.clock (p t.place) ∷ es)) where
+      (put : (es : List Event) → joiners.JoinerStandsFor t.joiner es
+      → joiners.JoinerStandsFor k (arrives x.clock (p t.place) ∷ es)) where
     unit-kept : (xs : List Taken)
-        → completes (joined_pieces x.clock (p (length xs)) (state_of open_limit (events_of xs))) ≡ false
+        → completes (joined_pieces x.clock (p (length xs)) (open_groups_after open_limit (events_of xs))) ≡ false
         → unit_at xs x ≡ None
     unit-kept xs open_still =
         unit-is x xs (fragment (p (length xs))) (is (length xs))
         ∙ ap (λ (b : Bool). first_unit (if b then joined_pieces x.clock (p (length xs))
-        (state_of open_limit (events_of xs)) ∷ [] else [])) open_still
+        (open_groups_after open_limit (events_of xs)) ∷ [] else [])) open_still
 
-    came : (xs : List Taken) (old : Option Taken) → Stands t xs old
-        → joiners.StandsFor k (arrives x.clock (p (length xs)) ∷ events_of xs)
+    came : (xs : List Taken) (old : Option Taken) → TallyStands t xs old
+        → joiners.JoinerStandsFor k (arrives x.clock (p (length xs)) ∷ events_of xs)
     came xs old h =
-        subst (λ (n : ℕ). joiners.StandsFor k (arrives x.clock (p n) ∷ events_of xs)) h.place
+        subst (λ (n : ℕ). joiners.JoinerStandsFor k (arrives x.clock (p n) ∷ events_of xs)) h.place
         (put (events_of xs) (unwaited t xs old (Some x) none h).joins)
 
-    module _ (unfinished : (es : List Event) → joiners.StandsFor t.joiner es
-        → completes (joined_pieces x.clock (p t.place) (state_of open_limit es)) ≡ false)
+    module _ (unfinished : (es : List Event) → joiners.JoinerStandsFor t.joiner es
+        → completes (joined_pieces x.clock (p t.place) (open_groups_after open_limit es)) ≡ false)
         (counts : ClassCounts) (same : counts ≡ with_frames class.Unjoined 1 t.classes) where
-      not-yet : (xs : List Taken) (old : Option Taken) → Stands t xs old
-          → completes (joined_pieces x.clock (p (length xs)) (state_of open_limit (events_of xs))) ≡ false
+      not-yet : (xs : List Taken) (old : Option Taken) → TallyStands t xs old
+          → completes (joined_pieces x.clock (p (length xs)) (open_groups_after open_limit (events_of xs))) ≡ false
       not-yet xs old h = grind arith
 
-      kept : (xs : List Taken) (old next : Option Taken) → Stands t xs old
-          → Stands (record t { place = t.place + 1; classes = counts; joiner = k }) (x ∷ xs) next
+      kept : (xs : List Taken) (old next : Option Taken) → TallyStands t xs old
+          → TallyStands (record t { place = t.place + 1; classes = counts; joiner = k }) (x ∷ xs) next
       kept xs old next h =
           fit (t.place + 1) t.joined (with_frames class.Unjoined 1 t.classes) counts t.talks k t.waiting
           (x ∷ xs) next none same
@@ -194,16 +198,16 @@ module _ (t : TallyState) (x : Taken) (none : t.waiting ≡ None) where
 
     -- one that completes a datagram, which waits then
     module _ (d : Datagram)
-        (yes : (es : List Event) → joiners.StandsFor t.joiner es
-        → (completes (joined_pieces x.clock (p t.place) (state_of open_limit es)) ≡ true)
-        × IsDatagramOf d (joined_pieces x.clock (p t.place) (state_of open_limit es))) where
-      waits : (xs : List Taken) (old : Option Taken) → Stands t xs old
-          → Stands (record t { joiner = k; waiting = Some d }) xs (Some x)
+        (yes : (es : List Event) → joiners.JoinerStandsFor t.joiner es
+        → (completes (joined_pieces x.clock (p t.place) (open_groups_after open_limit es)) ≡ true)
+        × IsDatagramOf d (joined_pieces x.clock (p t.place) (open_groups_after open_limit es))) where
+      waits : (xs : List Taken) (old : Option Taken) → TallyStands t xs old
+          → TallyStands (record t { joiner = k; waiting = Some d }) xs (Some x)
       waits xs old h =
           let now = unwaited t xs old (Some x) none h in
           let both = subst (λ (n : ℕ).
-          (completes (joined_pieces x.clock (p n) (state_of open_limit (events_of xs))) ≡ true)
-          × IsDatagramOf d (joined_pieces x.clock (p n) (state_of open_limit (events_of xs)))) h.place
+          (completes (joined_pieces x.clock (p n) (open_groups_after open_limit (events_of xs))) ≡ true)
+          × IsDatagramOf d (joined_pieces x.clock (p n) (open_groups_after open_limit (events_of xs)))) h.place
           (yes (events_of xs) now.joins) in
           Stands-waiting t.place t.joined t.classes t.talks t.joiner xs x now (p (length xs)) (is (length xs)) k d
           (came xs old h) both.0 both.1
@@ -211,7 +215,7 @@ module _ (t : TallyState) (x : Taken) (none : t.waiting ≡ None) where
       pub looks-waiting : Looks t x true (record t { joiner = k; waiting = Some d })
       looks-waiting = λ xs h. waits xs (Some x) h
 
-      pub sound-waiting : IsSoundTally t → k.next ≤ t.place + 1 → Fits (Some d) t.place
+      pub sound-waiting : IsSoundTally t → k.next ≤ t.place + 1 → WaitingFits (Some d) t.place
           → IsSoundTally (record t { joiner = k; waiting = Some d })
       sound-waiting s next fits = search (waits)
 
@@ -219,7 +223,7 @@ module _ (t : TallyState) (x : Taken) (none : t.waiting ≡ None) where
 
 pub numbers-whole : (header : HeaderFields) (captured : List ℕ) (s : Stamped) → s.original < 2 ^ 32
     → (frames_of (listed (whole_unit header captured s)) ≤ 1)
-    × (bytes_of (listed (whole_unit header captured s)) ≤ frames_of (listed (whole_unit header captured s)) * 2 ^ 32)
+    × (units_bytes (listed (whole_unit header captured s)) ≤ frames_of (listed (whole_unit header captured s)) * 2 ^ 32)
 numbers-whole header captured s h = grind arith
 
 -- ---- answers
@@ -248,47 +252,52 @@ counted-more ps groups = grind arith
 counted-few : (limit : ℕ) (es : List Event) → counted_in (completed_of limit es) ≤ length es
 unfolding completed_of
 counted-few limit [] = omega arith
-counted-few limit (arrives clock p ∷ es) = omega
-    (arith, counted-more (joined_pieces clock p (state_of limit es)) (completed_of limit es), counted-few limit es)
+counted-few limit (arrives clock p ∷ es) = omega (
+  arith,
+  counted-more (joined_pieces clock p (open_groups_after limit es)) (completed_of limit es),
+  counted-few limit es,
+)
 counted-few limit (flushes key ∷ es) = omega (arith, counted-few limit es)
 
-pub joined-taken : (t : TallyState) (xs : List Taken) (next : Option Taken) → Stands t xs next → t.joined ≤ t.place
+pub joined-taken : (t : TallyState) (xs : List Taken) (next : Option Taken) → TallyStands t xs next → t.joined ≤ t.place
 joined-taken t xs next h = omega (arith, h.joined, h.place, counted-few open_limit (events_of xs), events-taken xs)
 
 pub numbers-joined : (d : Datagram) → d.bytes ≤ d.frames * 2 ^ 32
     → (frames_of (listed (datagram_unit d)) ≤ d.frames)
-    × (bytes_of (listed (datagram_unit d)) ≤ frames_of (listed (datagram_unit d)) * 2 ^ 32)
+    × (units_bytes (listed (datagram_unit d)) ≤ frames_of (listed (datagram_unit d)) * 2 ^ 32)
 unfolding datagram_unit
 numbers-joined d h = grind arith
 
 pub waiting-state : (t : TallyState) (d : Datagram) (xs : List Taken) (next : Option Taken) → t.waiting ≡ Some d
-    → Stands t xs next
-    → Stands (state t.place t.classes t.joined t.talks t.joiner (Some d)) xs next
+    → TallyStands t xs next
+    → TallyStands (state t.place t.classes t.joined t.talks t.joiner (Some d)) xs next
 waiting-state t d xs next is h =
-    subst (λ (w : Option Datagram). Stands (state t.place t.classes t.joined t.talks t.joiner w) xs next) is h
+    subst (λ (w : Option Datagram). TallyStands (state t.place t.classes t.joined t.talks t.joiner w) xs next) is h
 
 module _ (t : TallyState) (d : Datagram) (is : t.waiting ≡ Some d) (u : TalksState)
-    (new : (us : List CountedUnit) → talks.StandsFor t.talks us → talks.StandsFor u (us ++ listed (datagram_unit d)))
+    (new : (us : List CountedUnit) → talks.TalksStandFor t.talks us
+    → talks.TalksStandFor u (us ++ listed (datagram_unit d)))
     (counts : ClassCounts) (same : counts ≡ with_group (datagram_class d) d.frames t.classes) where
   gone-on : (xs : List Taken) (next later : Option Taken)
-      → (h : Stands (state t.place t.classes t.joined t.talks t.joiner (Some d)) xs next)
-      → Stands (state (t.place + 1) counts (t.joined + counted_one (datagram_class d)) u t.joiner None)
+      → (h : TallyStands (state t.place t.classes t.joined t.talks t.joiner (Some d)) xs next)
+      → TallyStands (state (t.place + 1) counts (t.joined + counted_one (datagram_class d)) u t.joiner None)
       (h.joins.packet ∷ xs) later
   gone-on xs next later h =
-      subst (λ (n : ClassCounts). Stands (state (t.place + 1) n
+      subst (λ (n : ClassCounts). TallyStands (state (t.place + 1) n
       (t.joined + counted_one (datagram_class d)) u t.joiner None) (h.joins.packet ∷ xs) later) (sym same)
-      (Stands-joined t.place t.joined t.classes t.talks t.joiner d xs next h u (new (units_of xs) h.talks) later)
+      (Stands-joined t.place t.joined t.classes t.talks t.joiner d xs next h u (new (counted_units xs) h.talks) later)
 
   pub stands-joined : is_over t.talks.rows (datagram_unit d) ≡ false → (xs : List Taken) (x : Taken)
-      → Stands t xs (Some x)
+      → TallyStands t xs (Some x)
       → (is_limit_at xs x ≡ false) × ((next : Option Taken)
-      → Stands (state (t.place + 1) counts (t.joined + counted_one (datagram_class d)) u t.joiner None) (x ∷ xs) next)
+      → TallyStands (state (t.place + 1) counts (t.joined
+      + counted_one (datagram_class d)) u t.joiner None) (x ∷ xs) next)
   stands-joined free xs x h =
       let w = waiting-state t d xs (Some x) is h in
       let own : w.joins.packet ≡ x = some-is (sym w.joins.is_next) in (
         sym (limit-is t x xs (Some x) (datagram_unit d) h (ap (unit_at xs) (sym own)
             ∙ unit-waiting t.place t.joined t.classes t.talks t.joiner d xs (Some x) w)) ∙ free,
-        λ next. subst (λ (y : Taken). Stands (state (t.place + 1) counts
+        λ next. subst (λ (y : Taken). TallyStands (state (t.place + 1) counts
             (t.joined + counted_one (datagram_class d)) u t.joiner None) (y ∷ xs) next) own
             (gone-on xs (Some x) next w),
       )
@@ -305,13 +314,13 @@ module _ (t : TallyState) (d : Datagram) (is : t.waiting ≡ Some d) (u : TalksS
         next = None;
         stands = gone-on s.taken s.next None w;
         few = omega (arith, few);
-        places = omega (arith, s.places, ap one_if is);
+        places = omega (arith, s.places, ap one_if_waiting is);
         bytes = bytes;
         fits = tt;
       }
 
 pub limit-waiting : (t : TallyState) (d : Datagram) (xs : List Taken) (x : Taken) → t.waiting ≡ Some d
-    → Stands t xs (Some x) → is_over t.talks.rows (datagram_unit d) ≡ is_limit_at xs x
+    → TallyStands t xs (Some x) → is_over t.talks.rows (datagram_unit d) ≡ is_limit_at xs x
 limit-waiting t d xs x is h =
     let w = waiting-state t d xs (Some x) is h in
     let own : w.joins.packet ≡ x = some-is (sym w.joins.is_next) in
@@ -322,13 +331,13 @@ limit-waiting t d xs x is h =
     some-is {a} {b} e = cc
 
 pub enough-for : (t : TallyState) (d : Datagram) (xs : List Taken) (next : Option Taken) → t.waiting ≡ Some d
-    → Stands t xs next → d.frames ≤ t.classes.unjoined + 1
+    → TallyStands t xs next → d.frames ≤ t.classes.unjoined + 1
 enough-for t d xs next is h = enough-waiting t.place t.joined t.classes t.talks t.joiner d xs next
     (waiting-state t d xs next is h)
 
 -- a datagram waits: the packet that comes next is a fragment
 pub waiting-kept : (t : TallyState) (d : Datagram) (xs : List Taken) (x : Taken) → t.waiting ≡ Some d
-    → Stands t xs (Some x) → is_plain (look (length xs) x) ≡ false
+    → TallyStands t xs (Some x) → is_plain (look (length xs) x) ≡ false
 waiting-kept t d xs x waits s = by t.waiting waits s.joins
   where
     by : (w : Option Datagram) → w ≡ Some d → Joins w t.joiner xs (Some x) → is_plain (look (length xs) x) ≡ false

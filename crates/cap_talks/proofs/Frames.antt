@@ -3,9 +3,9 @@ use Rattle.std.proofs.Common.{◌≡◌, ℕ, ◌+◌, ◌≤◌, Bool, true, fa
 use Rattle.std.specs.Prelude.{if◌then◌else◌}
 use Rattle.cap_ip.specs.Header.{HeaderFields}
 use Rattle.cap_ip.specs.Transport.{transport_of}
-use Rattle.cap_join.specs.ByteMap.{completes, header_of}
+use Rattle.cap_join.specs.ByteMap.{completes, joined_header}
 use Rattle.cap_join.specs.Fragments.{Piece}
-use Rattle.cap_join.specs.History.{joined_pieces, state_of}
+use Rattle.cap_join.specs.History.{joined_pieces, open_groups_after}
 use Rattle.cap_join.specs.Joiners.{open_limit}
 use Rattle.cap_join.specs.declared.datagrams.Stamped.{Stamped}
 use Rattle.cap_talks.specs.table.Talks.{frames_of}
@@ -14,7 +14,8 @@ use Rattle.cap_talks.proofs.Recount.{some_of}
 use Rattle.cap_talks.proofs.Steps.{classes-plain, classes-datagram, classes-kept, classes-completed}
 use Rattle.cap_talks.specs.table.Classes.{class_of, classes, group_class, times}
 use Rattle.cap_talks.specs.table.Taken.{Taken, Look, plain, datagram, fragment, look, events_of, stamped_of}
-use Rattle.cap_talks.specs.table.CountedUnits.{whole_unit, group_unit, first_unit, unit_by, unit_at, listed, units_of}
+use Rattle.cap_talks.specs.table.CountedUnits.{whole_unit, group_unit, first_unit, unit_by, unit_at, listed}
+use Rattle.cap_talks.specs.table.CountedUnits.{counted_units}
 use Rattle.cap_talks.specs.declared.table.classes.Class.TheVariants as class
 
 -- a datagram is a unit if its class is that of those that count
@@ -23,7 +24,7 @@ frames_whole : (header : HeaderFields) (captured : List ℕ) (s : Stamped)
     ≡ some_of class.Counted (class_of (transport_of header.key.protocol captured header.data_length)) 1
 frames_whole header captured s = grind arith
 
-frames_in : (ps : List Piece) (o : Option HeaderFields) → header_of ps ≡ o
+frames_in : (ps : List Piece) (o : Option HeaderFields) → joined_header ps ≡ o
     → frames_of (listed (group_unit ps)) ≡ some_of class.Counted (group_class ps) (length ps)
 unfolding group_unit group_class
 frames_in ps o is = grind arith
@@ -33,14 +34,14 @@ frames_of-more [] vs = omega arith
 frames_of-more (u ∷ us) vs = omega (arith, frames_of-more us vs)
 
 units-more : (x : Taken) (xs : List Taken) (l : Look) → look (length xs) x ≡ l
-    → frames_of (units_of (x ∷ xs)) ≡ frames_of (units_of xs) + frames_of
+    → frames_of (counted_units (x ∷ xs)) ≡ frames_of (counted_units xs) + frames_of
     (listed (unit_by l (stamped_of (length xs) x.meta) x.clock (events_of xs)))
-unfolding units_of unit_at
+unfolding counted_units unit_at
 units-more x xs l is = grind (arith, frames_of-more, listed)
 
 module _ (x : Taken) (xs : List Taken) where
-  with_look : (l : Look) → look (length xs) x ≡ l → frames_of (units_of xs) ≤ times class.Counted (classes xs)
-      → frames_of (units_of (x ∷ xs)) ≤ times class.Counted (classes (x ∷ xs))
+  with_look : (l : Look) → look (length xs) x ≡ l → frames_of (counted_units xs) ≤ times class.Counted (classes xs)
+      → frames_of (counted_units (x ∷ xs)) ≤ times class.Counted (classes (x ∷ xs))
   with_look (plain c) is h =
       omega (arith, units-more x xs (plain c) is, ap (times class.Counted) (classes-plain x xs c is), h)
   with_look (datagram header captured) is h = grind (
@@ -53,16 +54,17 @@ module _ (x : Taken) (xs : List Taken) where
   with_look (fragment p) is h = by (completes joined) refl
     where
       joined : List Piece
-      joined = joined_pieces x.clock p (state_of open_limit (events_of xs))
+      joined = joined_pieces x.clock p (open_groups_after open_limit (events_of xs))
 
-      by : (b : Bool) → completes joined ≡ b → frames_of (units_of (x ∷ xs)) ≤ times class.Counted (classes (x ∷ xs))
+      by : (b : Bool) → completes joined ≡ b
+          → frames_of (counted_units (x ∷ xs)) ≤ times class.Counted (classes (x ∷ xs))
       by true e =
           let none = ap (λ (b : Bool). frames_of (listed (first_unit (if b then joined ∷ [] else [])))) e in
           omega (
             arith,
             units-more x xs (fragment p) is,
             none,
-            frames_in joined (header_of joined) refl,
+            frames_in joined (joined_header joined) refl,
             classes-completed x xs p is e class.Counted,
             h,
           )
@@ -71,7 +73,7 @@ module _ (x : Taken) (xs : List Taken) where
           omega (arith, units-more x xs (fragment p) is, none, ap (times class.Counted) (classes-kept x xs p is e), h)
 
 -- All frames of the units are packets that count.
-pub frames-counted : (xs : List Taken) → frames_of (units_of xs) ≤ times class.Counted (classes xs)
-unfolding units_of classes
+pub frames-counted : (xs : List Taken) → frames_of (counted_units xs) ≤ times class.Counted (classes xs)
+unfolding counted_units classes
 frames-counted [] = omega arith
 frames-counted (x ∷ xs) = with_look x xs (look (length xs) x) refl (frames-counted xs)

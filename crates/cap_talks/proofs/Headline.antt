@@ -13,8 +13,8 @@ use Rattle.cap_bytes.specs.declared.faults.Tail.{Tail}
 use Rattle.cap_source.proofs.Onward.{Lasts-goes}
 use Rattle.cap_merge.proofs.Unread.{told-readers, bytes-readers}
 use Rattle.cap_merge.specs.Files.{clocked_run, endings_of_files}
-use Rattle.cap_merge.specs.Parts.{Part, feed_of, run_of}
-use Rattle.cap_merge.specs.inner.Readers.{Reader, IsUnreadRun}
+use Rattle.cap_merge.specs.Parts.{Part, merged_feed, run_of}
+use Rattle.cap_merge.specs.inner.Readers.{ReaderFacts, IsUnreadRun}
 use Rattle.cap_source.specs.Feed.{Feed}
 use Rattle.cap_source.specs.inner.Walk.{Walks}
 use Rattle.cap_talks.specs.inner.talks.Reporting.{TookAll, TakesAll, TellsReport}
@@ -30,20 +30,20 @@ length-range first zero = refl
 length-range first (suc count) = ap suc (length-range (first + 1) count)
 
 -- Files of which nothing was read yet.
-module _ {A : Type 0} (reader : A → Reader) (tail : Tail) (sources : List A) (ps : List Part)
+module _ {A : Type 0} (reader : A → ReaderFacts) (tail : Tail) (sources : List A) (ps : List Part)
     (unread : IsUnreadRun tail (map reader sources) ps) where
   run-is : run_of ps ≡ clocked_run tail (map (λ s. (reader s).bytes) sources)
   run-is = unread.run ∙ ap (clocked_run tail) (bytes-readers reader sources)
 
-  endings-are : (feed_of ps).endings ≡ endings_of_files tail (map (λ s. (reader s).bytes) sources)
+  endings-are : (merged_feed ps).endings ≡ endings_of_files tail (map (λ s. (reader s).bytes) sources)
   endings-are = grind (arith, bytes-readers)
 
-  count-is : length (feed_of ps).files ≡ length sources
+  count-is : length (merged_feed ps).files ≡ length sources
   count-is = ap length unread.files ∙ length-range 1 (length (map reader sources)) ∙ length-map sources reader
 
   -- the report of their run is theirs
   pub tells-files : (held out : List ℕ) (result : Result (Unit {0}) Fault)
-      → (IsTrue (feed_of ps).told → TellsReport (length (feed_of ps).files) ps held result out)
+      → (IsTrue (merged_feed ps).told → TellsReport (length (merged_feed ps).files) ps held result out)
       → IsTrue (list_all (λ s. (reader s).told) sources)
       → Tells (report_text (length sources) (endings_of_files tail (map (λ s. (reader s).bytes) sources))
       (clocked_run tail (map (λ s. (reader s).bytes) sources)))
@@ -55,13 +55,13 @@ module _ {A : Type 0} (reader : A → Reader) (tail : Tail) (sources : List A) (
 
 -- all packets of a table were taken: the report is written
 pub tells-report : (old new : TableState) (held out : List ℕ) (result : Result (Unit {0}) Fault)
-    → IsTrue (feed_of old.parts).told → TableStands old []
+    → IsTrue (merged_feed old.parts).told → TableStands old []
     → TookAll old new → IsOkUnless result Write
     → ((xs : List Taken) → TableStands new xs → Prints
     (text_of (length new.totals.files) (endings_so_far new) xs) None held result out)
     → TellsReport (length old.totals.files) old.parts held result out
 tells-report old new held out result t stands took fault prints =
-    let endings = ap (λ (d : Bool). if d then Some (feed_of new.parts).endings else None) took.done
+    let endings = ap (λ (d : Bool). if d then Some (merged_feed new.parts).endings else None) took.done
     ∙ ap Some (λ i file. took.endings t file i) in
     tells-printed _ _ held result out (took.free t stands) fault
     (subst (λ l. Prints l None held result out) (λ i. text_of (took.files i) (endings i)
@@ -70,7 +70,7 @@ tells-report old new held out result t stands took fault prints =
 
 -- taking them faults: nothing is written
 pub tells-nothing : (old new : TableState) (held : List ℕ) (fault : Fault) → TakesAll old (Err fault) new
-    → IsTrue (feed_of old.parts).told → TableStands old []
+    → IsTrue (merged_feed old.parts).told → TableStands old []
     → TellsReport (length old.totals.files) old.parts held (Err fault) held
 tells-nothing old new held fault takes t stands = grind arith
 

@@ -6,9 +6,9 @@ use Rattle.std.specs.Option.{option_map_or}
 use Rattle.std.proofs.lemmas.Bool.Decides.{nat_tests}
 use Rattle.cap_ip.specs.Fields.{is_fragment, more_fragments, offset, data_length}
 use Rattle.cap_ip.specs.Header.{HeaderFields}
-use Rattle.cap_ip.specs.Read.{Reading, found, bad, cut, read_of, fields_of, fragment_of, ended}
+use Rattle.cap_ip.specs.Read.{Reading, found, bad, cut, read_of, fields_of, fragment_of, ended_in_header}
 use Rattle.cap_ip.specs.declared.headers.Fragment.{Fragment}
-use Rattle.cap_join.specs.ByteMap.{completes, covers_below, holds, blocks}
+use Rattle.cap_join.specs.ByteMap.{completes, covers_below, holds, block_count}
 use Rattle.cap_join.proofs.Grouping.{covers_below-some}
 use Rattle.cap_join.specs.Fragments.{Piece, piece_of, end_of}
 use Rattle.cap_join.specs.declared.datagrams.Stamped.{Stamped}
@@ -20,17 +20,17 @@ unfolding completes
 lone p h = by p.more (p.start == 0) refl h
   where
     by : (m z : Bool) → (p.start == 0) ≡ z → (m || not z) ≡ true
-        → option_map_or (λ n. covers_below (p ∷ []) (blocks n)) (if m then None else Some (end_of p)) false ≡ false
+        → option_map_or (λ n. covers_below (p ∷ []) (block_count n)) (if m then None else Some (end_of p)) false ≡ false
     by false false e k =
         let far : 0 < p.start = grind (arith, nat_tests) in
         let out : holds p 0 ≡ false = grind (arith, nat_tests) in
-        covers_below-some (p ∷ []) (blocks (end_of p)) 0 (omega (arith, far)) (ap (λ (b : Bool). b || false) out)
+        covers_below-some (p ∷ []) (block_count (end_of p)) 0 (omega (arith, far)) (ap (λ (b : Bool). b || false) out)
     by m z e k = grind (arith, true≢false)
 
 -- what was found is what the bytes spell
 found_fields : (bytes : List ℕ) (whole : Bool) (h : HeaderFields) (x : List ℕ) → read_of bytes whole ≡ found h x
     → fields_of bytes ≡ h
-unfolding read_of ended
+unfolding read_of ended_in_header
 found_fields bytes whole h x g = grind arith
 
 -- a fragment that was found has MF set, or doesn't begin at 0

@@ -13,12 +13,13 @@ use Rattle.indexmap.specs.IndexMap.{insert_entry}
 use Rattle.indexmap.specs.Layout.{set_value_at}
 use Rattle.indexmap.proofs.MapLemmas.{insert_entry-first, Found-position}
 use Rattle.cap_talks.specs.inner.table.Keys.{same_talk-is, and_left, and_right}
-use Rattle.cap_talks.specs.inner.table.Packed.{port_number, port_of, end_number, end_of, packed, unpacked, IsNarrow}
-use Rattle.cap_talks.specs.inner.table.Packed.{IsNarrowEnd, is_end, is_packed, same_packed, unpacked_talk}
+use Rattle.cap_talks.specs.inner.table.Packed.{port_number, port_of, end_number, end_at_number, packed, unpacked}
+use Rattle.cap_talks.specs.inner.table.Packed.{IsNarrow}
+use Rattle.cap_talks.specs.inner.table.Packed.{IsNarrowEnd, is_end_number, is_packed, same_packed, unpacked_talk}
 use Rattle.cap_talks.specs.inner.table.Packed.{unpacked_talks}
 use Rattle.cap_talks.specs.inner.table.Packed.{are_packed}
 use Rattle.cap_talks.specs.table.Rows.{is_refused, talk_limit, with_unit, with_talk, or_empty, row_at, row_in}
-use Rattle.cap_talks.specs.table.Talks.{key_of, row_of, same_talk}
+use Rattle.cap_talks.specs.table.Talks.{talk_key, row_of, same_talk}
 use Rattle.cap_talks.specs.declared.table.keys.PackedKey.{PackedKey}
 use Rattle.cap_talks.specs.declared.table.rows.TalkKey.{TalkKey}
 use Rattle.cap_talks.specs.declared.table.rows.TalkRow.{TalkRow}
@@ -31,12 +32,12 @@ number_of_port zero = refl
 number_of_port (suc n) = omega arith
 
 -- an end's number is that of the end that it is read as
-number_of_end : (n : ℕ) → end_number (end_of n) ≡ n
+number_of_end : (n : ℕ) → end_number (end_at_number n) ≡ n
 number_of_end n = omega (arith, number_of_port (n % 131072), div-add-mod' n 131072)
 
 pub packed-unpacked : (k : PackedKey) → packed (unpacked k) ≡ k
 packed-unpacked k =
-    let lesser : end_number (end_of (k.lesser / 256)) * 256 + k.lesser % 256 ≡ k.lesser =
+    let lesser : end_number (end_at_number (k.lesser / 256)) * 256 + k.lesser % 256 ≡ k.lesser =
     omega (arith, number_of_end (k.lesser / 256), div-add-mod' k.lesser 256) in
     λ i. record { lesser = lesser i; greater = number_of_end k.greater i }
 
@@ -47,7 +48,7 @@ port_of_number : (p : Option ℕ) → port_of (port_number p) ≡ p
 port_of_number p = grind arith
 
 -- and an end is what its number is read as
-end_of_number : (end : End) → IsNarrowEnd end → end_of (end_number end) ≡ end
+end_of_number : (end : End) → IsNarrowEnd end → end_at_number (end_number end) ≡ end
 end_of_number end n =
     let below = port_below end.port n.port in
     let address : end_number end / 131072 ≡ end.address = div-mul-add end.address 131072 (port_number end.port) below in
@@ -59,8 +60,8 @@ pub unpacked-packed : (key : TalkKey) → IsNarrow key → unpacked (packed key)
 unpacked-packed key n =
     let protocol : (packed key).lesser % 256 ≡ key.protocol =
     mod-mul-add (end_number key.lesser) 256 key.protocol n.protocol in
-    let lesser : end_of ((packed key).lesser / 256) ≡ key.lesser =
-    ap end_of (div-mul-add (end_number key.lesser) 256 key.protocol n.protocol)
+    let lesser : end_at_number ((packed key).lesser / 256) ≡ key.lesser =
+    ap end_at_number (div-mul-add (end_number key.lesser) 256 key.protocol n.protocol)
     ∙ end_of_number key.lesser n.lesser in
     λ i. record { protocol = protocol i; lesser = lesser i; greater = end_of_number key.greater n.greater i }
 
@@ -115,7 +116,7 @@ values-packed [] = refl
 values-packed (e ∷ es) = ap (λ rows. e.1 ∷ rows) (values-packed es)
 
 -- Every key of a table is packed: after a row is set, and after one is put of a key that is.
-end-narrow : (end : End) → IsNarrowEnd end → is_end (end_number end) ≡ true
+end-narrow : (end : End) → IsNarrowEnd end → is_end_number (end_number end) ≡ true
 end-narrow end n =
     let below = port_below end.port n.port in
     let address = div-mul-add end.address 131072 (port_number end.port) below in
@@ -124,8 +125,9 @@ end-narrow end n =
 
 pub packed-narrow : (key : TalkKey) → IsNarrow key → is_packed (packed key) ≡ true
 packed-narrow key n =
-    and_true (is_end ((packed key).lesser / 256)) (is_end (end_number key.greater))
-    (ap is_end (div-mul-add (end_number key.lesser) 256 key.protocol n.protocol) ∙ end-narrow key.lesser n.lesser)
+    and_true (is_end_number ((packed key).lesser / 256)) (is_end_number (end_number key.greater))
+    (ap is_end_number (div-mul-add (end_number key.lesser) 256 key.protocol n.protocol) ∙ end-narrow key.lesser
+    n.lesser)
     (end-narrow key.greater n.greater)
 
 pub set-are_packed : (es : List (PackedKey × TalkRow)) (place : ℕ) (row : TalkRow)
@@ -157,36 +159,36 @@ pub row-in : (es : List (PackedKey × TalkRow)) (place : ℕ) → row_in (unpack
 row-in es place = ap (λ rows. or_empty (slice_get rows place)) (values-packed es)
 
 pub at-packed : (k : PackedKey) (es : List (PackedKey × TalkRow)) (place : ℕ) (unit : CountedUnit)
-    → k ≡ packed (key_of unit) → IsNarrow (key_of unit)
+    → k ≡ packed (talk_key unit) → IsNarrow (talk_key unit)
     → slice_get (values_of es) place ≡ lookup (same_packed k) es
-    → row_in es place ≡ row_at (key_of unit) (unpacked_talks es)
+    → row_in es place ≡ row_at (talk_key unit) (unpacked_talks es)
 at-packed k es place unit key n row = ap or_empty (row ∙ ap (λ w. lookup (same_packed w) es) key
-    ∙ lookup-packed (key_of unit) es n)
+    ∙ lookup-packed (talk_key unit) es n)
 
 -- a unit is added to its conversation's row where it stands
 pub there-more : (k : PackedKey) (es new : List (PackedKey × TalkRow)) (place : ℕ) (unit : CountedUnit)
-    → k ≡ packed (key_of unit) → IsNarrow (key_of unit)
+    → k ≡ packed (talk_key unit) → IsNarrow (talk_key unit)
     → Some place ≡ position (same_packed k) (keys_of es) → slice_get (values_of es) place ≡ lookup (same_packed k) es
     → new ≡ set_value_at es place (with_unit (row_in es place) unit)
     → unpacked_talks new ≡ with_talk (unpacked_talks es) unit
 there-more k es new place unit key n at row is =
     let at_key = subst (λ w. Some place ≡ position (same_packed w) (keys_of es)) key at in
     let row_is = at-packed k es place unit key n row in
-    let there = insert_entry-first same_packed (packed (key_of unit)) (with_unit (row_in es place) unit) es place
-    (Found-position (same_packed (packed (key_of unit))) es place (sym at_key)).first in
-    ap unpacked_talks (is ∙ sym there) ∙ insert-packed (key_of unit) (with_unit (row_in es place) unit) es n
-    ∙ (λ i. insert_entry same_talk (unpacked_talks es) (key_of unit) (with_unit (row_is i) unit))
+    let there = insert_entry-first same_packed (packed (talk_key unit)) (with_unit (row_in es place) unit) es place
+    (Found-position (same_packed (packed (talk_key unit))) es place (sym at_key)).first in
+    ap unpacked_talks (is ∙ sym there) ∙ insert-packed (talk_key unit) (with_unit (row_in es place) unit) es n
+    ∙ (λ i. insert_entry same_talk (unpacked_talks es) (talk_key unit) (with_unit (row_is i) unit))
 
 -- or to an empty row, if it is the first of a conversation
-pub new-more : (k : PackedKey) (es new : List (PackedKey × TalkRow)) (unit : CountedUnit) → k ≡ packed (key_of unit)
-    → IsNarrow (key_of unit)
+pub new-more : (k : PackedKey) (es new : List (PackedKey × TalkRow)) (unit : CountedUnit) → k ≡ packed (talk_key unit)
+    → IsNarrow (talk_key unit)
     → false ≡ is_some (lookup (same_packed k) es) → unpacked_talks new
-    ≡ insert_entry same_talk (unpacked_talks es) (key_of unit) (with_unit (row_of []) unit)
+    ≡ insert_entry same_talk (unpacked_talks es) (talk_key unit) (with_unit (row_of []) unit)
     → unpacked_talks new ≡ with_talk (unpacked_talks es) unit
 new-more k es new unit key n none is =
-    let lookup_is = ap (λ w. lookup (same_packed w) es) key ∙ lookup-packed (key_of unit) es n in
-    is ∙ ap (λ row. insert_entry same_talk (unpacked_talks es) (key_of unit) (with_unit row unit))
-    (empty_row (lookup (same_talk (key_of unit)) (unpacked_talks es)) (none ∙ ap is_some lookup_is))
+    let lookup_is = ap (λ w. lookup (same_packed w) es) key ∙ lookup-packed (talk_key unit) es n in
+    is ∙ ap (λ row. insert_entry same_talk (unpacked_talks es) (talk_key unit) (with_unit row unit))
+    (empty_row (lookup (same_talk (talk_key unit)) (unpacked_talks es)) (none ∙ ap is_some lookup_is))
   where
     empty_row : (o : Option TalkRow) → false ≡ is_some o → row_of [] ≡ or_empty o
     empty_row None h = refl
@@ -205,23 +207,23 @@ keys-put k es new row n is a = ap are_packed is
     ∙ insert-are_packed k row es (ap is_packed (sym (packed-unpacked k)) ∙ packed-narrow (unpacked k) n) a
 
 -- the key of a unit, as it is looked up, is read as that key
-pub key-read : (k : PackedKey) (unit : CountedUnit) → k ≡ packed (key_of unit) → IsNarrow (key_of unit)
-    → unpacked k ≡ key_of unit
-key-read k unit key n = ap unpacked key ∙ unpacked-packed (key_of unit) n
+pub key-read : (k : PackedKey) (unit : CountedUnit) → k ≡ packed (talk_key unit) → IsNarrow (talk_key unit)
+    → unpacked k ≡ talk_key unit
+key-read k unit key n = ap unpacked key ∙ unpacked-packed (talk_key unit) n
 
 -- whether it is one too many
-pub refused-there : (k : PackedKey) (es : List (PackedKey × TalkRow)) (unit : CountedUnit) → k ≡ packed (key_of unit)
-    → IsNarrow (key_of unit)
-    → true ≡ is_some (lookup (same_packed k) es) → false ≡ is_refused talk_limit (unpacked_talks es) (key_of unit)
+pub refused-there : (k : PackedKey) (es : List (PackedKey × TalkRow)) (unit : CountedUnit) → k ≡ packed (talk_key unit)
+    → IsNarrow (talk_key unit)
+    → true ≡ is_some (lookup (same_packed k) es) → false ≡ is_refused talk_limit (unpacked_talks es) (talk_key unit)
 refused-there k es unit key n some =
     ap (λ b. not b && not (nat_lt (length (unpacked_talks es)) talk_limit)) (some
-    ∙ ap (λ w. is_some (lookup (same_packed w) es)) key ∙ ap is_some (lookup-packed (key_of unit) es n))
+    ∙ ap (λ w. is_some (lookup (same_packed w) es)) key ∙ ap is_some (lookup-packed (talk_key unit) es n))
 
-pub refused-new : (k : PackedKey) (es : List (PackedKey × TalkRow)) (unit : CountedUnit) → k ≡ packed (key_of unit)
-    → IsNarrow (key_of unit)
+pub refused-new : (k : PackedKey) (es : List (PackedKey × TalkRow)) (unit : CountedUnit) → k ≡ packed (talk_key unit)
+    → IsNarrow (talk_key unit)
     → false ≡ is_some (lookup (same_packed k) es) → not (nat_lt (length es) talk_limit)
-    ≡ is_refused talk_limit (unpacked_talks es) (key_of unit)
+    ≡ is_refused talk_limit (unpacked_talks es) (talk_key unit)
 refused-new k es unit key n none =
     (λ i. not (nat_lt (sym (length-map es unpacked_talk) i) talk_limit))
     ∙ ap (λ b. not b && not (nat_lt (length (unpacked_talks es)) talk_limit)) (none
-    ∙ ap (λ w. is_some (lookup (same_packed w) es)) key ∙ ap is_some (lookup-packed (key_of unit) es n))
+    ∙ ap (λ w. is_some (lookup (same_packed w) es)) key ∙ ap is_some (lookup-packed (talk_key unit) es n))

@@ -7,18 +7,19 @@ use Rattle.cap_bytes.specs.declared.faults.Fault.TheVariants.{Refused, Read, Wri
 use Rattle.cap_bytes.specs.declared.faults.Refusal.{Refusal}
 use Rattle.cap_source.proofs.Growing.{at-unknown}
 use Rattle.cap_source.proofs.Onward.{Went, Went-none, Keeps-trans, Lasts-trans, Lasts-goes}
-use Rattle.cap_merge.specs.Parts.{clock_of, feed_of, run_of}
+use Rattle.cap_merge.specs.Parts.{clock_of, merged_feed, run_of}
 use Rattle.cap_merge.specs.Run.{Clocked}
-use Rattle.cap_source.specs.Feed.{Item, Waits, refused}
+use Rattle.cap_source.specs.Feed.{Item, FeedWaits, refused}
 use Rattle.cap_source.specs.inner.Growing.{IfMemory, IsAtPacket, OfMemory}
 use Rattle.cap_source.specs.declared.feeds.Head.{Head}
 use Rattle.cap_source.specs.declared.feeds.Head.TheVariants as heads
 use Rattle.cap_time.specs.declared.stamps.Stamp.{Stamp}
-use Rattle.cap_talks.specs.table.CountedUnits.{refusal_at}
+use Rattle.cap_talks.specs.table.CountedUnits.{limit_refusal}
 use Rattle.cap_talks.specs.talks.ReportText.{taken_after, refusal_after}
 use Rattle.cap_talks.specs.inner.talks.Reporting.{TookAll, TakesAll}
-use Rattle.cap_talks.specs.inner.table.Stepping.{clocked, next_by, KeepsNext, TableState, TableStands, StepKeeps, Takes}
-use Rattle.cap_talks.specs.inner.table.Stepping.{Steps, IsMore}
+use Rattle.cap_talks.specs.inner.table.Stepping.{clocked, next_by, KeepsNext, TableState, TableStands, StepKeeps}
+use Rattle.cap_talks.specs.inner.table.Stepping.{TableTakes}
+use Rattle.cap_talks.specs.inner.table.Stepping.{TableSteps, IsMore}
 use Rattle.cap_talks.specs.table.Taken.{Taken}
 use Rattle.cap_talks.specs.table.CountedUnits.{is_limit_at}
 use Rattle.cap_talks.specs.declared.table.tables.Step.{Step}
@@ -27,21 +28,22 @@ use Rattle.cap_talks.specs.declared.table.tables.Step.TheVariants as steps
 -- Some packets were taken, and others are to come.
 pub record Reporting (old new : TableState) : Type 0 where
   pub taken : List Taken
-  pub went : Went (feed_of old.parts) (feed_of new.parts)
+  pub went : Went (merged_feed old.parts) (merged_feed new.parts)
   pub files : length new.totals.files ≡ length old.totals.files
   pub stands : TableStands old [] → TableStands new taken
-  pub text : IsTrue (feed_of old.parts).told → taken_after [] (run_of old.parts) ≡ taken_after taken (run_of new.parts)
-  pub refusal : IsTrue (feed_of old.parts).told → TableStands old []
+  pub text : IsTrue (merged_feed old.parts).told
+      → taken_after [] (run_of old.parts) ≡ taken_after taken (run_of new.parts)
+  pub refusal : IsTrue (merged_feed old.parts).told → TableStands old []
       → refusal_after [] (run_of old.parts) ≡ refusal_after taken (run_of new.parts)
-  pub endings : IsTrue (feed_of old.parts).told → (file : ℕ)
-      → (feed_of new.parts).endings file ≡ (feed_of old.parts).endings file
+  pub endings : IsTrue (merged_feed old.parts).told → (file : ℕ)
+      → (merged_feed new.parts).endings file ≡ (merged_feed old.parts).endings file
 
 pub Reporting-begin : (t : TableState) → Reporting t t
 Reporting-begin t = grind (arith, Went-none)
 
 -- the refusal of a run that begins with a packet
 refusal-packet : (xs : List Taken) (x : Taken) (run : List (Clocked Item)) (b : Bool) → is_limit_at xs x ≡ b
-    → refusal_after xs (clocked x ∷ run) ≡ (if b then Some (refusal_at x.meta) else refusal_after (x ∷ xs) run)
+    → refusal_after xs (clocked x ∷ run) ≡ (if b then Some (limit_refusal x.meta) else refusal_after (x ∷ xs) run)
 unfolding refusal_after
 refusal-packet xs x run b is = grind arith
 
@@ -63,13 +65,13 @@ refusal-refused : (xs : List Taken) (clock : Option Stamp) (r : Refusal)
 unfolding refusal_after
 refusal-refused xs clock r = refl
 
-more : (old mid new : TableState) → Reporting old mid → StepKeeps mid new → Takes mid new → Reporting old new
+more : (old mid new : TableState) → Reporting old mid → StepKeeps mid new → TableTakes mid new → Reporting old new
 more old mid new p k t = record {
   taken = t.item ∷ p.taken;
   went = record {
-    keeps = Keeps-trans (feed_of old.parts) (feed_of mid.parts) (feed_of new.parts) p.went.keeps k.keeps;
-    lasts = Lasts-trans (feed_of old.parts) (feed_of mid.parts) (feed_of new.parts) p.went.lasts
-        (Lasts-goes (feed_of mid.parts) (feed_of new.parts) t.goes);
+    keeps = Keeps-trans (merged_feed old.parts) (merged_feed mid.parts) (merged_feed new.parts) p.went.keeps k.keeps;
+    lasts = Lasts-trans (merged_feed old.parts) (merged_feed mid.parts) (merged_feed new.parts) p.went.lasts
+        (Lasts-goes (merged_feed mid.parts) (merged_feed new.parts) t.goes);
   };
   files = k.files ∙ p.files;
   stands = λ s. (t.stands p.taken (p.stands s)).1;
@@ -85,22 +87,22 @@ clash : true ≡ false → ⊥
 clash e = true≢false e
 
 pub Reporting-more : (old mid new : TableState) (step : Step) (b : Bool) → Reporting old mid → StepKeeps mid new
-    → Steps mid (Ok step) new → IsMore step b → b ≡ true → Reporting old new
+    → TableSteps mid (Ok step) new → IsMore step b → b ≡ true → Reporting old new
 Reporting-more old mid new steps.Took b p k t m is = more old mid new p k t
 Reporting-more old mid new steps.Done b p k t m is = absurd (clash (sym is ∙ m))
 
 pub TakesAll-end : (old mid new : TableState) (step : Step) (b : Bool) → Reporting old mid → StepKeeps mid new
-    → Steps mid (Ok step) new → IsMore step b → b ≡ false → TookAll old new
+    → TableSteps mid (Ok step) new → IsMore step b → b ≡ false → TookAll old new
 TakesAll-end old mid new steps.Took b p k t m is = absurd (clash (sym m ∙ is))
 TakesAll-end old mid new steps.Done b p k t m is = grind (arith, refusal-none, taken-none)
 
 -- a growth was refused: it isn't known what comes next, or a packet does
-at-cause : (old new : TableState) → Waits (feed_of old.parts) (feed_of new.parts) ⊎ KeepsNext old new
-    → IsAtPacket (feed_of new.parts).known
-at-cause old new (inl w) = at-unknown (feed_of new.parts).known w.after
-at-cause old new (inr k) = by (feed_of new.parts).known k.next
+at-cause : (old new : TableState) → FeedWaits (merged_feed old.parts) (merged_feed new.parts) ⊎ KeepsNext old new
+    → IsAtPacket (merged_feed new.parts).known
+at-cause old new (inl w) = at-unknown (merged_feed new.parts).known w.after
+at-cause old new (inr k) = by (merged_feed new.parts).known k.next
   where
-    by : (known : Option Head) → next_by known (clock_of new.parts) (feed_of new.parts).frame ≡ Some k.item
+    by : (known : Option Head) → next_by known (clock_of new.parts) (merged_feed new.parts).frame ≡ Some k.item
         → IsAtPacket known
     by None is = tt
     by (Some (heads.Packet meta)) is = tt
@@ -115,13 +117,13 @@ at-cause old new (inr k) = by (feed_of new.parts).known k.next
 
 -- the same of what taking all answers
 pub taken-memory : (old new : TableState) (fault : Fault) → TakesAll old (Err fault) new
-    → OfMemory fault (IsAtPacket (feed_of new.parts).known)
+    → OfMemory fault (IsAtPacket (merged_feed new.parts).known)
 taken-memory old new (Refused refusal) t = tt
 taken-memory old new (Read file offset) t = tt
 taken-memory old new Write t = tt
 taken-memory old new Memory t = t
 
-pub TakesAll-fault : (old mid new : TableState) (fault : Fault) → Reporting old mid → Steps mid (Err fault) new
+pub TakesAll-fault : (old mid new : TableState) (fault : Fault) → Reporting old mid → TableSteps mid (Err fault) new
     → TakesAll old (Err fault) new
 TakesAll-fault old mid new (Refused r) p (inl t) = grind (arith, refusal-refused)
 TakesAll-fault old mid new (Refused r) p (inr t) = λ h s.

@@ -8,7 +8,7 @@ use Rattle.cap_time.specs.inner.StampLaws.{stamp_cmp_total}
 use Rattle.cap_time.specs.declared.stamps.Stamp.{Stamp}
 use Rattle.cap_time.proofs.Chosen.{not_trans}
 use Rattle.cap_talks.specs.table.Talks.{Talk, earlier_frame, later_frame, frame_time, place_or, same_talk}
-use Rattle.cap_talks.specs.table.Rows.{frame_of, are_in_order, is_in_order, are_all_in_order, is_after, row_at, row_in}
+use Rattle.cap_talks.specs.table.Rows.{row_frame, are_in_order, is_in_order, are_all_in_order, is_after, row_at, row_in}
 use Rattle.cap_talks.specs.table.Rows.{with_frames, with_unit, with_talk}
 use Rattle.cap_talks.specs.declared.table.rows.TalkKey.{TalkKey}
 use Rattle.cap_talks.specs.declared.table.rows.TalkRow.{TalkRow}
@@ -22,7 +22,7 @@ before a b c le lt = grind (arith, not_trans, stamp_cmp_total)
 
 -- a frame that comes after the last one so far leaves the first one
 first-kept : (row : TalkRow) (frame : Option TimedFrame) → is_in_order row ≡ true → is_after frame row.last ≡ true
-    → earlier_frame (frame_of row.first row.first_place) frame ≡ frame_of row.first row.first_place
+    → earlier_frame (row_frame row.first row.first_place) frame ≡ row_frame row.first row.first_place
 first-kept row frame order late = grind (arith, before, stamp_cmp_total.antisymm)
 
 pub frames-after : (row : TalkRow) (frame : Option TimedFrame) (time : Option Stamp) (place : ℕ)
@@ -36,7 +36,7 @@ frames-kept : (e l f g : Option TimedFrame) → are_in_order e l ≡ true → ar
     → are_in_order (earlier_frame e f) (later_frame l g) ≡ true
 frames-kept e l f g own others = grind (arith, not_trans, stamp_cmp_total, stamp_cmp_total.antisymm)
 
-same_frame : (frame : Option TimedFrame) (place : ℕ) → frame_of (frame_time frame) (place_or frame place) ≡ frame
+same_frame : (frame : Option TimedFrame) (place : ℕ) → row_frame (frame_time frame) (place_or frame place) ≡ frame
 same_frame frame place = grind arith
 
 row-kept : (row : TalkRow) (unit : CountedUnit) → is_in_order row ≡ true → are_in_order unit.first unit.last ≡ true

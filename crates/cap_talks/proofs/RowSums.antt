@@ -5,8 +5,9 @@ use Rattle.std.specs.Prelude.{OnOk, OnErr}
 use Rattle.std.specs.Map.{lookup}
 use Rattle.std.proofs.lemmas.Bool.{ltb-true}
 use Rattle.indexmap.specs.IndexMap.{insert_entry}
-use Rattle.cap_talks.specs.table.Talks.{Talk, key_of, row_of, same_talk}
-use Rattle.cap_talks.specs.table.Rows.{is_limit, is_refused, sum_in, frames_of_row, frames_in, bytes_of_row, bytes_in}
+use Rattle.cap_talks.specs.table.Talks.{Talk, talk_key, row_of, same_talk}
+use Rattle.cap_talks.specs.table.Rows.{is_limit, is_refused, sum_of_rows, frames_of_row, frames_in, bytes_of_row}
+use Rattle.cap_talks.specs.table.Rows.{bytes_in}
 use Rattle.cap_talks.specs.table.Rows.{with_unit, or_empty, row_at, with_talk}
 use Rattle.cap_talks.specs.declared.table.rows.TalkKey.{TalkKey}
 use Rattle.cap_talks.specs.declared.table.rows.TalkRow.{TalkRow}
@@ -19,21 +20,21 @@ on_ok r f p = grind arith
 -- What rows count, each by the same measure, of which an empty row has none.
 module _ (count : TalkRow → ℕ) (empty : count (row_of []) ≡ 0) where
   -- a conversation's row counts no more than all
-  row-within : (key : TalkKey) (rows : List Talk) → count (row_at key rows) ≤ sum_in count rows
+  row-within : (key : TalkKey) (rows : List Talk) → count (row_at key rows) ≤ sum_of_rows count rows
   row-within key [] = omega (arith, empty)
   row-within key (talk ∷ rows) = grind (arith, row-within key rows)
 
   -- a row that counts so much more than the one that it is put for
   sum-more : (key : TalkKey) (w : TalkRow) (n : ℕ) (rows : List Talk) → count w ≡ count (row_at key rows) + n
-      → sum_in count (insert_entry same_talk rows key w) ≡ sum_in count rows + n
+      → sum_of_rows count (insert_entry same_talk rows key w) ≡ sum_of_rows count rows + n
   sum-more key w n [] h = omega (arith, h, empty)
   sum-more key w n (talk ∷ rows) h = by (same_talk key talk.0) h (sum-more key w n rows)
     where
       by : (t : Bool) → count w ≡ count (or_empty (cond t (Some talk.1) (lookup (same_talk key) rows))) + n
-          → (count w ≡ count (row_at key rows) + n → sum_in count (insert_entry same_talk rows key w)
-          ≡ sum_in count rows + n)
-          → sum_in count (cond t ((talk.0, w) ∷ rows) (talk ∷ insert_entry same_talk rows key w))
-          ≡ (count talk.1 + sum_in count rows) + n
+          → (count w ≡ count (row_at key rows) + n → sum_of_rows count (insert_entry same_talk rows key w)
+          ≡ sum_of_rows count rows + n)
+          → sum_of_rows count (cond t ((talk.0, w) ∷ rows) (talk ∷ insert_entry same_talk rows key w))
+          ≡ (count talk.1 + sum_of_rows count rows) + n
       by t is rest = grind arith
 
 frames_with : (row : TalkRow) (unit : CountedUnit)
@@ -73,6 +74,6 @@ length-more key w (talk ∷ rows) = by (same_talk key talk.0) (length-more key w
 -- the table stays within its limit, whatever is answered
 pub few-kept : (limit : ℕ) (result : Result (Unit {0}) TalksFault) (old new : List Talk) (unit : CountedUnit)
     → OnOk result (new ≡ with_talk old unit)
-    → is_limit result ≡ is_refused limit old (key_of unit) → OnErr result (new ≡ old) → length old ≤ limit
+    → is_limit result ≡ is_refused limit old (talk_key unit) → OnErr result (new ≡ old) → length old ≤ limit
     → length new ≤ limit
 few-kept limit result old new unit more refused kept few = grind (arith, length-more, ltb-true)

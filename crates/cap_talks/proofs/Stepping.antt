@@ -10,39 +10,41 @@ use Rattle.cap_join.specs.declared.datagrams.Datagram.{Datagram}
 use Rattle.cap_join.specs.Joiners.{JoinerState}
 use Rattle.cap_merge.proofs.RunItems.{items-of-run, first-of-run}
 use Rattle.cap_merge.specs.inner.Merge.{LearnsBy, LearnsAll, LooksAll}
-use Rattle.cap_merge.specs.Parts.{Part, feed_of, run_of, clock_of, known_of, is_known, head_by, first_of, BeginsAt}
+use Rattle.cap_merge.specs.Parts.{Part, merged_feed, run_of, clock_of, known_of, are_known, part_head, first_part}
+use Rattle.cap_merge.specs.Parts.{BeginsAt}
 use Rattle.cap_merge.specs.Parts.{ShowsRun}
 use Rattle.cap_merge.specs.Run.{Clocked}
-use Rattle.cap_source.specs.Feed.{Feed, Item, packet, refused, Leads, IsFeed, GivesHead, FindsPacket, FindsItem, Keeps}
+use Rattle.cap_source.specs.Feed.{Feed, Item, packet, refused, Leads, IsFeed, GivesHead, FindsPacket, FindsItem}
+use Rattle.cap_source.specs.Feed.{FeedKeeps}
 use Rattle.cap_source.specs.Feed.{Knows, IsPacket, IsPacketOf, IfPacket, HasFile}
 use Rattle.cap_source.specs.declared.feeds.Head.{Head}
 use Rattle.cap_source.specs.declared.feeds.Head.TheVariants as heads
 use Rattle.cap_source.specs.declared.packets.Meta.{Meta}
 use Rattle.cap_time.specs.declared.stamps.Stamp.{Stamp}
-use Rattle.cap_talks.specs.inner.table.Stepping.{AnswersAgain, next_by, next_taken, TableStands, Steps}
+use Rattle.cap_talks.specs.inner.table.Stepping.{AnswersAgain, next_by, next_taken, TableStands, TableSteps}
 use Rattle.cap_talks.specs.table.Taken.{Taken}
 use Rattle.cap_talks.specs.declared.table.tables.Step.{Step}
 use Rattle.cap_talks.specs.declared.table.tables.Step.TheVariants as steps
 use Rattle.cap_talks.specs.inner.table.Totals.{TotalsState}
-use Rattle.cap_talks.specs.inner.table.Tallies.{TallyState, Joins, Stands}
+use Rattle.cap_talks.specs.inner.table.Tallies.{TallyState, Joins, TallyStands}
 
 -- ---- what was known stays
 
-all_known : (ps qs : List Part) → LearnsAll ps qs → is_known ps ≡ true → qs ≡ ps
+all_known : (ps qs : List Part) → LearnsAll ps qs → are_known ps ≡ true → qs ≡ ps
 all_known [] [] h k = refl
 all_known (p ∷ ps) (q ∷ qs) h k = by p.lane.head h.0 k (all_known ps qs h.1)
   where
-    by : (o : Option Head) → LearnsBy o p q → (is_some o && is_known ps) ≡ true → (is_known ps ≡ true → qs ≡ ps)
+    by : (o : Option Head) → LearnsBy o p q → (is_some o && are_known ps) ≡ true → (are_known ps ≡ true → qs ≡ ps)
         → q ∷ qs ≡ p ∷ ps
     by None l k rest = absurd (true≢false (sym k))
     by (Some head) l k rest = λ i. l i ∷ rest k i
 all_known ps qs h k = absurd h
 
-known-some : (ps : List Part) (head : Head) → (feed_of ps).known ≡ Some head → is_known ps ≡ true
-unfolding feed_of known_of
-known-some ps head h = by (is_known ps) h
+known-some : (ps : List Part) (head : Head) → (merged_feed ps).known ≡ Some head → are_known ps ≡ true
+unfolding merged_feed known_of
+known-some ps head h = by (are_known ps) h
   where
-    by : (b : Bool) → (if b then head_by (first_of ps) else None) ≡ Some head → b ≡ true
+    by : (b : Bool) → (if b then part_head (first_part ps) else None) ≡ Some head → b ≡ true
     by true e = refl
     by false e = absurd (clash e)
       where
@@ -59,27 +61,28 @@ no-wait (Some d) j xs next h = absurd (clash h.is_next)
     clash e = cc
 
 pub stands-unknown : (t : TallyState) (ps : List Part) (xs : List Taken) (next : Option Taken)
-    → (feed_of ps).known ≡ None → Stands t xs (next_taken ps) → Stands t xs next
+    → (merged_feed ps).known ≡ None → TallyStands t xs (next_taken ps) → TallyStands t xs next
 stands-unknown t ps xs next unknown h = record {
   place = h.place;
   classes = h.classes;
   joined = h.joined;
   talks = h.talks;
   joins = no-wait t.waiting t.joiner xs next (subst
-      (λ (k : Option Head). Joins t.waiting t.joiner xs (next_by k (clock_of ps) (feed_of ps).frame)) unknown h.joins);
+      (λ (k : Option Head). Joins t.waiting t.joiner xs (next_by k (clock_of ps) (merged_feed ps).frame)) unknown
+      h.joins);
 }
 
 pub stands-asked : (t : TallyState) (ps qs : List Part) (xs : List Taken) → LearnsAll ps qs
-    → Stands t xs (next_taken ps) → Stands t xs (next_taken qs)
-stands-asked t ps qs xs asks h = by (feed_of ps).known refl
+    → TallyStands t xs (next_taken ps) → TallyStands t xs (next_taken qs)
+stands-asked t ps qs xs asks h = by (merged_feed ps).known refl
   where
-    by : (known : Option Head) → (feed_of ps).known ≡ known → Stands t xs (next_taken qs)
+    by : (known : Option Head) → (merged_feed ps).known ≡ known → TallyStands t xs (next_taken qs)
     by None is = stands-unknown t ps xs (next_taken qs) is h
-    by (Some head) is = subst (λ (rs : List Part). Stands t xs (next_taken rs))
+    by (Some head) is = subst (λ (rs : List Part). TallyStands t xs (next_taken rs))
         (sym (all_known ps qs asks (known-some ps head is))) h
 
 pub next-is : (qs : List Part) (meta : Meta) (clock : Option Stamp) (frame : List ℕ)
-    → (feed_of qs).known ≡ Some (heads.Packet meta) → clock ≡ clock_of qs → frame ≡ (feed_of qs).frame
+    → (merged_feed qs).known ≡ Some (heads.Packet meta) → clock ≡ clock_of qs → frame ≡ (merged_feed qs).frame
     → next_taken qs ≡ Some (record { clock = clock; meta = meta; frame = frame })
 next-is qs meta clock frame known c f = λ i. next_by (known i) (sym c i) (sym f i)
 
@@ -90,17 +93,17 @@ leads_by : (feed : Feed) (head : Head) → IsFeed feed → IsTrue feed.told → 
 leads_by feed head law t known = subst (λ (k : Option Head). Leads k feed.frame feed.items) known (law.leads t)
 
 -- the run begins with the packet that is known to come next
-pub run-packet : (ps qs : List Part) (meta : Meta) (clock : Option Stamp) (frame : List ℕ) → IsFeed (feed_of qs)
-    → IsTrue (feed_of qs).told
-    → (feed_of qs).known ≡ Some (heads.Packet meta) → frame ≡ (feed_of qs).frame → BeginsAt clock (run_of qs)
+pub run-packet : (ps qs : List Part) (meta : Meta) (clock : Option Stamp) (frame : List ℕ) → IsFeed (merged_feed qs)
+    → IsTrue (merged_feed qs).told
+    → (merged_feed qs).known ≡ Some (heads.Packet meta) → frame ≡ (merged_feed qs).frame → BeginsAt clock (run_of qs)
     → run_of qs ≡ run_of ps
     → run_of ps ≡ record { clock = clock; item = packet meta frame } ∷ drop 1 (run_of ps)
 run-packet ps qs meta clock frame law t known f begins same =
-    let leads : (feed_of qs).items ≡ packet meta (feed_of qs).frame ∷ drop 1 (feed_of qs).items =
-    leads_by (feed_of qs) (heads.Packet meta) law t known in
+    let leads : (merged_feed qs).items ≡ packet meta (merged_feed qs).frame ∷ drop 1 (merged_feed qs).items =
+    leads_by (merged_feed qs) (heads.Packet meta) law t known in
     sym same
-    ∙ (first-of-run (run_of qs) clock (packet meta frame) (drop 1 (feed_of qs).items) begins
-    (sym (items-of-run qs) ∙ leads ∙ ap (λ (g : List ℕ). packet meta g ∷ drop 1 (feed_of qs).items) (sym f))
+    ∙ (first-of-run (run_of qs) clock (packet meta frame) (drop 1 (merged_feed qs).items) begins
+    (sym (items-of-run qs) ∙ leads ∙ ap (λ (g : List ℕ). packet meta g ∷ drop 1 (merged_feed qs).items) (sym f))
     ∙ ap (λ l. record { clock = clock; item = packet meta frame } ∷ drop 1 l) same)
 
 none-left : (xs : List (Clocked Item)) → map (λ x. x.item) xs ≡ [] → xs ≡ []
@@ -110,9 +113,10 @@ none-left (x ∷ xs) e = absurd (clash e)
     clash : x.item ∷ map (λ x. x.item) xs ≡ [] → ⊥
     clash e = cc
 
-pub run-end : (qs : List Part) → IsFeed (feed_of qs) → IsTrue (feed_of qs).told → (feed_of qs).known ≡ Some heads.End
+pub run-end : (qs : List Part) → IsFeed (merged_feed qs) → IsTrue (merged_feed qs).told
+    → (merged_feed qs).known ≡ Some heads.End
     → run_of qs ≡ []
-run-end qs law t known = none-left (run_of qs) (sym (items-of-run qs) ∙ leads_by (feed_of qs) heads.End law t known)
+run-end qs law t known = none-left (run_of qs) (sym (items-of-run qs) ∙ leads_by (merged_feed qs) heads.End law t known)
 
 one-left : (xs : List (Clocked Item)) (i : Item) → map (λ x. x.item) xs ≡ i ∷ [] → (clock : Option Stamp)
     × (xs ≡ record { clock = clock; item = i } ∷ [])
@@ -128,18 +132,18 @@ one-left (x ∷ y ∷ xs) i e = absurd (clash e)
     clash : x.item ∷ y.item ∷ map (λ x. x.item) xs ≡ i ∷ [] → ⊥
     clash e = cc
 
-pub run-refused : (qs : List Part) (r : Refusal) → IsFeed (feed_of qs) → IsTrue (feed_of qs).told
-    → (feed_of qs).known ≡ Some (heads.Refused r)
+pub run-refused : (qs : List Part) (r : Refusal) → IsFeed (merged_feed qs) → IsTrue (merged_feed qs).told
+    → (merged_feed qs).known ≡ Some (heads.Refused r)
     → (clock : Option Stamp) × (run_of qs ≡ record { clock = clock; item = refused r } ∷ [])
 run-refused qs r law t known = one-left (run_of qs) (refused r) (sym (items-of-run qs)
-    ∙ leads_by (feed_of qs) (heads.Refused r) law t known)
+    ∙ leads_by (merged_feed qs) (heads.Refused r) law t known)
 
 -- ---- the first packet
 
 -- what is known to come next is what comes next
 pub first-asked : (ps qs : List Part) (x : Taken) → LearnsAll ps qs → next_taken qs ≡ Some x
     → IfSome (next_taken ps) (λ y. y ≡ x)
-first-asked ps qs x asks is = by (feed_of ps).known refl
+first-asked ps qs x asks is = by (merged_feed ps).known refl
   where
     out : (o : Option Taken) → o ≡ Some x → IfSome o (λ y. y ≡ x)
     out None e = absurd (clash e)
@@ -148,8 +152,9 @@ first-asked ps qs x asks is = by (feed_of ps).known refl
         clash e = cc
     out (Some y) e = cc
 
-    by : (known : Option Head) → (feed_of ps).known ≡ known → IfSome (next_taken ps) (λ y. y ≡ x)
-    by None e = subst (λ (k : Option Head). IfSome (next_by k (clock_of ps) (feed_of ps).frame) (λ y. y ≡ x)) (sym e) tt
+    by : (known : Option Head) → (merged_feed ps).known ≡ known → IfSome (next_taken ps) (λ y. y ≡ x)
+    by None e = subst (λ (k : Option Head). IfSome (next_by k (clock_of ps) (merged_feed ps).frame) (λ y. y ≡ x))
+        (sym e) tt
     by (Some head) e = out (next_taken ps) (ap next_taken (sym (all_known ps qs asks (known-some ps head e))) ∙ is)
 
 -- ---- what the table stands for
@@ -162,14 +167,14 @@ pub asked : (totals : TotalsState) (tally : TallyState) (done : Bool) (ps qs : L
 asked totals tally done ps qs xs asks h = record { totals = h.totals; tally = stands-asked tally ps qs xs asks h.tally }
 
 pub failed : (totals : TotalsState) (tally : TallyState) (done : Bool) (ps qs : List Part) (fault : Fault)
-    (xs : List Taken) → GivesHead (feed_of ps) (Err fault) (feed_of qs)
+    (xs : List Taken) → GivesHead (merged_feed ps) (Err fault) (merged_feed qs)
     → TableStands (record { parts = ps; totals = totals; tally = tally; done = done }) xs
     → TableStands (record { parts = qs; totals = totals; tally = tally; done = done }) xs
 failed totals tally done ps qs fault xs gives h =
     record {
       totals = h.totals;
       tally = stands-unknown tally ps xs (next_taken qs)
-          (before (feed_of ps) (feed_of qs) fault gives) h.tally;
+          (before (merged_feed ps) (merged_feed qs) fault gives) h.tally;
     }
   where
     before : (old new : Feed) (fault : Fault) → GivesHead old (Err fault) new → old.known ≡ None
@@ -179,12 +184,12 @@ failed totals tally done ps qs fault xs gives h =
 
 -- a step that a fault of the feeds ends
 pub faulted : (totals : TotalsState) (tally : TallyState) (done : Bool) (ps qs : List Part) (fault : Fault)
-    → IsFeed (feed_of qs) → Keeps (feed_of ps) (feed_of qs)
-    → FindsPacket (feed_of ps) (Err fault) (feed_of qs)
-    → (IsTrue (feed_of ps).told → FindsItem (feed_of ps) (Err fault) (feed_of qs))
+    → IsFeed (merged_feed qs) → FeedKeeps (merged_feed ps) (merged_feed qs)
+    → FindsPacket (merged_feed ps) (Err fault) (merged_feed qs)
+    → (IsTrue (merged_feed ps).told → FindsItem (merged_feed ps) (Err fault) (merged_feed qs))
     → LooksAll {T = Bool} ps (Err fault) qs
-    → (IsTrue (feed_of ps).told → ShowsRun {A = Bool} ps (Err fault) qs)
-    → Steps (record { parts = ps; totals = totals; tally = tally; done = done }) (Err fault)
+    → (IsTrue (merged_feed ps).told → ShowsRun {A = Bool} ps (Err fault) qs)
+    → TableSteps (record { parts = ps; totals = totals; tally = tally; done = done }) (Err fault)
     (record { parts = qs; totals = totals; tally = tally; done = done })
 faulted totals tally done ps qs (Refused refusal) law keeps answer items asks run =
     inl (record {

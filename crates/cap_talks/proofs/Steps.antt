@@ -6,7 +6,7 @@ use Rattle.cap_ip.specs.Header.{HeaderFields}
 use Rattle.cap_ip.specs.Transport.{transport_of}
 use Rattle.cap_join.specs.ByteMap.{completes}
 use Rattle.cap_join.specs.Fragments.{Piece}
-use Rattle.cap_join.specs.History.{arrives, joined_pieces, state_of}
+use Rattle.cap_join.specs.History.{arrives, joined_pieces, open_groups_after}
 use Rattle.cap_join.specs.Joiners.{open_limit}
 use Rattle.cap_join.proofs.Once.{once}
 use Rattle.cap_talks.proofs.Recount.{looks, here, hits, place_of, here_few, here_once, comes_here, present, hits_all}
@@ -14,13 +14,14 @@ use Rattle.cap_talks.proofs.Recount.{unjoined, classes_looks, some_of, recount}
 use Rattle.cap_talks.specs.table.Classes.{class_of, class_by, class_in, classes, classes_in, counts_of, group_class}
 use Rattle.cap_talks.specs.table.Classes.{groups_of, has_place, sum_of, times, OneClass}
 use Rattle.cap_join.specs.Completed.{completed_of, occurs, occurs_in}
-use Rattle.cap_talks.specs.table.Taken.{Taken, Look, plain, datagram, fragment, look, events_with, events_of}
+use Rattle.cap_talks.specs.table.Taken.{Taken, Look, plain, datagram, fragment, look, events_with_look, events_of}
 use Rattle.cap_talks.specs.declared.table.classes.Class.{Class}
 use Rattle.cap_talks.specs.declared.table.classes.Class.TheVariants as class
 
 -- by what the packet is
 classes-are : (x : Taken) (xs : List Taken) (l : Look) → look (length xs) x ≡ l
-    → classes (x ∷ xs) ≡ map (class_by (completed_of open_limit (events_with l x.clock (events_of xs)))) (l ∷ looks xs)
+    → classes (x ∷ xs) ≡ map (class_by (completed_of open_limit (events_with_look l x.clock (events_of xs))))
+    (l ∷ looks xs)
 unfolding classes events_of
 classes-are x xs l is = grind (arith, classes_looks, looks)
 
@@ -45,7 +46,7 @@ classes-datagram x xs header captured is =
 
 module _ (x : Taken) (xs : List Taken) (p : Piece) (is : look (length xs) x ≡ fragment p) where
   abbrev pub joined : List Piece
-  joined = joined_pieces x.clock p (state_of open_limit (events_of xs))
+  joined = joined_pieces x.clock p (open_groups_after open_limit (events_of xs))
 
   before : (n : ℕ) → occurs_in n (groups_of xs) ≤ here n (looks xs)
   before n = omega (arith, once open_limit n (events_of xs), comes_here n xs)

@@ -9,10 +9,10 @@ use Rattle.indexmap.specs.IndexMap.{insert_entry}
 use Rattle.std.proofs.lemmas.Bool.{eq-eqb}
 use Rattle.cap_talks.proofs.FrameOrder.{least-more, greatest-more}
 use Rattle.cap_talks.specs.table.Talks.{Talk, is_forward, backward, earlier_frame, later_frame, least_frame}
-use Rattle.cap_talks.specs.table.Talks.{greatest_frame, frame_time, place_or, key_of, frames_of, bytes_of, row_of}
-use Rattle.cap_talks.specs.table.Talks.{same_end, same_talk, units_of, keys_of, rows_of}
+use Rattle.cap_talks.specs.table.Talks.{greatest_frame, frame_time, place_or, talk_key, frames_of, units_bytes, row_of}
+use Rattle.cap_talks.specs.table.Talks.{same_end, same_talk, units_of_talk, keys_of, rows_of}
 use Rattle.cap_talks.specs.inner.table.Keys.{same_talk-is}
-use Rattle.cap_talks.specs.table.Rows.{frame_of, with_unit, or_empty, with_talk}
+use Rattle.cap_talks.specs.table.Rows.{row_frame, with_unit, or_empty, with_talk}
 use Rattle.cap_talks.specs.declared.table.rows.TalkKey.{TalkKey}
 use Rattle.cap_talks.specs.declared.table.rows.TalkRow.{TalkRow}
 use Rattle.cap_talks.specs.declared.table.units.TimedFrame.{TimedFrame}
@@ -79,7 +79,10 @@ Apart-but x (y ∷ ks) h = grind (arith, Apart-but x ks h.1, has_not-but)
 
 keys-apart : (units : List CountedUnit) → Apart (keys_of units)
 keys-apart [] = tt
-keys-apart (u ∷ units) = (has-gone (key_of u) (keys_of units), Apart-but (key_of u) (keys_of units) (keys-apart units))
+keys-apart (u ∷ units) = (
+  has-gone (talk_key u) (keys_of units),
+  Apart-but (talk_key u) (keys_of units) (keys-apart units),
+)
 
 filter-more : {X : Type 0} (test : X → Bool) (xs : List X) (x : X)
     → filter test (xs ++ x ∷ []) ≡ filter test xs ++ cond (test x) (x ∷ []) []
@@ -88,15 +91,16 @@ filter-more test (y ∷ xs) x = grind (arith, filter-more test xs x)
 
 -- the conversations of one unit more
 keys-more : (units : List CountedUnit) (u : CountedUnit)
-    → keys_of (units ++ u ∷ []) ≡ cond (has (key_of u) (keys_of units)) (keys_of units) (keys_of units ++ key_of u ∷ [])
+    → keys_of (units ++ u ∷ []) ≡ cond (has (talk_key u) (keys_of units)) (keys_of units) (keys_of units
+    ++ talk_key u ∷ [])
 keys-more [] u = refl
 keys-more (x ∷ units) u = by (same_talk k kx) refl (has k ks) refl (keys-more units u)
   where
     k : TalkKey
-    k = key_of u
+    k = talk_key u
 
     kx : TalkKey
-    kx = key_of x
+    kx = talk_key x
 
     ks : List TalkKey
     ks = keys_of units
@@ -121,13 +125,13 @@ keys-more (x ∷ units) u = by (same_talk k kx) refl (has k ks) refl (keys-more 
     by false is h among rest = grind (arith, other_way, filter-more, has-but)
 
 -- a conversation that isn't among those of some units has none of them
-no_units : (k : TalkKey) (units : List CountedUnit) → has k (keys_of units) ≡ false → units_of k units ≡ []
+no_units : (k : TalkKey) (units : List CountedUnit) → has k (keys_of units) ≡ false → units_of_talk k units ≡ []
 no_units k [] h = refl
-no_units k (x ∷ units) h = by (same_talk k (key_of x)) refl h (no_units k units)
+no_units k (x ∷ units) h = by (same_talk k (talk_key x)) refl h (no_units k units)
   where
-    by : (s : Bool) → same_talk k (key_of x) ≡ s → cond s true (has k (but (key_of x) (keys_of units))) ≡ false
-        → (has k (keys_of units) ≡ false → units_of k units ≡ [])
-        → cond s (x ∷ units_of k units) (units_of k units) ≡ []
+    by : (s : Bool) → same_talk k (talk_key x) ≡ s → cond s true (has k (but (talk_key x) (keys_of units))) ≡ false
+        → (has k (keys_of units) ≡ false → units_of_talk k units ≡ [])
+        → cond s (x ∷ units_of_talk k units) (units_of_talk k units) ≡ []
     by s is n rest = grind (arith, has-but)
 
 -- A row with one unit more.
@@ -137,7 +141,8 @@ pub frames-more : (units : List CountedUnit) (u : CountedUnit)
 frames-more [] u = omega arith
 frames-more (x ∷ units) u = let e = frames-more units u in omega (arith, e)
 
-pub bytes-more : (units : List CountedUnit) (u : CountedUnit) → bytes_of (units ++ u ∷ []) ≡ bytes_of units + u.bytes
+pub bytes-more : (units : List CountedUnit) (u : CountedUnit) → units_bytes (units ++ u ∷ []) ≡ units_bytes units
+    + u.bytes
 bytes-more [] u = omega arith
 bytes-more (x ∷ units) u = let e = bytes-more units u in omega (arith, e)
 
@@ -160,7 +165,7 @@ back-more : (count : List CountedUnit → ℕ) (one : CountedUnit → ℕ)
 back-more count one more units u = grind (arith, common_steps, nat_tests, tested-more, turned)
 
 -- a row keeps its frames' times and places
-kept : (f : Option TimedFrame) → frame_of (frame_time f) (place_or f 0) ≡ f
+kept : (f : Option TimedFrame) → row_frame (frame_time f) (place_or f 0) ≡ f
 kept f = grind arith
 
 earlier-place : (f g : Option TimedFrame) → place_or (earlier_frame f g) 0 ≡ place_or (earlier_frame f g) (place_or f 0)
@@ -183,8 +188,8 @@ row-more units u =
     ∙ ap (λ f. place_or (later_frame f u.last) (place_or (greatest_frame units) 0))
     (sym (kept (greatest_frame units))) in
     λ i. record {
-      forward_bytes = tested-more bytes_of (λ unit. unit.bytes) bytes-more is_forward units u i;
-      backward_bytes = back-more bytes_of (λ unit. unit.bytes) bytes-more units u i;
+      forward_bytes = tested-more units_bytes (λ unit. unit.bytes) bytes-more is_forward units u i;
+      backward_bytes = back-more units_bytes (λ unit. unit.bytes) bytes-more units u i;
       first = frame_time (first i);
       last = frame_time (last i);
       forward_frames = tested-more frames_of (λ unit. unit.frames) frames-more is_forward units u i;
@@ -194,81 +199,84 @@ row-more units u =
     }
 
 -- the row of the unit's own conversation
-own_row : (k : TalkKey) (units : List CountedUnit) (u : CountedUnit) → same_talk k (key_of u) ≡ true
-    → row_of (units_of k (units ++ u ∷ [])) ≡ with_unit (row_of (units_of k units)) u
+own_row : (k : TalkKey) (units : List CountedUnit) (u : CountedUnit) → same_talk k (talk_key u) ≡ true
+    → row_of (units_of_talk k (units ++ u ∷ [])) ≡ with_unit (row_of (units_of_talk k units)) u
 own_row k units u is = grind (arith, filter-more, row-more)
 
 -- and of another
-other_row : (k : TalkKey) (units : List CountedUnit) (u : CountedUnit) → same_talk k (key_of u) ≡ false
-    → row_of (units_of k (units ++ u ∷ [])) ≡ row_of (units_of k units)
+other_row : (k : TalkKey) (units : List CountedUnit) (u : CountedUnit) → same_talk k (talk_key u) ≡ false
+    → row_of (units_of_talk k (units ++ u ∷ [])) ≡ row_of (units_of_talk k units)
 other_row k units u is = grind (arith, filter-more, append-nil)
 
 -- Rows of some conversations.
 abbrev rows_at : List CountedUnit → List TalkKey → List Talk
-rows_at units ks = map (λ key. (key, row_of (units_of key units))) ks
+rows_at units ks = map (λ key. (key, row_of (units_of_talk key units))) ks
 
 -- a unit of no conversation among them
-others_stay : (units : List CountedUnit) (u : CountedUnit) (ks : List TalkKey) → has (key_of u) ks ≡ false
+others_stay : (units : List CountedUnit) (u : CountedUnit) (ks : List TalkKey) → has (talk_key u) ks ≡ false
     → rows_at units ks ≡ rows_at (units ++ u ∷ []) ks
 others_stay units u [] h = refl
-others_stay units u (y ∷ ks) h = by (same_talk (key_of u) y) refl h (others_stay units u ks)
+others_stay units u (y ∷ ks) h = by (same_talk (talk_key u) y) refl h (others_stay units u ks)
   where
-    by : (s : Bool) → same_talk (key_of u) y ≡ s → cond s true (has (key_of u) ks) ≡ false
-        → (has (key_of u) ks ≡ false → rows_at units ks ≡ rows_at (units ++ u ∷ []) ks)
+    by : (s : Bool) → same_talk (talk_key u) y ≡ s → cond s true (has (talk_key u) ks) ≡ false
+        → (has (talk_key u) ks ≡ false → rows_at units ks ≡ rows_at (units ++ u ∷ []) ks)
         → rows_at units (y ∷ ks) ≡ rows_at (units ++ u ∷ []) (y ∷ ks)
     by s is n rest = grind (arith, other_row, other_way)
 
-insert-present : (units : List CountedUnit) (u : CountedUnit) (ks : List TalkKey) → Apart ks → has (key_of u) ks ≡ true
-    → insert_entry same_talk (rows_at units ks) (key_of u) (row_of (units_of (key_of u) (units ++ u ∷ [])))
+insert-present : (units : List CountedUnit) (u : CountedUnit) (ks : List TalkKey) → Apart ks
+    → has (talk_key u) ks ≡ true
+    → insert_entry same_talk (rows_at units ks) (talk_key u) (row_of (units_of_talk (talk_key u) (units ++ u ∷ [])))
     ≡ rows_at (units ++ u ∷ []) ks
 insert-present units u [] apart h = absurd (true≢false (sym h))
-insert-present units u (y ∷ ks) apart h = by (same_talk (key_of u) y) refl h (insert-present units u ks apart.1)
+insert-present units u (y ∷ ks) apart h = by (same_talk (talk_key u) y) refl h (insert-present units u ks apart.1)
   where
     w : TalkRow
-    w = row_of (units_of (key_of u) (units ++ u ∷ []))
+    w = row_of (units_of_talk (talk_key u) (units ++ u ∷ []))
 
-    by : (s : Bool) → same_talk (key_of u) y ≡ s → cond s true (has (key_of u) ks) ≡ true
-        → (has (key_of u) ks ≡ true → insert_entry same_talk (rows_at units ks) (key_of u) w
+    by : (s : Bool) → same_talk (talk_key u) y ≡ s → cond s true (has (talk_key u) ks) ≡ true
+        → (has (talk_key u) ks ≡ true → insert_entry same_talk (rows_at units ks) (talk_key u) w
         ≡ rows_at (units ++ u ∷ []) ks)
-        → cond s ((y, w) ∷ rows_at units ks) ((y, row_of (units_of y units))
-        ∷ insert_entry same_talk (rows_at units ks) (key_of u) w) ≡ rows_at (units ++ u ∷ []) (y ∷ ks)
+        → cond s ((y, w) ∷ rows_at units ks) ((y, row_of (units_of_talk y units))
+        ∷ insert_entry same_talk (rows_at units ks) (talk_key u) w) ≡ rows_at (units ++ u ∷ []) (y ∷ ks)
     by true is n rest =
-        let one = same_talk-is (key_of u) y is in
-        let absent : has (key_of u) ks ≡ false = ap (λ k. has k ks) one ∙ apart.0 in
-        let here : w ≡ row_of (units_of y (units ++ u ∷ [])) = ap (λ k. row_of (units_of k (units ++ u ∷ []))) one in
+        let one = same_talk-is (talk_key u) y is in
+        let absent : has (talk_key u) ks ≡ false = ap (λ k. has k ks) one ∙ apart.0 in
+        let here : w ≡ row_of (units_of_talk y (units
+        ++ u ∷ [])) = ap (λ k. row_of (units_of_talk k (units ++ u ∷ []))) one in
         let behind = others_stay units u ks absent in
         λ i. (y, here i) ∷ behind i
     by false is n rest = search (other_row, other_way)
 
-insert-absent : (units : List CountedUnit) (u : CountedUnit) (ks : List TalkKey) → has (key_of u) ks ≡ false
-    → insert_entry same_talk (rows_at units ks) (key_of u) (row_of (units_of (key_of u) (units ++ u ∷ [])))
-    ≡ rows_at (units ++ u ∷ []) (ks ++ key_of u ∷ [])
+insert-absent : (units : List CountedUnit) (u : CountedUnit) (ks : List TalkKey) → has (talk_key u) ks ≡ false
+    → insert_entry same_talk (rows_at units ks) (talk_key u) (row_of (units_of_talk (talk_key u) (units ++ u ∷ [])))
+    ≡ rows_at (units ++ u ∷ []) (ks ++ talk_key u ∷ [])
 insert-absent units u [] h = refl
-insert-absent units u (y ∷ ks) h = by (same_talk (key_of u) y) refl h (insert-absent units u ks)
+insert-absent units u (y ∷ ks) h = by (same_talk (talk_key u) y) refl h (insert-absent units u ks)
   where
     w : TalkRow
-    w = row_of (units_of (key_of u) (units ++ u ∷ []))
+    w = row_of (units_of_talk (talk_key u) (units ++ u ∷ []))
 
-    by : (s : Bool) → same_talk (key_of u) y ≡ s → cond s true (has (key_of u) ks) ≡ false
-        → (has (key_of u) ks ≡ false → insert_entry same_talk (rows_at units ks) (key_of u) w
-        ≡ rows_at (units ++ u ∷ []) (ks ++ key_of u ∷ []))
-        → cond s ((y, w) ∷ rows_at units ks) ((y, row_of (units_of y units))
-        ∷ insert_entry same_talk (rows_at units ks) (key_of u) w)
-        ≡ rows_at (units ++ u ∷ []) (y ∷ (ks ++ key_of u ∷ []))
+    by : (s : Bool) → same_talk (talk_key u) y ≡ s → cond s true (has (talk_key u) ks) ≡ false
+        → (has (talk_key u) ks ≡ false → insert_entry same_talk (rows_at units ks) (talk_key u) w
+        ≡ rows_at (units ++ u ∷ []) (ks ++ talk_key u ∷ []))
+        → cond s ((y, w) ∷ rows_at units ks) ((y, row_of (units_of_talk y units))
+        ∷ insert_entry same_talk (rows_at units ks) (talk_key u) w)
+        ≡ rows_at (units ++ u ∷ []) (y ∷ (ks ++ talk_key u ∷ []))
     by s is n rest = grind (arith, other_row, other_way)
 
 -- the row that is found is the conversation's
-found_row : (k : TalkKey) (units : List CountedUnit) (ks : List TalkKey) → (has k ks ≡ false → units_of k units ≡ [])
-    → or_empty (lookup (same_talk k) (rows_at units ks)) ≡ row_of (units_of k units)
+found_row : (k : TalkKey) (units : List CountedUnit) (ks : List TalkKey)
+    → (has k ks ≡ false → units_of_talk k units ≡ [])
+    → or_empty (lookup (same_talk k) (rows_at units ks)) ≡ row_of (units_of_talk k units)
 found_row k units [] none = ap row_of (sym (none refl))
 found_row k units (y ∷ ks) none = by (same_talk k y) refl none (found_row k units ks)
   where
-    by : (s : Bool) → same_talk k y ≡ s → (cond s true (has k ks) ≡ false → units_of k units ≡ [])
-        → ((has k ks ≡ false → units_of k units ≡ []) → or_empty (lookup (same_talk k) (rows_at units ks))
-        ≡ row_of (units_of k units))
-        → or_empty (cond s (Some (row_of (units_of y units))) (lookup (same_talk k) (rows_at units ks)))
-        ≡ row_of (units_of k units)
-    by true is n rest = ap (λ z. row_of (units_of z units)) (sym (same_talk-is k y is))
+    by : (s : Bool) → same_talk k y ≡ s → (cond s true (has k ks) ≡ false → units_of_talk k units ≡ [])
+        → ((has k ks ≡ false → units_of_talk k units ≡ []) → or_empty (lookup (same_talk k) (rows_at units ks))
+        ≡ row_of (units_of_talk k units))
+        → or_empty (cond s (Some (row_of (units_of_talk y units))) (lookup (same_talk k) (rows_at units ks)))
+        ≡ row_of (units_of_talk k units)
+    by true is n rest = ap (λ z. row_of (units_of_talk z units)) (sym (same_talk-is k y is))
     by false is n rest = rest n
 
 -- the rows with one unit more are those of the units with it
@@ -281,11 +289,12 @@ rows-more units u =
     ∙ sym (ap (rows_at (units ++ u ∷ [])) (keys-more units u))
   where
     k : TalkKey
-    k = key_of u
+    k = talk_key u
 
     ks : List TalkKey
     ks = keys_of units
 
-    by : (h : Bool) → has k ks ≡ h → insert_entry same_talk (rows_at units ks) k (row_of (units_of k (units ++ u ∷ [])))
+    by : (h : Bool) → has k ks ≡ h → insert_entry same_talk (rows_at units ks) k (row_of (units_of_talk k (units
+        ++ u ∷ [])))
         ≡ rows_at (units ++ u ∷ []) (cond (has k ks) ks (ks ++ k ∷ []))
     by h is = grind (arith, insert-present, keys-apart, insert-absent)

@@ -8,7 +8,7 @@ use Rattle.cap_ip.specs.declared.transports.Transport.{Transport}
 use Rattle.cap_join.specs.ByteMap.{completes}
 use Rattle.cap_join.specs.Fragments.{Piece}
 use Rattle.cap_join.specs.inner.Groups.{IsDatagramOf}
-use Rattle.cap_join.specs.History.{arrives, flushes, joined_pieces, state_of}
+use Rattle.cap_join.specs.History.{arrives, flushes, joined_pieces, open_groups_after}
 use Rattle.cap_join.specs.Joiners.{JoinerState, open_limit}
 use Rattle.cap_join.specs.Joiners as joiners
 use Rattle.cap_join.specs.declared.datagrams.Datagram.{Datagram}
@@ -19,10 +19,11 @@ use Rattle.cap_talks.proofs.Steps.{classes-plain, classes-datagram, classes-kept
 use Rattle.cap_talks.specs.inner.table.Adding.{datagram_unit, datagram_class}
 use Rattle.cap_talks.specs.table.Classes.{class_of, classes, counts_of, group_class, groups_of, joined_transport, times}
 use Rattle.cap_join.specs.Completed.{completed_of}
-use Rattle.cap_talks.specs.table.Taken.{Taken, Look, plain, datagram, fragment, look, stamped_of, events_with}
+use Rattle.cap_talks.specs.table.Taken.{Taken, Look, plain, datagram, fragment, look, stamped_of, events_with_look}
 use Rattle.cap_talks.specs.table.Taken.{events_of}
-use Rattle.cap_talks.specs.inner.table.Tallies.{TallyState, Stands, counted_one, with_frames, with_group}
-use Rattle.cap_talks.specs.table.CountedUnits.{whole_unit, group_unit, first_unit, unit_by, unit_at, listed, units_of}
+use Rattle.cap_talks.specs.inner.table.Tallies.{TallyState, TallyStands, counted_one, with_frames, with_group}
+use Rattle.cap_talks.specs.table.CountedUnits.{whole_unit, group_unit, first_unit, unit_by, unit_at, listed}
+use Rattle.cap_talks.specs.table.CountedUnits.{counted_units}
 use Rattle.cap_talks.specs.table.CountedUnits.{counted_in, joined_in}
 use Rattle.cap_talks.specs.declared.table.classes.Class.{Class}
 use Rattle.cap_talks.specs.declared.table.classes.Class.TheVariants as class
@@ -31,21 +32,21 @@ use Rattle.cap_talks.specs.declared.table.classes.ClassCounts.{ClassCounts}
 -- ---- by what a packet is
 
 pub events-are : (x : Taken) (xs : List Taken) (l : Look) → look (length xs) x ≡ l
-    → events_of (x ∷ xs) ≡ events_with l x.clock (events_of xs)
+    → events_of (x ∷ xs) ≡ events_with_look l x.clock (events_of xs)
 unfolding events_of
-events-are x xs l is = ap (λ (k : Look). events_with k x.clock (events_of xs)) is
+events-are x xs l is = ap (λ (k : Look). events_with_look k x.clock (events_of xs)) is
 
 pub unit-is : (x : Taken) (xs : List Taken) (l : Look) → look (length xs) x ≡ l
     → unit_at xs x ≡ unit_by l (stamped_of (length xs) x.meta) x.clock (events_of xs)
 unfolding unit_at
 unit-is x xs l is = ap (λ (k : Look). unit_by k (stamped_of (length xs) x.meta) x.clock (events_of xs)) is
 
-units-are : (x : Taken) (xs : List Taken) → units_of (x ∷ xs) ≡ units_of xs ++ listed (unit_at xs x)
-unfolding units_of
+units-are : (x : Taken) (xs : List Taken) → counted_units (x ∷ xs) ≡ counted_units xs ++ listed (unit_at xs x)
+unfolding counted_units
 units-are x xs = refl
 
 joined-is : (x : Taken) (xs : List Taken) (l : Look) → look (length xs) x ≡ l
-    → joined_in (x ∷ xs) ≡ counted_in (completed_of open_limit (events_with l x.clock (events_of xs)))
+    → joined_in (x ∷ xs) ≡ counted_in (completed_of open_limit (events_with_look l x.clock (events_of xs)))
 joined-is x xs l is = ap (λ es. counted_in (completed_of open_limit es)) (events-are x xs l is)
 
 append-none : {A : Type 0} (xs : List A) → xs ++ [] ≡ xs
@@ -83,33 +84,42 @@ abbrev pub state : ℕ → ClassCounts → ℕ → TalksState → JoinerState �
 state place counts joined talks joiner waiting =
     record { place = place; classes = counts; joined = joined; talks = talks; joiner = joiner; waiting = waiting }
 
-pub Stands-none : (t : TalksState) (j : JoinerState) → talks.StandsFor t [] → joiners.StandsFor j []
+pub Stands-none : (t : TalksState) (j : JoinerState) → talks.TalksStandFor t [] → joiners.JoinerStandsFor j []
     → (next : Option Taken)
-    → Stands (state 0 (record { other_link = 0; not_ipv4 = 0; short = 0; cut = 0; bad = 0; unjoined = 0; counted = 0 })
+    → TallyStands (state 0 (record {
+      other_link = 0;
+      not_ipv4 = 0;
+      short = 0;
+      cut = 0;
+      bad = 0;
+      unjoined = 0;
+      counted
+          = 0;
+    })
     0 t j None) [] next
-unfolding units_of events_of classes completed_of
+unfolding counted_units events_of classes completed_of
 Stands-none t j h k next = record { place = refl; classes = refl; joined = refl; talks = h; joins = k }
 
 module _ (place joined : ℕ) (counts : ClassCounts) (t : TalksState) (j : JoinerState) (xs : List Taken) (x : Taken)
-    (h : Stands (state place counts joined t j None) xs (Some x)) where
+    (h : TallyStands (state place counts joined t j None) xs (Some x)) where
   pub Stands-plain : (c : Class) → look (length xs) x ≡ plain c → (next : Option Taken)
-      → Stands (state (place + 1) (with_frames c 1 counts) joined t j None) (x ∷ xs) next
+      → TallyStands (state (place + 1) (with_frames c 1 counts) joined t j None) (x ∷ xs) next
   Stands-plain c is next = record {
     place = omega (arith, h.place);
     classes = ap (with_frames c 1) h.classes ∙ sym (counts-more c (classes xs))
         ∙ ap counts_of (sym (classes-plain x xs c is));
     joined = h.joined ∙ sym (joined-is x xs (plain c) is);
-    talks = subst (talks.StandsFor t) (sym (units-are x xs
-        ∙ ap (λ u. units_of xs ++ listed u) (unit-is x xs (plain c) is) ∙ append-none (units_of xs))) h.talks;
-    joins = subst (joiners.StandsFor j) (sym (events-are x xs (plain c) is)) h.joins;
+    talks = subst (talks.TalksStandFor t) (sym (units-are x xs
+        ∙ ap (λ u. counted_units xs ++ listed u) (unit-is x xs (plain c) is) ∙ append-none (counted_units xs))) h.talks;
+    joins = subst (joiners.JoinerStandsFor j) (sym (events-are x xs (plain c) is)) h.joins;
   }
 
   pub Stands-datagram : (header : HeaderFields) (captured : List ℕ) → look (length xs) x ≡ datagram header captured
       → (u : TalksState) (k : JoinerState)
-      → talks.StandsFor u (units_of xs ++ listed (whole_unit header captured (stamped_of (length xs) x.meta)))
-      → joiners.StandsFor k (flushes header.key ∷ events_of xs)
+      → talks.TalksStandFor u (counted_units xs ++ listed (whole_unit header captured (stamped_of (length xs) x.meta)))
+      → joiners.JoinerStandsFor k (flushes header.key ∷ events_of xs)
       → (next : Option Taken)
-      → Stands (state (place + 1)
+      → TallyStands (state (place + 1)
       (with_frames (class_of (transport_of header.key.protocol captured header.data_length)) 1 counts) joined u k None)
       (x ∷ xs) next
   unfolding completed_of
@@ -120,15 +130,15 @@ module _ (place joined : ℕ) (counts : ClassCounts) (t : TalksState) (j : Joine
         classes = ap (with_frames c 1) h.classes ∙ sym (counts-more c (classes xs))
             ∙ ap counts_of (sym (classes-datagram x xs header captured is));
         joined = h.joined ∙ sym (joined-is x xs (datagram header captured) is);
-        talks = subst (talks.StandsFor u) (sym (units-are x xs
-            ∙ ap (λ o. units_of xs ++ listed o) (unit-is x xs (datagram header captured) is))) new;
-        joins = subst (joiners.StandsFor k) (sym (events-are x xs (datagram header captured) is)) flushed;
+        talks = subst (talks.TalksStandFor u) (sym (units-are x xs
+            ∙ ap (λ o. counted_units xs ++ listed o) (unit-is x xs (datagram header captured) is))) new;
+        joins = subst (joiners.JoinerStandsFor k) (sym (events-are x xs (datagram header captured) is)) flushed;
       }
 
   pub Stands-kept : (p : Piece) → look (length xs) x ≡ fragment p
-      → completes (joined_pieces x.clock p (state_of open_limit (events_of xs))) ≡ false → (k : JoinerState)
-      → joiners.StandsFor k (arrives x.clock p ∷ events_of xs) → (next : Option Taken)
-      → Stands (state (place + 1) (with_frames class.Unjoined 1 counts) joined t k None) (x ∷ xs) next
+      → completes (joined_pieces x.clock p (open_groups_after open_limit (events_of xs))) ≡ false → (k : JoinerState)
+      → joiners.JoinerStandsFor k (arrives x.clock p ∷ events_of xs) → (next : Option Taken)
+      → TallyStands (state (place + 1) (with_frames class.Unjoined 1 counts) joined t k None) (x ∷ xs) next
   unfolding completed_of
   Stands-kept p is none k put next = record {
     place = omega (arith, h.place);
@@ -138,20 +148,21 @@ module _ (place joined : ℕ) (counts : ClassCounts) (t : TalksState) (j : Joine
         h.joined
         ∙ sym (joined-is x xs (fragment p) is
         ∙ ap (λ (b : Bool). counted_in
-        ((if b then joined_pieces x.clock p (state_of open_limit (events_of xs)) ∷ [] else []) ++ groups_of xs)) none);
-    talks = subst (talks.StandsFor t)
-        (sym (units-are x xs ∙ ap (λ o. units_of xs ++ listed o)
+        ((if b then joined_pieces x.clock p (open_groups_after open_limit (events_of xs)) ∷ [] else [])
+        ++ groups_of xs)) none);
+    talks = subst (talks.TalksStandFor t)
+        (sym (units-are x xs ∙ ap (λ o. counted_units xs ++ listed o)
         (unit-is x xs (fragment p) is
-        ∙ ap (λ (b : Bool). first_unit (if b then joined_pieces x.clock p (state_of open_limit (events_of xs))
-        ∷ [] else [])) none) ∙ append-none (units_of xs))) h.talks;
-    joins = subst (joiners.StandsFor k) (sym (events-are x xs (fragment p) is)) put;
+        ∙ ap (λ (b : Bool). first_unit (if b then joined_pieces x.clock p (open_groups_after open_limit (events_of xs))
+        ∷ [] else [])) none) ∙ append-none (counted_units xs))) h.talks;
+    joins = subst (joiners.JoinerStandsFor k) (sym (events-are x xs (fragment p) is)) put;
   }
 
   pub Stands-waiting : (p : Piece) → look (length xs) x ≡ fragment p → (k : JoinerState) (d : Datagram)
-      → joiners.StandsFor k (arrives x.clock p ∷ events_of xs)
-      → completes (joined_pieces x.clock p (state_of open_limit (events_of xs))) ≡ true
-      → IsDatagramOf d (joined_pieces x.clock p (state_of open_limit (events_of xs)))
-      → Stands (state place counts joined t k (Some d)) xs (Some x)
+      → joiners.JoinerStandsFor k (arrives x.clock p ∷ events_of xs)
+      → completes (joined_pieces x.clock p (open_groups_after open_limit (events_of xs))) ≡ true
+      → IsDatagramOf d (joined_pieces x.clock p (open_groups_after open_limit (events_of xs)))
+      → TallyStands (state place counts joined t k (Some d)) xs (Some x)
   Stands-waiting p is k d put whole joins = record {
     place = h.place;
     classes = h.classes;
@@ -162,7 +173,7 @@ module _ (place joined : ℕ) (counts : ClassCounts) (t : TalksState) (j : Joine
       is_next = refl;
       piece = p;
       is_fragment = is;
-      stands = subst (joiners.StandsFor k) (sym (events-are x xs (fragment p) is)) put;
+      stands = subst (joiners.JoinerStandsFor k) (sym (events-are x xs (fragment p) is)) put;
       whole = whole;
       datagram = joins;
     };
@@ -180,22 +191,23 @@ class-of-group ps d is = cc
 
 module _ (place joined : ℕ) (counts : ClassCounts) (t : TalksState) (j : JoinerState) (d : Datagram) (xs : List Taken)
     (next : Option Taken)
-    (h : Stands (state place counts joined t j (Some d)) xs next) where
+    (h : TallyStands (state place counts joined t j (Some d)) xs next) where
   pub unit-waiting : unit_at xs h.joins.packet ≡ datagram_unit d
   unit-waiting =
-      let ps = joined_pieces h.joins.packet.clock h.joins.piece (state_of open_limit (events_of xs)) in
+      let ps = joined_pieces h.joins.packet.clock h.joins.piece (open_groups_after open_limit (events_of xs)) in
       unit-is h.joins.packet xs (fragment h.joins.piece) h.joins.is_fragment
       ∙ ap (λ (b : Bool). first_unit (if b then ps ∷ [] else [])) h.joins.whole ∙ unit-of-group ps d h.joins.datagram
 
-  moves : Moves (group_class (joined_pieces h.joins.packet.clock h.joins.piece (state_of open_limit (events_of xs))))
-      (length (joined_pieces h.joins.packet.clock h.joins.piece (state_of open_limit (events_of xs))))
+  moves : Moves (group_class (joined_pieces h.joins.packet.clock h.joins.piece
+      (open_groups_after open_limit (events_of xs))))
+      (length (joined_pieces h.joins.packet.clock h.joins.piece (open_groups_after open_limit (events_of xs))))
       (classes (h.joins.packet ∷ xs)) (classes xs)
   moves = classes-completed h.joins.packet xs h.joins.piece h.joins.is_fragment h.joins.whole
 
   -- the fragments of a datagram that waits were unjoined, but the one that completed it
   pub enough-waiting : d.frames ≤ counts.unjoined + 1
   enough-waiting =
-      let ps = joined_pieces h.joins.packet.clock h.joins.piece (state_of open_limit (events_of xs)) in
+      let ps = joined_pieces h.joins.packet.clock h.joins.piece (open_groups_after open_limit (events_of xs)) in
       omega (
         arith,
         h.joins.datagram.frames,
@@ -203,14 +215,14 @@ module _ (place joined : ℕ) (counts : ClassCounts) (t : TalksState) (j : Joine
         ap (λ (n : ClassCounts). n.unjoined) h.classes,
       )
 
-  pub Stands-joined : (u : TalksState) → talks.StandsFor u (units_of xs ++ listed (datagram_unit d))
+  pub Stands-joined : (u : TalksState) → talks.TalksStandFor u (counted_units xs ++ listed (datagram_unit d))
       → (later : Option Taken)
-      → Stands (state (place + 1) (with_group (datagram_class d) d.frames counts)
+      → TallyStands (state (place + 1) (with_group (datagram_class d) d.frames counts)
       (joined + counted_one (datagram_class d)) u j None) (h.joins.packet ∷ xs) later
   unfolding completed_of
   Stands-joined u new later =
       let x = h.joins.packet in
-      let ps = joined_pieces x.clock h.joins.piece (state_of open_limit (events_of xs)) in
+      let ps = joined_pieces x.clock h.joins.piece (open_groups_after open_limit (events_of xs)) in
       let k = class-of-group ps d h.joins.datagram in
       let is = h.joins.is_fragment in
       let added : counted_one (group_class ps) + joined_in xs ≡ joined + counted_one (datagram_class d) =
@@ -222,6 +234,7 @@ module _ (place joined : ℕ) (counts : ClassCounts) (t : TalksState) (j : Joine
         joined =
             sym (joined-is x xs (fragment h.joins.piece) is
             ∙ ap (λ (b : Bool). counted_in ((if b then ps ∷ [] else []) ++ groups_of xs)) h.joins.whole ∙ added);
-        talks = subst (talks.StandsFor u) (sym (units-are x xs ∙ ap (λ o. units_of xs ++ listed o) unit-waiting)) new;
+        talks = subst (talks.TalksStandFor u) (sym (units-are x xs ∙ ap (λ o. counted_units xs
+            ++ listed o) unit-waiting)) new;
         joins = h.joins.stands;
       }

@@ -6,7 +6,7 @@ use Rattle.std.specs.List.{AllByRecursion, refill}
 use Rattle.std.proofs.lemmas.Bool.Decides.{nat_tests}
 use Rattle.cap_source.specs.declared.packets.Meta.{Meta}
 use Rattle.cap_talks.specs.counts.Counting.{counted, with_packet, are_in_order, original_bytes, truncated_packets}
-use Rattle.cap_talks.specs.table.TakenText.{metas_of, bytes_of, truncated_of}
+use Rattle.cap_talks.specs.table.TakenText.{metas_of, taken_bytes, truncated_of}
 use Rattle.cap_talks.specs.table.Taken.{Taken}
 use Rattle.cap_talks.specs.inner.table.Totals.{TotalsState, TotalsStand, IsSoundTotals, counts_from, is_room}
 use Rattle.cap_talks.specs.declared.counts.counts.Counts.{Counts}
@@ -67,7 +67,7 @@ truncated-few : (metas : List Meta) → truncated_packets metas ≤ length metas
 truncated-few [] = omega arith
 truncated-few (m ∷ metas) = grind (arith, truncated-few metas)
 
-pub bytes-few : (xs : List Taken) → AreShort xs → bytes_of xs ≤ length xs * 2 ^ 32
+pub bytes-few : (xs : List Taken) → AreShort xs → taken_bytes xs ≤ length xs * 2 ^ 32
 bytes-few [] short = omega arith
 bytes-few (x ∷ xs) short = omega (arith, bytes-few xs short.1, short.0)
 

@@ -4,7 +4,7 @@ use Rattle.std.proofs.Common.{option_map, refl, sym, ap, ◌∙◌, subst, arith
 use Rattle.std.specs.Ordering.{is_lt}
 use Rattle.cap_ip.specs.Header.{HeaderFields}
 use Rattle.cap_join.specs.Fragments.{Piece}
-use Rattle.cap_join.specs.Frames.{earlier, later, timed, first_frame, last_frame}
+use Rattle.cap_join.specs.Frames.{earlier_stamped, later_stamped, timed, first_frame, last_frame}
 use Rattle.cap_join.specs.inner.Groups.{IsDatagramOf}
 use Rattle.cap_join.specs.declared.datagrams.Datagram.{Datagram}
 use Rattle.cap_join.specs.declared.datagrams.Stamped.{Stamped}
@@ -18,7 +18,7 @@ use Rattle.cap_time.proofs.Chosen.{not_trans}
 use Rattle.cap_talks.specs.table.CountedUnits.{timed_frame, unit_of, whole_unit}
 use Rattle.cap_talks.specs.inner.table.Adding.{datagram_unit}
 use Rattle.cap_talks.specs.table.Taken.{Taken}
-use Rattle.cap_talks.specs.inner.table.Tallies.{TallyState, Joins, Stands}
+use Rattle.cap_talks.specs.inner.table.Tallies.{TallyState, Joins, TallyStands}
 
 by_ends : (protocol frames bytes : ℕ) (first last : Option TimedFrame) (ends : Option (End × End))
     → are_in_order first last ≡ true
@@ -48,7 +48,7 @@ in_order (Some first) (Some last) = times_in_order first.time last.time
 
 -- one frame more
 order-more : (first last : Option Stamped) (frame : Stamped) → in_order first last ≡ true
-    → in_order (earlier first (timed frame frame.time)) (later last (timed frame frame.time)) ≡ true
+    → in_order (earlier_stamped first (timed frame frame.time)) (later_stamped last (timed frame frame.time)) ≡ true
 order-more first last frame order = grind (arith, not_trans, stamp_cmp_total, stamp_cmp_total.antisymm)
 
 frames-order : (pieces : List Piece) → in_order (first_frame pieces) (last_frame pieces) ≡ true
@@ -72,7 +72,7 @@ joined-order d pieces is =
 
 -- a datagram that waits
 pub waiting-order : (t : TallyState) (d : Datagram) (xs : List Taken) (next : Option Taken) → t.waiting ≡ Some d
-    → Stands t xs next → IfSome (datagram_unit d) IsUnitInOrder
+    → TallyStands t xs next → IfSome (datagram_unit d) IsUnitInOrder
 waiting-order t d xs next is h =
     let joins = subst (λ (w : Option Datagram). Joins w t.joiner xs next) is h.joins in
     joined-order d _ joins.datagram

@@ -2,22 +2,23 @@
 use Rattle.std.proofs.Common.{◌≡◌, ℕ, ◌+◌, ◌≤◌, List, ◌∷◌, length, refl, ◌∙◌, ap, subst, arith, Option}
 use Rattle.cap_join.proofs.Entries.{lengths}
 use Rattle.cap_join.specs.Fragments.{Piece}
-use Rattle.cap_join.specs.History.{Event, arrives, state_of, step}
-use Rattle.cap_join.specs.Joiners.{JoinerState, StandsFor, open_limit}
+use Rattle.cap_join.specs.History.{Event, arrives, open_groups_after, step}
+use Rattle.cap_join.specs.Joiners.{JoinerState, JoinerStandsFor, open_limit}
 use Rattle.cap_join.specs.declared.datagrams.Datagram.{Datagram}
 use Rattle.cap_talks.specs.table.CountedUnits.{given_up_in}
-use Rattle.cap_talks.specs.table.Taken.{Taken, fragment, look, events_of, events_with}
-use Rattle.cap_talks.specs.inner.table.Tallies.{TallyState, WaitsFor, Stands, IsSoundTally, one_if}
+use Rattle.cap_talks.specs.table.Taken.{Taken, fragment, look, events_of, events_with_look}
+use Rattle.cap_talks.specs.inner.table.Tallies.{TallyState, WaitsFor, TallyStands, IsSoundTally, one_if_waiting}
 use Rattle.cap_talks.proofs.LoneFragments.{no-lone}
 use Rattle.cap_talks.proofs.Room.{few-open, waiting-room}
 
 events-are : (x : Taken) (xs : List Taken) (p : Piece) → look (length xs) x ≡ fragment p
     → events_of (x ∷ xs) ≡ arrives x.clock p ∷ events_of xs
 unfolding events_of
-events-are x xs p is = ap (λ l. events_with l x.clock (events_of xs)) is
+events-are x xs p is = ap (λ l. events_with_look l x.clock (events_of xs)) is
 
-state-after : (limit : ℕ) (e : Event) (es : List Event) → state_of limit (e ∷ es) ≡ step limit e (state_of limit es)
-unfolding state_of
+state-after : (limit : ℕ) (e : Event) (es : List Event)
+    → open_groups_after limit (e ∷ es) ≡ step limit e (open_groups_after limit es)
+unfolding open_groups_after
 state-after limit e es = refl
 
 -- the joiner after a datagram that waits: it has one group less, and has given none up
@@ -29,9 +30,9 @@ left-by : (d : Datagram) (j : JoinerState) (xs : List Taken) (next : Option Take
 left-by d j xs next w =
     let es = events_of xs in
     let after = events-are w.packet xs w.piece w.is_fragment in
-    let stands = subst (StandsFor j) after w.stands in
+    let stands = subst (JoinerStandsFor j) after w.stands in
     let is = state-after open_limit (arrives w.packet.clock w.piece) es in
-    let room = waiting-room open_limit w.packet.clock w.piece (state_of open_limit es)
+    let room = waiting-room open_limit w.packet.clock w.piece (open_groups_after open_limit es)
     (no-lone (length xs) w.packet w.piece w.is_fragment) w.whole in
     record {
       room = omega (
@@ -44,10 +45,10 @@ left-by d j xs next w =
       given_up = stands.given_up ∙ ap (λ s. s.given_up) is ∙ room.1;
     }
 
-pub groups-few : (t : TallyState) → IsSoundTally t → length t.joiner.groups + one_if t.waiting ≤ open_limit
+pub groups-few : (t : TallyState) → IsSoundTally t → length t.joiner.groups + one_if_waiting t.waiting ≤ open_limit
 groups-few t s = grind (arith, lengths, few-open, left-by)
 
 -- the groups that were given up are those of the packets that were taken
-pub given-up : (t : TallyState) (xs : List Taken) (next : Option Taken) → Stands t xs next
+pub given-up : (t : TallyState) (xs : List Taken) (next : Option Taken) → TallyStands t xs next
     → t.joiner.given_up ≡ given_up_in xs
 given-up t xs next h = grind (arith, left-by)

@@ -1,7 +1,7 @@
 //! Packets of several files in the order of exact time: lists of packets, and files that are read.
 ghost use Rattle.std.specs.Prelude.{◌≡◌, ◌∷◌, [], IfOk};
 ghost use Rattle.cap_source.specs.Feed.{HasFile};
-ghost use Rattle.cap_merge.specs.Parts.{feed_of};
+ghost use Rattle.cap_merge.specs.Parts.{merged_feed};
 ghost use Rattle.cap_merge.specs.inner.View.{parts_of};
 
 use crate::checks::{holds, same};
@@ -35,7 +35,7 @@ fn make_listed(rt: &impl Abort, alloc: Global, file: u32, side: Side) -> Listed
 fn merge_of(alloc: Global, first: Listed, second: Listed) -> Result<Merged<Listed>, AllocError>
     requires first { (⟦<Listed as PacketFeed>⟧.feed first).files ≡ 1 ∷ [] }
     requires second { (⟦<Listed as PacketFeed>⟧.feed second).files ≡ 2 ∷ [] }
-    ensures { IfOk result (λ m. HasFile (feed_of (parts_of m)).files 2) }
+    ensures { IfOk result (λ m. HasFile (merged_feed (parts_of m)).files 2) }
 {
     let mut feeds = Vec::new(alloc);
     feeds.push(first)?;
@@ -45,7 +45,7 @@ fn merge_of(alloc: Global, first: Listed, second: Listed) -> Result<Merged<Liste
 
 // The files 1 and 2 as one.
 fn sides_of(rt: &impl Abort, alloc: Global, one: Side, two: Side) -> Merged<Listed>
-    ensures { HasFile (feed_of (parts_of result)).files 2 }
+    ensures { HasFile (merged_feed (parts_of result)).files 2 }
 {
     let first = make_listed(rt, alloc, 1, one);
     let second = make_listed(rt, alloc, 2, two);

@@ -55,10 +55,10 @@ abbrev pub printed_plus : Printed → ℕ → Printed
 printed_plus form seconds = record form { seconds = form.seconds +ℤ pos seconds }
 
 -- the time is s seconds and u whole units, fewer than a second has
-pub record IsWhole (d : ℕ) (t : Time) (s : ℤ) (u : ℕ) : Type 0 where
+pub record IsWholeTime (d : ℕ) (t : Time) (s : ℤ) (u : ℕ) : Type 0 where
   pub below : u < d
   pub same : IsSameTime t (time_at u d s)
 
 -- no two such numbers are the time
 abbrev pub IsNeverWhole : ℕ → Time → Type 0
-IsNeverWhole d t = (s : ℤ) (u : ℕ) → ¬ (IsWhole d t s u)
+IsNeverWhole d t = (s : ℤ) (u : ℕ) → ¬ (IsWholeTime d t s u)

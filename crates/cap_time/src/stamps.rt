@@ -99,7 +99,7 @@ fn whole_units(numerator: u64, denominator: u64, in_second: u32) -> Option<u32>
 impl Stamp {
     ghost use Rattle.cap_time.specs.Stamp.{seconds_of, numerator_of, denominator_of, printed_of};
     ghost use Rattle.cap_time.specs.Stamp.{time_of, time_in, stamp_in, stamp_plus, whole_of};
-    ghost use Rattle.cap_time.specs.Time.{printed_form, printed_plus, time_plus, IsWhole, IsNeverWhole};
+    ghost use Rattle.cap_time.specs.Time.{printed_form, printed_plus, time_plus, IsWholeTime, IsNeverWhole};
     ghost use Rattle.cap_time.specs.Unit.{in_second};
 
     /// The time of `units` of an interface's resolution: with `d` units in a second,
@@ -166,7 +166,7 @@ impl Stamp {
     /// `None` if no such two numbers are that time.
     pub fn whole_in(self, unit: Unit) -> Option<(i128, u32)>
         ensures value { result ≡ whole_of (in_second unit) self }
-        ensures whole { IfSome result (λ w. IsWhole (in_second unit) (time_of self) w.0 w.1) }
+        ensures whole { IfSome result (λ w. IsWholeTime (in_second unit) (time_of self) w.0 w.1) }
         ensures inexact { IfNone result (IsNeverWhole (in_second unit) (time_of self)) }
     {
         match whole_units(self.numerator(), self.denominator, unit.in_second()) {

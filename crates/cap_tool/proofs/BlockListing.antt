@@ -6,34 +6,36 @@ use Rattle.cap_bytes.specs.Device.{Writer}
 use Rattle.cap_bytes.specs.declared.faults.Fault.{Fault}
 use Rattle.cap_bytes.specs.declared.faults.Fault.TheVariants.{Refused, Read, Write, Memory}
 use Rattle.cap_bytes.specs.declared.faults.Refusal.{Refusal}
-use Rattle.cap_bytes.specs.Items.{IsEnd, Item, given}
-use Rattle.cap_bytes.specs.inner.Reader.{State, Keeps}
+use Rattle.cap_bytes.specs.Items.{IsEnd, PieceItem, given}
+use Rattle.cap_bytes.specs.inner.Reader.{ReaderState, ReaderKeeps}
 use Rattle.cap_bytes.specs.declared.numbers.Order.{Order}
-use Rattle.cap_blocks.specs.inner.Reader.{GivesBlock, TakesItem, items_of}
+use Rattle.cap_blocks.specs.inner.Reader.{GivesBlock, TakesBlock, blocks_to_come}
 use Rattle.cap_blocks.specs.declared.blocks.Block.{Block}
 use Rattle.cap_bytes.specs.declared.stops.Stop.{Stop}
 use Rattle.cap_bytes.proofs.Putting.{Putting-all}
-use Rattle.cap_tool.specs.inner.BlockWalk.{Lasts}
-use Rattle.cap_tool.specs.BlockText.{block_lines, block_text, refusal_by, refusal_of}
+use Rattle.cap_tool.specs.inner.BlockWalk.{BlockWalkLasts}
+use Rattle.cap_tool.specs.BlockText.{block_lines, block_text, refusal_of_stop, blocks_refusal}
 use Rattle.cap_bytes.specs.Printing.{Prints}
 
 -- the lines so far of a reader that was `old` are written by a writer that was `from`
-pub record Printing (old new : State Order) (failed_old failed_new : Bool) (from to : Writer) (n : ℕ) : Type 0 where
-  pub number : n ≤ new.offset + 1
-  pub limit : n ≤ 2 ^ 41
-  pub failed : failed_new ≡ failed_old
-  pub file : new.file ≡ old.file
-  pub can_fail : IsTrue new.can_fail → IsTrue old.can_fail
-  pub offset : old.offset ≤ new.offset
-  pub lasts : Lasts old new
-  pub told : IsTrue old.told → IsTrue new.told
-  pub writer_told : IsTrue from.told → IsTrue to.told
-  pub writer_cannot : IsTrue to.can_fail → IsTrue from.can_fail
-  pub lines : IsTrue old.told → Putting from to (block_lines 1 (items_of old)) (block_lines n (items_of new))
-  pub refusal_same : IsTrue old.told → refusal_of (items_of new) ≡ refusal_of (items_of old)
+pub record Printing (old new : ReaderState Order) (failed_old failed_new : Bool) (from to : Writer) (n : ℕ) : Type 0
+  where
+    pub number : n ≤ new.offset + 1
+    pub limit : n ≤ 2 ^ 41
+    pub failed : failed_new ≡ failed_old
+    pub file : new.file ≡ old.file
+    pub can_fail : IsTrue new.can_fail → IsTrue old.can_fail
+    pub offset : old.offset ≤ new.offset
+    pub lasts : BlockWalkLasts old new
+    pub told : IsTrue old.told → IsTrue new.told
+    pub writer_told : IsTrue from.told → IsTrue to.told
+    pub writer_cannot : IsTrue to.can_fail → IsTrue from.can_fail
+    pub lines : IsTrue old.told
+        → Putting from to (block_lines 1 (blocks_to_come old)) (block_lines n (blocks_to_come new))
+    pub refusal_same : IsTrue old.told → blocks_refusal (blocks_to_come new) ≡ blocks_refusal (blocks_to_come old)
 
 -- no line is written yet
-pub Printing-none : (reader : State Order) (failed : Bool) (writer : Writer)
+pub Printing-none : (reader : ReaderState Order) (failed : Bool) (writer : Writer)
     → Printing reader reader failed failed writer writer 1
 Printing-none reader failed writer = record {
   number = omega arith;
@@ -58,27 +60,28 @@ Printing-none reader failed writer = record {
 }
 
 -- the lines of a block and of those after it
-pub block_lines-given : (n : ℕ) (block : Block) (body : List ℕ) (items rest : List (Item Block))
+pub block_lines-given : (n : ℕ) (block : Block) (body : List ℕ) (items rest : List (PieceItem Block))
     → items ≡ given block body ∷ rest
     → block_lines n items ≡ block_text n block ++ block_lines (n + 1) rest
 unfolding block_lines
 block_lines-given n block body items rest is = ap (block_lines n) is
 
-pub refusal_of-given : (block : Block) (body : List ℕ) (items rest : List (Item Block))
+pub refusal_of-given : (block : Block) (body : List ℕ) (items rest : List (PieceItem Block))
     → items ≡ given block body ∷ rest
-    → refusal_of items ≡ refusal_of rest
-unfolding refusal_of
-refusal_of-given block body items rest is = ap refusal_of is
+    → blocks_refusal items ≡ blocks_refusal rest
+unfolding blocks_refusal
+refusal_of-given block body items rest is = ap blocks_refusal is
 
 -- what is written if a call for the next block answers a fault
 pub Prints-block_fault : (fault : Fault) (text : List ℕ) (refusal : Option Refusal) (from to : Writer) (n : ℕ)
-    (old new : State Order)
-    → Putting from to text (block_lines n (items_of old)) → IsTrue from.told → refusal_of (items_of old) ≡ refusal
-    → TakesItem old (Err fault) new → Prints {A = Unit {0}} text refusal from.held (Err fault) to.held
-unfolding block_lines refusal_of
+    (old new : ReaderState Order)
+    → Putting from to text (block_lines n (blocks_to_come old)) → IsTrue from.told
+    → blocks_refusal (blocks_to_come old) ≡ refusal
+    → TakesBlock old (Err fault) new → Prints {A = Unit {0}} text refusal from.held (Err fault) to.held
+unfolding block_lines blocks_refusal
 Prints-block_fault (Refused r) text refusal from to n old new p t same took = (
-  sym same ∙ ap refusal_of took.0,
-  Putting-all from to text (block_lines n (items_of old)) p
+  sym same ∙ ap blocks_refusal took.0,
+  Putting-all from to text (block_lines n (blocks_to_come old)) p
       (ap (block_lines n) took.0) t,
 )
 Prints-block_fault (Read file offset) text refusal from to n old new p t same took = (p.at, p.written t)
@@ -86,25 +89,27 @@ Prints-block_fault Write text refusal from to n old new p t same took = absurd t
 Prints-block_fault Memory text refusal from to n old new p t same took = (p.at, p.written t)
 
 -- An end that isn't a refusal tells none.
-no_refusal : (stop : Stop) → IsEnd stop → refusal_by stop ≡ None
+no_refusal : (stop : Stop) → IsEnd stop → refusal_of_stop stop ≡ None
 no_refusal stop e = grind arith
 
 -- what is written if it answers that there is none
-pub Prints-block_end : (text : List ℕ) (refusal : Option Refusal) (from to : Writer) (n : ℕ) (old new : State Order)
-    → Putting from to text (block_lines n (items_of old)) → IsTrue from.told → refusal_of (items_of old) ≡ refusal
-    → TakesItem old (Ok None) new → (refusal ≡ None) × (to.held ≡ from.held ++ text)
-unfolding block_lines refusal_of
+pub Prints-block_end : (text : List ℕ) (refusal : Option Refusal) (from to : Writer) (n : ℕ)
+    (old new : ReaderState Order)
+    → Putting from to text (block_lines n (blocks_to_come old)) → IsTrue from.told
+    → blocks_refusal (blocks_to_come old) ≡ refusal
+    → TakesBlock old (Ok None) new → (refusal ≡ None) × (to.held ≡ from.held ++ text)
+unfolding block_lines blocks_refusal
 Prints-block_end text refusal from to n old new p t same took = (
-  sym same ∙ (ap refusal_of took.2 ∙ no_refusal took.0 took.1),
-  Putting-all from to text (block_lines n (items_of old)) p (ap (block_lines n) took.2) t,
+  sym same ∙ (ap blocks_refusal took.2 ∙ no_refusal took.0 took.1),
+  Putting-all from to text (block_lines n (blocks_to_come old)) p (ap (block_lines n) took.2) t,
 )
 
 -- one more block is given, and its line written
-pub Printing-more : (old mid new : State Order) (fo fm fn : Bool) (from m to : Writer) (n : ℕ) (block : Block)
+pub Printing-more : (old mid new : ReaderState Order) (fo fm fn : Bool) (from m to : Writer) (n : ℕ) (block : Block)
     (body line : List ℕ)
     → Printing old mid fo fm from m n
-    → GivesBlock mid block new → Keeps mid new
-    → (IsTrue mid.told → items_of mid ≡ given block body ∷ items_of new)
+    → GivesBlock mid block new → ReaderKeeps mid new
+    → (IsTrue mid.told → blocks_to_come mid ≡ given block body ∷ blocks_to_come new)
     → line ≡ block_text n block
     → (IsTrue m.told → to.held ≡ m.held ++ line) → (IsTrue m.told → IsTrue to.told)
     → (IsTrue to.can_fail → IsTrue m.can_fail) → fn ≡ fm
@@ -126,18 +131,18 @@ Printing-more old mid new fo fm fn from m to n block body line p gives keeps too
       writer_told = λ t. told (p.writer_told t);
       writer_cannot = λ c. p.writer_cannot (cannot c);
       lines = λ t.
-          let next = block_lines (n + 1) (items_of new) in
-          let split : block_lines n (items_of mid) ≡ line ++ next =
-          block_lines-given n block body (items_of mid) (items_of new) (took (p.told t))
+          let next = block_lines (n + 1) (blocks_to_come new) in
+          let split : block_lines n (blocks_to_come mid) ≡ line ++ next =
+          block_lines-given n block body (blocks_to_come mid) (blocks_to_come new) (took (p.told t))
           ∙ ap (λ l. l ++ next) (sym is) in
-          subst (Putting from to (block_lines 1 (items_of old)))
+          subst (Putting from to (block_lines 1 (blocks_to_come old)))
           (ap (drop (length line)) split ∙ drop_at line next (length line) refl)
-          (Putting-more from m to (block_lines 1 (items_of old)) (block_lines n (items_of mid))
+          (Putting-more from m to (block_lines 1 (blocks_to_come old)) (block_lines n (blocks_to_come mid))
           (length line) (p.lines t)
           (omega (arith, ap length split, length-append line next))
           (λ w. wrote w ∙ ap (λ l. m.held ++ l) (sym (ap (take (length line)) split
           ∙ take_at line next (length line) refl)))
           told cannot);
-      refusal_same = λ t. sym (refusal_of-given block body (items_of mid) (items_of new) (took (p.told t)))
+      refusal_same = λ t. sym (refusal_of-given block body (blocks_to_come mid) (blocks_to_come new) (took (p.told t)))
           ∙ p.refusal_same t;
     }

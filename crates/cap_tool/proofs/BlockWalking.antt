@@ -2,10 +2,10 @@
 use Rattle.std.proofs.Common.{◌≡◌, ℕ, ◌≤◌, ◌∷◌, [], Bool, IsTrue, Option, Some, None, Result, Ok, Err, refl, sym, ◌∙◌}
 use Rattle.std.proofs.Common.{subst, arith}
 use Rattle.std.specs.Prelude.{IfSome, IfNone, IsSome}
-use Rattle.cap_blocks.specs.inner.Reader.{GivesBlock, GivesNext}
+use Rattle.cap_blocks.specs.inner.Reader.{GivesBlock, GivesNextBlock}
 use Rattle.cap_blocks.specs.declared.blocks.Block.{Block}
 use Rattle.cap_bytes.specs.Device.{Writer}
-use Rattle.cap_bytes.specs.inner.Reader.{GivesStop, State}
+use Rattle.cap_bytes.specs.inner.Reader.{GivesStop, ReaderState}
 use Rattle.cap_bytes.specs.inner.Reader as readers
 use Rattle.cap_bytes.specs.declared.faults.Fault.{Fault}
 use Rattle.cap_bytes.specs.declared.faults.Fault.TheVariants.{Refused, Read, Write, Memory}
@@ -14,24 +14,26 @@ use Rattle.cap_bytes.specs.declared.numbers.Order.{Order}
 use Rattle.cap_bytes.specs.declared.stops.Stop.{Stop}
 use Rattle.cap_source.specs.ReadFaults.{FailsOf}
 use Rattle.cap_tool.proofs.BlockListing.{Printing}
-use Rattle.cap_tool.specs.inner.BlockWalk.{Lasts, WalksBlocks}
+use Rattle.cap_tool.specs.inner.BlockWalk.{BlockWalkLasts, WalksBlocks}
 
-lasts-trans : (old mid new : State Order) → Lasts old mid → Lasts mid new → Lasts old new
+lasts-trans : (old mid new : ReaderState Order) → BlockWalkLasts old mid → BlockWalkLasts mid new
+    → BlockWalkLasts old new
 lasts-trans old mid new a b = record { broken = b.broken ∙ a.broken; failed = b.failed ∙ a.failed }
 
 -- what ended the blocks comes, now or again
-lasts-stop : (inside : Bool) (fault : Option Rule) (stop : Stop) (old new : State Order)
-    → GivesStop inside fault stop old new → Lasts old new
+lasts-stop : (inside : Bool) (fault : Option Rule) (stop : Stop) (old new : ReaderState Order)
+    → GivesStop inside fault stop old new → BlockWalkLasts old new
 lasts-stop inside fault stop old new g = by old.stop g.again g.first
   where
     by : (o : Option Stop) → IfSome o (λ first. (stop ≡ first) × (new ≡ old))
-        → IfNone o (readers.Stops inside fault stop old new) → Lasts old new
+        → IfNone o (readers.ReaderStops inside fault stop old new) → BlockWalkLasts old new
     by None again first = record { broken = first.goes.after ∙ sym first.goes.before; failed = first.goes.failed }
-    by (Some s) again first = subst (Lasts old) (sym again.1) (record { broken = refl; failed = refl })
+    by (Some s) again first = subst (BlockWalkLasts old) (sym again.1) (record { broken = refl; failed = refl })
 
-module _ (old mid new : State Order) (fo fm : Bool) (from m : Writer) (n : ℕ)
+module _ (old mid new : ReaderState Order) (fo fm : Bool) (from m : Writer) (n : ℕ)
     (p : Printing old mid fo fm from m n) where
-  pub walks-fault : (fault : Fault) → GivesNext mid (Err fault) new → WalksBlocks {A = Unit {0}} old (Err fault) new
+  pub walks-fault : (fault : Fault) → GivesNextBlock mid (Err fault) new
+      → WalksBlocks {A = Unit {0}} old (Err fault) new
   walks-fault (Refused refusal) g = (g.stop_is, lasts-trans old mid new p.lasts (lasts-stop _ _ _ mid new g))
   walks-fault (Read file offset) g = record {
     of = g.file_is ∙ p.file;
@@ -62,10 +64,10 @@ module _ (old mid new : State Order) (fo fm : Bool) (from m : Writer) (n : ℕ)
   some : (o : Option Stop) (s : Stop) → o ≡ Some s → IsSome o
   some o s is = grind arith
 
-  pub walks-end : GivesNext mid (Ok None) new → IsSome new.stop × Lasts old new
+  pub walks-end : GivesNextBlock mid (Ok None) new → IsSome new.stop × BlockWalkLasts old new
   walks-end g = (some new.stop g.0 g.2.stop_is, lasts-trans old mid new p.lasts (lasts-stop _ _ _ mid new g.2))
 
-  pub lasts-given : (block : Block) → GivesBlock mid block new → Lasts old new
+  pub lasts-given : (block : Block) → GivesBlock mid block new → BlockWalkLasts old new
   lasts-given block g =
       lasts-trans old mid new p.lasts (record {
         broken = g.gives.goes.after
@@ -74,7 +76,7 @@ module _ (old mid new : State Order) (fo fm : Bool) (from m : Writer) (n : ℕ)
       })
 
 -- A failed read is of the only file.
-pub fails-walked : {A : Type 0} (old new : State Order) (can_fail : Bool) (result : Result A Fault)
+pub fails-walked : {A : Type 0} (old new : ReaderState Order) (can_fail : Bool) (result : Result A Fault)
     → WalksBlocks old result new → old.file ≡ 1
     → (IsTrue old.can_fail → IsTrue can_fail) → FailsOf (can_fail ∷ []) result
 fails-walked old new can_fail (Ok u) w is can = tt

@@ -7,29 +7,29 @@ use Rattle.cap_bytes.specs.declared.faults.Fault.TheVariants.{Memory}
 use Rattle.cap_bytes.specs.declared.faults.Tail.{Tail}
 use Rattle.cap_bytes.specs.declared.numbers.Order.{Order}
 use Rattle.cap_merge.proofs.Unread.{told-readers, bytes-readers, run-items}
-use Rattle.cap_merge.specs.Parts.{Part, feed_of, run_of}
-use Rattle.cap_merge.specs.inner.Readers.{Reader, IsUnreadRun}
+use Rattle.cap_merge.specs.Parts.{Part, merged_feed, run_of}
+use Rattle.cap_merge.specs.inner.Readers.{ReaderFacts, IsUnreadRun}
 use Rattle.cap_source.specs.declared.packets.Format.{Format}
 use Rattle.cap_tool.specs.JoinText.{join_text_in, join_refusal_in}
 use Rattle.cap_tool.specs.MergeText.{merge_text_in, merge_refusal_in}
 use Rattle.cap_tool.specs.RunText.{datagrams_refusal, datagrams_text, packets_refusal, packets_text}
 
 -- the packets of a merge, written
-pub Prints-merged : {A : Type 0} (reader : A → Reader) (tail : Tail) (format : Format) (order : Order)
+pub Prints-merged : {A : Type 0} (reader : A → ReaderFacts) (tail : Tail) (format : Format) (order : Order)
     (sources : List A) (ps : List Part)
     (held new : List ℕ) (result : Result (Unit {0}) Fault) → IsUnreadRun tail (map reader sources) ps
-    → (IsTrue (feed_of ps).told → Prints (packets_text format order (feed_of ps).items)
-    (packets_refusal format (feed_of ps).items) held result new)
+    → (IsTrue (merged_feed ps).told → Prints (packets_text format order (merged_feed ps).items)
+    (packets_refusal format (merged_feed ps).items) held result new)
     → IsTrue (list_all (λ s. (reader s).told) sources)
     → Prints (merge_text_in format order tail (map (λ s. (reader s).bytes) sources))
     (merge_refusal_in format tail (map (λ s. (reader s).bytes) sources)) held result new
 Prints-merged reader tail format order sources ps held new result u prints t = grind (arith, run-items, told-readers)
 
 -- its datagrams, written
-pub Prints-joined : {A : Type 0} (reader : A → Reader) (tail : Tail) (format : Format) (order : Order)
+pub Prints-joined : {A : Type 0} (reader : A → ReaderFacts) (tail : Tail) (format : Format) (order : Order)
     (sources : List A) (ps : List Part)
     (held new : List ℕ) (result : Result (Unit {0}) Fault) → IsUnreadRun tail (map reader sources) ps
-    → (IsTrue (feed_of ps).told → Prints (datagrams_text format order (run_of ps))
+    → (IsTrue (merged_feed ps).told → Prints (datagrams_text format order (run_of ps))
     (datagrams_refusal format (run_of ps)) held result new)
     → IsTrue (list_all (λ s. (reader s).told) sources)
     → Prints (join_text_in format order tail (map (λ s. (reader s).bytes) sources))

@@ -7,7 +7,7 @@ use Rattle.cap_line.specs.declared.jobs.Task.TheVariants as tasks
 use Rattle.cap_merge.specs.Files.{endings_of_files}
 use Rattle.cap_source.specs.Items.{file_ending}
 use Rattle.cap_tool.specs.Jobs.{only_of, tail_of}
-use Rattle.cap_tool.specs.Left.{nothing_left, left_of, Drops}
+use Rattle.cap_tool.specs.Left.{nothing_left, left_of_file, LeavesOut}
 use Rattle.cap_tool.specs.declared.left.Left.{Left}
 
 -- of files of those bytes, by its task: the blocks that are skipped and the names of interfaces, of `convert`, `merge`
@@ -17,9 +17,9 @@ LeavesTask tasks.List tail files left = left ≡ nothing_left
 LeavesTask tasks.Blocks tail files left = left ≡ nothing_left
 LeavesTask tasks.Info tail files left = left ≡ nothing_left
 LeavesTask tasks.Report tail files left = left ≡ nothing_left
-LeavesTask tasks.Convert tail files left = left ≡ left_of (file_ending tail 1 (only_of files))
-LeavesTask tasks.Merge tail files left = Drops (endings_of_files tail files) (length files) left
-LeavesTask tasks.Join tail files left = Drops (endings_of_files tail files) (length files) left
+LeavesTask tasks.Convert tail files left = left ≡ left_of_file (file_ending tail 1 (only_of files))
+LeavesTask tasks.Merge tail files left = LeavesOut (endings_of_files tail files) (length files) left
+LeavesTask tasks.Join tail files left = LeavesOut (endings_of_files tail files) (length files) left
 
-abbrev pub Leaves : Job → List (List ℕ) → Left → Type 0
-Leaves job = LeavesTask job.task (tail_of job.allow_cut)
+abbrev pub JobLeaves : Job → List (List ℕ) → Left → Type 0
+JobLeaves job = LeavesTask job.task (tail_of job.allow_cut)

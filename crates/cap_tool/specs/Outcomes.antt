@@ -55,18 +55,18 @@ fault_text Write = codes "fault: write\n"
 fault_text Memory = codes "fault: memory\n"
 
 -- what is told of a command line that wasn't run: the usage for help and for one that isn't of capt
-abbrev pub line_text : LineFault → List ℕ
-line_text lines.Help = USAGE.now
-line_text lines.Line = USAGE.now
-line_text lines.Files = codes "fault: files\n"
-line_text lines.Input = codes "fault: input\n"
-line_text lines.Output = codes "fault: output\n"
-line_text lines.Memory = codes "fault: memory\n"
+abbrev pub line_fault_text : LineFault → List ℕ
+line_fault_text lines.Help = USAGE.now
+line_fault_text lines.Line = USAGE.now
+line_fault_text lines.Files = codes "fault: files\n"
+line_fault_text lines.Input = codes "fault: input\n"
+line_fault_text lines.Output = codes "fault: output\n"
+line_fault_text lines.Memory = codes "fault: memory\n"
 
 -- what is told of an outcome
 abbrev pub outcome_text : Outcome → List ℕ
 outcome_text outcomes.Done = []
-outcome_text (outcomes.Line fault) = line_text fault
+outcome_text (outcomes.Line fault) = line_fault_text fault
 outcome_text (outcomes.Fault fault) = fault_text fault
 outcome_text (outcomes.Open file) = open_text file
 outcome_text outcomes.Create = codes "fault: create output\n"
@@ -91,10 +91,10 @@ is_help outcomes.Create = false
 abbrev pub told_line : List ℕ → LineFault → List ℕ
 told_line said lines.Help = said
 told_line said lines.Line = said
-told_line said lines.Files = line_text lines.Files
-told_line said lines.Input = line_text lines.Input
-told_line said lines.Output = line_text lines.Output
-told_line said lines.Memory = line_text lines.Memory
+told_line said lines.Files = line_fault_text lines.Files
+told_line said lines.Input = line_fault_text lines.Input
+told_line said lines.Output = line_fault_text lines.Output
+told_line said lines.Memory = line_fault_text lines.Memory
 
 abbrev pub told_text : List ℕ → Outcome → List ℕ
 told_text said outcomes.Done = outcome_text outcomes.Done

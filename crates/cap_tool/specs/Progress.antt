@@ -15,15 +15,16 @@ of_text None = []
 of_text (Some total) = codes " of " ++ amount_text total
 
 -- a time in seconds, or in minutes, rounded down
-abbrev pub time_text : ℕ → List ℕ
-time_text seconds = if nat_lt seconds 60 then decimal seconds ++ codes " s" else decimal (seconds / 60) ++ codes " min"
+abbrev pub seconds_text : ℕ → List ℕ
+seconds_text seconds = if nat_lt seconds 60 then decimal seconds ++ codes " s" else decimal (seconds / 60)
+    ++ codes " min"
 
 -- how long the rest will take if it goes on as it went, unless nothing or all was read
 abbrev pub left_text : ℕ → Option ℕ → ℕ → List ℕ
 left_text read None millis = []
 left_text read (Some total) millis =
     if nat_eq read 0 || not (nat_lt read total) then []
-    else codes ", " ++ time_text ((total - read) * millis / (read * 1000)) ++ codes " left"
+    else codes ", " ++ seconds_text ((total - read) * millis / (read * 1000)) ++ codes " left"
 
 -- how far a run is that has read that many bytes, of that many, in that many thousandths of a second
 abbrev pub progress_text : ℕ → Option ℕ → ℕ → List ℕ

@@ -3,8 +3,8 @@ use Rattle.std.specs.Prelude.{ℤ, Option}
 use Rattle.cap_tool.specs.declared.remembered.Remembered.{Remembered}
 
 -- what it writes to
-abbrev pub inner_of : {W : Type 0} → Remembered W → W
-inner_of remembered = remembered.inner
+abbrev pub remembered_inner : {W : Type 0} → Remembered W → W
+remembered_inner remembered = remembered.inner
 
 -- the number of its last error
 abbrev pub error_of : {W : Type 0} → Remembered W → Option ℤ

@@ -2,7 +2,7 @@
 use Rattle.std.specs.Prelude.{◌≡◌, ◌≤◌, ◌-◌, ℕ, List, [], Bool, true, false, codes, get_or, length, map, IsFalse}
 use Rattle.std.specs.Prelude.{IsTrue}
 use Rattle.std.specs.Str.{bytes_eq}
-use Rattle.cap_bytes.specs.Tracked.{inner_of}
+use Rattle.cap_bytes.specs.Tracked.{tracked_inner}
 use Rattle.cap_bytes.specs.declared.faults.Fault.TheVariants as faults
 use Rattle.cap_bytes.specs.declared.streams.Tracked.{Tracked}
 use Rattle.cap_tool.specs.declared.outcomes.Outcome.{Outcome}
@@ -23,7 +23,7 @@ is_standard (inputs.Standard standard) = true
 
 -- which of some inputs are standard input
 abbrev pub standards_of : List (Tracked Input) → List Bool
-standards_of sources = map (λ source. is_standard (inner_of source)) sources
+standards_of sources = map (λ source. is_standard (tracked_inner source)) sources
 
 -- it is a file that was created
 abbrev pub IsOutFile : Output → Type 0

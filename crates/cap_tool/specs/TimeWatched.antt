@@ -4,8 +4,8 @@ use Rattle.cap_tool.specs.RunningBack.{Times}
 use Rattle.cap_tool.specs.declared.time_watched.TimeWatched.{TimeWatched}
 
 -- the feed itself
-abbrev pub inner_of : {F : Type 0} {g : _} → TimeWatched F g → F
-inner_of watched = watched.inner
+abbrev pub time_watched_inner : {F : Type 0} {g : _} → TimeWatched F g → F
+time_watched_inner watched = watched.inner
 
 -- what is known of the times of the packets that were passed
 abbrev pub times_of : {F : Type 0} {g : _} → TimeWatched F g → Times

@@ -1,11 +1,11 @@
 //! `capt blocks`: one line for each block of a pcapng file, as it is found.
 ghost use Rattle.std.specs.Prelude.{◌∷◌, [], IsTrue};
-ghost use Rattle.cap_blocks.specs.inner.Reader.{GivesNext, TakesItem, items_of};
+ghost use Rattle.cap_blocks.specs.inner.Reader.{GivesNextBlock, TakesBlock, blocks_to_come};
 ghost use Rattle.cap_tool.specs.inner.BlockWalk.{WalksBlocks};
-ghost use Rattle.cap_tool.specs.BlockText.{block_lines, block_list, block_refusal, refusal_of};
+ghost use Rattle.cap_tool.specs.BlockText.{block_lines, block_list, block_refusal, blocks_refusal};
 ghost use Rattle.cap_bytes.specs.Device.{WriterKeeps, writer_of};
 ghost use Rattle.cap_bytes.specs.Printing.{Prints, is_write};
-ghost use Rattle.cap_bytes.specs.inner.Reader.{Keeps};
+ghost use Rattle.cap_bytes.specs.inner.Reader.{ReaderKeeps};
 ghost use Rattle.cap_source.specs.ReadFaults.{FailsOf};
 
 use crate::lines::write_block;
@@ -17,9 +17,9 @@ use std::alloc::Global;
 // The next block. Most are packets that the window shows already: to take one of these costs less.
 #[inline(always)]
 fn take_block<R: Source>(reader: &mut BlockReader<R>) -> Result<Option<Block>, Fault>
-    ensures answer { GivesNext reader.old result reader.new }
-    ensures keeps { Keeps reader.old reader.new }
-    ensures items { IsTrue reader.old.told → TakesItem reader.old result reader.new }
+    ensures answer { GivesNextBlock reader.old result reader.new }
+    ensures keeps { ReaderKeeps reader.old reader.new }
+    ensures items { IsTrue reader.old.told → TakesBlock reader.old result reader.new }
 {
     match reader.take_packet() {
         Some(block) => Ok(Some(block)),
@@ -33,7 +33,7 @@ fn print_blocks<R: Source, W: Sink>(
     writer: &mut W,
 ) -> Result<(), Fault>
     ensures text { IsTrue reader.old.told → IsTrue (W.tells_held writer.old)
-        → Prints (block_lines 1 (items_of reader.old)) (refusal_of (items_of reader.old))
+        → Prints (block_lines 1 (blocks_to_come reader.old)) (blocks_refusal (blocks_to_come reader.old))
         (W.held writer.old) result (W.held writer.new) }
     ensures writer { WriterKeeps (writer_of W.Sink writer.old) (is_write result) (writer_of W.Sink writer.new) }
     ensures walks { WalksBlocks reader.old result reader.new }

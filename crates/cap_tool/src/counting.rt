@@ -5,19 +5,19 @@ ghost use Rattle.std.specs.List.{list_all, range_with_len};
 ghost use Rattle.cap_bytes.specs.Device.{WriterKeeps, writer_of};
 ghost use Rattle.cap_bytes.specs.Printing.{Prints, is_write};
 ghost use Rattle.cap_merge.specs.Files.{endings_of_files};
-ghost use Rattle.cap_merge.specs.Parts.{feed_of, run_of};
+ghost use Rattle.cap_merge.specs.Parts.{merged_feed, run_of};
 ghost use Rattle.cap_merge.specs.inner.Readers.{AreUnread, IsUnreadRun, reader_of};
 ghost use Rattle.cap_merge.specs.inner.View.{parts_of, feeds_of};
-ghost use Rattle.cap_source.specs.inner.Captures.{feed_of as file_of, number_of, first_of};
-ghost use Rattle.cap_source.specs.Feed.{Keeps};
+ghost use Rattle.cap_source.specs.inner.Captures.{capture_feed as file_of, capture_number, capture_first};
+ghost use Rattle.cap_source.specs.Feed.{FeedKeeps};
 ghost use Rattle.cap_source.specs.Items.{file_ending};
 ghost use Rattle.cap_source.specs.ReadFaults.{FailsOf};
 ghost use Rattle.cap_source.specs.inner.Walk.{SameEndings, Walks};
 ghost use Rattle.cap_source.specs.declared.feeds.Head.{Head};
 ghost use Rattle.cap_tool.specs.Converted.{convert_text, convert_refusal};
-ghost use Rattle.cap_tool.specs.inner.FileText.{file_text, file_refusal};
+ghost use Rattle.cap_tool.specs.inner.FileText.{written_file_text, file_refusal};
 ghost use Rattle.cap_tool.specs.JoinText.{join_text, join_text_in, join_refusal, join_refusal_in};
-ghost use Rattle.cap_tool.specs.Left.{nothing_left, left_of, Drops};
+ghost use Rattle.cap_tool.specs.Left.{nothing_left, left_of_file, LeavesOut};
 ghost use Rattle.cap_tool.specs.MergeText.{merge_text, merge_text_in, merge_refusal, merge_refusal_in};
 ghost use Rattle.cap_tool.specs.inner.RanBack.{ran_back_in};
 ghost use Rattle.cap_tool.specs.RunText.{datagrams_refusal, datagrams_text, packets_refusal, packets_text};
@@ -75,7 +75,7 @@ fn dropped_of<F: PacketFeed>(feed: &F, files: u32) -> Left
     requires end { (F.feed feed.now).known ≡ Some Head.End }
     requires files { (F.feed feed.now).files ≡ range_with_len 1 files }
     requires most { files ≤ 32 }
-    ensures { Drops (F.feed feed.now).endings files result }
+    ensures { LeavesOut (F.feed feed.now).endings files result }
 {
     let mut skipped: u128 = 0;
     let mut named: u128 = 0;
@@ -104,9 +104,10 @@ fn ran_back_of<F: PacketFeed>(feeds: &[TimeWatched<F>]) -> u128
 
 // What is left of files that were merged, after a call that answered so and took them to their end if it was done.
 fn left_after<F: PacketFeed>(answer: &Result<(), Fault>, merged: &Merged<TimeWatched<F>>) -> Left
-    requires end { OnOk answer.now ((feed_of (parts_of merged.now)).known ≡ Some Head.End) }
+    requires end { OnOk answer.now ((merged_feed (parts_of merged.now)).known ≡ Some Head.End) }
     ensures dropped { OnOk answer.now
-        (Drops (feed_of (parts_of merged.now)).endings (length (feed_of (parts_of merged.now)).files) result) }
+        (LeavesOut (merged_feed (parts_of merged.now)).endings (length (merged_feed (parts_of merged.now)).files)
+        result) }
     ensures ran_back { OnOk answer.now (result.ran_back ≡ ran_back_in (feeds_of merged.now)) }
     ensures fault { OnErr answer.now (result ≡ nothing_left) }
 {
@@ -127,7 +128,7 @@ fn left_after<F: PacketFeed>(answer: &Result<(), Fault>, merged: &Merged<TimeWat
 fn left_of_one<F: PacketFeed>(answer: &Result<(), Fault>, feed: &F) -> Left
     requires end { OnOk answer.now ((F.feed feed.now).known ≡ Some Head.End) }
     requires file { (F.feed feed.now).files ≡ 1 ∷ [] }
-    ensures left { OnOk answer.now (result ≡ left_of ((F.feed feed.now).endings 1)) }
+    ensures left { OnOk answer.now (result ≡ left_of_file ((F.feed feed.now).endings 1)) }
     ensures fault { OnErr answer.now (result ≡ nothing_left) }
 {
     match answer {
@@ -190,14 +191,15 @@ fn write_file<R: Source, W: Sink>(
     writer: &mut W,
 ) -> Result<(), Fault>
     ensures text { IsTrue (file_of capture.old).told → IsTrue (W.tells_held writer.old)
-        → Prints (file_text format order (number_of capture.old) (first_of capture.old) (file_of capture.old).items)
-        (file_refusal format (number_of capture.old) (first_of capture.old) (file_of capture.old).items)
+        → Prints (written_file_text format order (capture_number capture.old) (capture_first capture.old)
+        (file_of capture.old).items)
+        (file_refusal format (capture_number capture.old) (capture_first capture.old) (file_of capture.old).items)
         (W.held writer.old) result (W.held writer.new) }
     ensures writer { WriterKeeps (writer_of W.Sink writer.old) (is_write result) (writer_of W.Sink writer.new) }
     ensures walks { Walks (file_of capture.old) result (file_of capture.new) }
     ensures endings { OnOk result (IsTrue (file_of capture.old).told
         → SameEndings (file_of capture.old) (file_of capture.new)) }
-    ensures keeps { Keeps (file_of capture.old) (file_of capture.new) }
+    ensures keeps { FeedKeeps (file_of capture.old) (file_of capture.new) }
 {
     match format {
         Format::Pcap => to_pcap(capture, order, writer),
@@ -223,7 +225,7 @@ pub fn convert_and_count<R: Source, W: Sink>(
     ensures writer { WriterKeeps (writer_of W.Sink writer.old) (is_write result) (writer_of W.Sink writer.new) }
     ensures read { FailsOf (R.can_fail source ∷ []) result }
     ensures left { OnOk result (IsTrue (R.tells_coming source)
-        → left.new ≡ left_of (file_ending tail 1 (R.coming source))) }
+        → left.new ≡ left_of_file (file_ending tail 1 (R.coming source))) }
     ensures fault { OnErr result (left.new ≡ nothing_left) }
 {
     let mut capture = Capture::new(alloc, source, 1, tail);
@@ -239,15 +241,15 @@ fn write_run<F: PacketFeed, W: Sink>(
     target: Target,
     writer: &mut W,
 ) -> Result<(), Fault>
-    ensures text { IsTrue (feed_of (parts_of merged.old)).told → IsTrue (W.tells_held writer.old)
-        → Prints (packets_text target.format target.order (feed_of (parts_of merged.old)).items)
-        (packets_refusal target.format (feed_of (parts_of merged.old)).items)
+    ensures text { IsTrue (merged_feed (parts_of merged.old)).told → IsTrue (W.tells_held writer.old)
+        → Prints (packets_text target.format target.order (merged_feed (parts_of merged.old)).items)
+        (packets_refusal target.format (merged_feed (parts_of merged.old)).items)
         (W.held writer.old) result (W.held writer.new) }
     ensures writer { WriterKeeps (writer_of W.Sink writer.old) (is_write result) (writer_of W.Sink writer.new) }
-    ensures walks { Walks (feed_of (parts_of merged.old)) result (feed_of (parts_of merged.new)) }
-    ensures endings { OnOk result (IsTrue (feed_of (parts_of merged.old)).told
-        → SameEndings (feed_of (parts_of merged.old)) (feed_of (parts_of merged.new))) }
-    ensures keeps { Keeps (feed_of (parts_of merged.old)) (feed_of (parts_of merged.new)) }
+    ensures walks { Walks (merged_feed (parts_of merged.old)) result (merged_feed (parts_of merged.new)) }
+    ensures endings { OnOk result (IsTrue (merged_feed (parts_of merged.old)).told
+        → SameEndings (merged_feed (parts_of merged.old)) (merged_feed (parts_of merged.new))) }
+    ensures keeps { FeedKeeps (merged_feed (parts_of merged.old)) (merged_feed (parts_of merged.new)) }
 {
     match target.format {
         Format::Pcap => write_merged_pcap(merged, target.order, writer),
@@ -262,15 +264,15 @@ fn write_datagrams<F: PacketFeed, W: Sink>(
     target: Target,
     writer: &mut W,
 ) -> Result<(), Fault>
-    ensures text { IsTrue (feed_of (parts_of merged.old)).told → IsTrue (W.tells_held writer.old)
+    ensures text { IsTrue (merged_feed (parts_of merged.old)).told → IsTrue (W.tells_held writer.old)
         → Prints (datagrams_text target.format target.order (run_of (parts_of merged.old)))
         (datagrams_refusal target.format (run_of (parts_of merged.old)))
         (W.held writer.old) result (W.held writer.new) }
     ensures writer { WriterKeeps (writer_of W.Sink writer.old) (is_write result) (writer_of W.Sink writer.new) }
-    ensures walks { Walks (feed_of (parts_of merged.old)) result (feed_of (parts_of merged.new)) }
-    ensures endings { OnOk result (IsTrue (feed_of (parts_of merged.old)).told
-        → SameEndings (feed_of (parts_of merged.old)) (feed_of (parts_of merged.new))) }
-    ensures keeps { Keeps (feed_of (parts_of merged.old)) (feed_of (parts_of merged.new)) }
+    ensures walks { Walks (merged_feed (parts_of merged.old)) result (merged_feed (parts_of merged.new)) }
+    ensures endings { OnOk result (IsTrue (merged_feed (parts_of merged.old)).told
+        → SameEndings (merged_feed (parts_of merged.old)) (merged_feed (parts_of merged.new))) }
+    ensures keeps { FeedKeeps (merged_feed (parts_of merged.old)) (merged_feed (parts_of merged.new)) }
 {
     match target.format {
         Format::Pcap => write_joined_pcap(alloc, merged, target.order, writer),
@@ -298,7 +300,7 @@ pub(crate) fn merge_with<R: Source, W: Sink>(
     ensures writer { WriterKeeps (writer_of W.Sink writer.old) (is_write result) (writer_of W.Sink writer.new) }
     ensures read { FailsOf (map R.can_fail sources.items) result }
     ensures dropped { OnOk result (IsTrue (list_all R.tells_coming sources.items)
-        → Drops (endings_of_files tail (map R.coming sources.items)) (length sources.items) left.new) }
+        → LeavesOut (endings_of_files tail (map R.coming sources.items)) (length sources.items) left.new) }
     ensures fault { OnErr result (left.new ≡ nothing_left) }
 {
     *left = NOTHING_LEFT;
@@ -327,7 +329,7 @@ pub fn merge_and_count<R: Source, W: Sink>(
     ensures writer { WriterKeeps (writer_of W.Sink writer.old) (is_write result) (writer_of W.Sink writer.new) }
     ensures read { FailsOf (map R.can_fail sources.items) result }
     ensures dropped { OnOk result (IsTrue (list_all R.tells_coming sources.items)
-        → Drops (endings_of_files tail (map R.coming sources.items)) (length sources.items) left.new) }
+        → LeavesOut (endings_of_files tail (map R.coming sources.items)) (length sources.items) left.new) }
     ensures fault { OnErr result (left.new ≡ nothing_left) }
 {
     let pcapng = in_pcapng(order);
@@ -353,7 +355,7 @@ pub(crate) fn join_with<R: Source, W: Sink>(
     ensures writer { WriterKeeps (writer_of W.Sink writer.old) (is_write result) (writer_of W.Sink writer.new) }
     ensures read { FailsOf (map R.can_fail sources.items) result }
     ensures dropped { OnOk result (IsTrue (list_all R.tells_coming sources.items)
-        → Drops (endings_of_files tail (map R.coming sources.items)) (length sources.items) left.new) }
+        → LeavesOut (endings_of_files tail (map R.coming sources.items)) (length sources.items) left.new) }
     ensures fault { OnErr result (left.new ≡ nothing_left) }
 {
     *left = NOTHING_LEFT;
@@ -382,7 +384,7 @@ pub fn join_and_count<R: Source, W: Sink>(
     ensures writer { WriterKeeps (writer_of W.Sink writer.old) (is_write result) (writer_of W.Sink writer.new) }
     ensures read { FailsOf (map R.can_fail sources.items) result }
     ensures dropped { OnOk result (IsTrue (list_all R.tells_coming sources.items)
-        → Drops (endings_of_files tail (map R.coming sources.items)) (length sources.items) left.new) }
+        → LeavesOut (endings_of_files tail (map R.coming sources.items)) (length sources.items) left.new) }
     ensures fault { OnErr result (left.new ≡ nothing_left) }
 {
     let pcapng = in_pcapng(order);

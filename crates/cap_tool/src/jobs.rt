@@ -1,9 +1,9 @@
 //! What the command line asks for, done over readers and a writer.
 ghost use Rattle.std.specs.Prelude.{◌≡◌, ◌∷◌, [], IsTrue, OnErr, OnOk, map, vec_len};
 ghost use Rattle.std.specs.List.{list_all};
-ghost use Rattle.cap_line.specs.Jobs.{IsWhole};
+ghost use Rattle.cap_line.specs.Jobs.{IsWholeJob};
 ghost use Rattle.cap_tool.specs.Jobs.{Does, format_in, tail_of};
-ghost use Rattle.cap_tool.specs.JobLeft.{Leaves};
+ghost use Rattle.cap_tool.specs.JobLeft.{JobLeaves};
 ghost use Rattle.cap_tool.specs.Left.{nothing_left};
 ghost use Rattle.cap_bytes.specs.Device.{WriterKeeps, writer_of};
 ghost use Rattle.cap_bytes.specs.Printing.{is_write};
@@ -59,14 +59,14 @@ fn job_with<R: Source, W: Sink>(
     writer: &mut W,
     left: &mut Left,
 ) -> Result<(), Fault>
-    requires whole { IsWhole job.now }
+    requires whole { IsWholeJob job.now }
     requires sources { vec_len sources ≡ vec_len job.now.files }
     ensures text { IsTrue (list_all R.tells_coming sources.items) → IsTrue (W.tells_held writer.old)
         → Does job.now (map R.coming sources.items) (W.held writer.old) result (W.held writer.new) }
     ensures writer { WriterKeeps (writer_of W.Sink writer.old) (is_write result) (writer_of W.Sink writer.new) }
     ensures read { FailsOf (map R.can_fail sources.items) result }
     ensures left { OnOk result (IsTrue (list_all R.tells_coming sources.items)
-        → Leaves job.now (map R.coming sources.items) left.new) }
+        → JobLeaves job.now (map R.coming sources.items) left.new) }
     ensures fault { OnErr result (left.new ≡ nothing_left) }
 {
     *left = NOTHING_LEFT;
@@ -94,14 +94,14 @@ pub fn job_and_count<R: Source, W: Sink>(
     writer: &mut W,
     left: &mut Left,
 ) -> Result<(), Fault>
-    requires whole { IsWhole job.now }
+    requires whole { IsWholeJob job.now }
     requires sources { vec_len sources ≡ vec_len job.now.files }
     ensures text { IsTrue (list_all R.tells_coming sources.items) → IsTrue (W.tells_held writer.old)
         → Does job.now (map R.coming sources.items) (W.held writer.old) result (W.held writer.new) }
     ensures writer { WriterKeeps (writer_of W.Sink writer.old) (is_write result) (writer_of W.Sink writer.new) }
     ensures read { FailsOf (map R.can_fail sources.items) result }
     ensures left { OnOk result (IsTrue (list_all R.tells_coming sources.items)
-        → Leaves job.now (map R.coming sources.items) left.new) }
+        → JobLeaves job.now (map R.coming sources.items) left.new) }
     ensures fault { OnErr result (left.new ≡ nothing_left) }
 {
     job_with(alloc, job, sources, true, writer, left)
@@ -119,7 +119,7 @@ pub fn job_to<R: Source, W: Sink>(
     sources: Vec<R>,
     writer: &mut W,
 ) -> Result<(), Fault>
-    requires whole { IsWhole job.now }
+    requires whole { IsWholeJob job.now }
     requires sources { vec_len sources ≡ vec_len job.now.files }
     ensures text { IsTrue (list_all R.tells_coming sources.items) → IsTrue (W.tells_held writer.old)
         → Does job.now (map R.coming sources.items) (W.held writer.old) result (W.held writer.new) }

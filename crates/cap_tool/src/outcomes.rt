@@ -2,7 +2,8 @@
 ghost use Rattle.std.specs.Prelude.{◌≡◌, ◌≤◌, ◌++◌, length, is_err, IsTrue, IsFalse, IsOk, IsErr, IsOkUnless};
 ghost use Rattle.cap_bytes.specs.Device.{Puts, WriterKeeps, writer_of};
 ghost use Rattle.cap_print.specs.Lines.{text_in};
-ghost use Rattle.cap_tool.specs.Outcomes.{ends_by, status_after, fault_text, line_text, outcome_text, refusal_text};
+ghost use Rattle.cap_tool.specs.Outcomes.{ends_by, status_after, fault_text, line_fault_text, outcome_text};
+ghost use Rattle.cap_tool.specs.Outcomes.{refusal_text};
 ghost use Rattle.cap_tool.specs.Outcomes.{read_text, open_text, told_text, is_help, HelpEnds};
 ghost use Rattle.cap_bytes.specs.Printing.{PrintsFront};
 
@@ -131,7 +132,7 @@ pub fn fault_line(fault: Fault) -> Line
 
 // What is told of a command line that wasn't run.
 fn line_fault_text(fault: LineFault) -> &'static [u8]
-    ensures { result.now ≡ line_text fault }
+    ensures { result.now ≡ line_fault_text fault }
 {
     match fault {
         LineFault::Help | LineFault::Line => USAGE.as_bytes(),

@@ -1,7 +1,7 @@
 //! How far a run is, shown at a terminal while the run takes long.
 ghost use Rattle.std.specs.Prelude.{◌≡◌, ◌+◌, ◌<◌, ◌≤◌, ◌++◌, length};
 ghost use Rattle.cap_print.specs.Lines.{room_in, text_in};
-ghost use Rattle.cap_tool.specs.Progress.{amount_text, left_text, of_text, progress_text, time_text};
+ghost use Rattle.cap_tool.specs.Progress.{amount_text, left_text, of_text, progress_text, seconds_text};
 
 use crate::shared::SharedOutput;
 use cap_print::Line;
@@ -54,7 +54,7 @@ fn prepend_total(line: &mut Line, total: Option<u64>)
 // Puts a label and a time of that many seconds.
 fn prepend_seconds(line: &mut Line, label: &[u8], seconds: u128)
     requires { length label.now + 44 ≤ room_in line.old }
-    ensures text { text_in line.new ≡ label.now ++ time_text seconds ++ text_in line.old }
+    ensures text { text_in line.new ≡ label.now ++ seconds_text seconds ++ text_in line.old }
     ensures room { room_in line.old ≤ room_in line.new + length label.now + 44 }
 {
     if seconds < 60 {

@@ -12,11 +12,11 @@ pub struct Remembered<W> {
 
 impl<W> Remembered<W> {
     ghost use Rattle.std.specs.Prelude.{◌≡◌, None};
-    ghost use Rattle.cap_tool.specs.Remembered.{error_of, inner_of};
+    ghost use Rattle.cap_tool.specs.Remembered.{error_of, remembered_inner};
 
     /// A writer that does what `inner` does, and had no error.
     pub fn new(inner: W) -> Remembered<W>
-        ensures inner { inner_of result ≡ inner }
+        ensures inner { remembered_inner result ≡ inner }
         ensures error { error_of result ≡ None }
     {
         Remembered { inner, error: None }
@@ -24,7 +24,7 @@ impl<W> Remembered<W> {
 
     /// What it writes to.
     pub fn get_ref(&self) -> &W
-        ensures { result.now ≡ inner_of self.now }
+        ensures { result.now ≡ remembered_inner self.now }
     {
         &self.inner
     }

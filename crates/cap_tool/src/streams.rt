@@ -1,7 +1,7 @@
 //! The files and the standard streams of a run.
 ghost use Rattle.std.specs.Prelude.{◌≡◌, ◌≢◌, ◌≤◌, ◌+◌, ◌++◌, ◌∷◌, [], codes, length, map, vec_len, IfOk, IfErr, IsErr};
 ghost use Rattle.std.specs.Prelude.{IsFalse, IsTrue, option_map, Some, None};
-ghost use Rattle.cap_tool.specs.Watched.{inner_of};
+ghost use Rattle.cap_tool.specs.Watched.{watched_inner};
 ghost use Rattle.cap_tool.specs.Streams.{IsOutFile, IsStandardOut, StopsOpening, StopsCreating, is_dash, is_standard};
 ghost use Rattle.cap_tool.specs.Streams.{standards_of};
 
@@ -245,7 +245,7 @@ pub fn watch_all<'a, C: Clock>(
     sources: Vec<Tracked<Input>>,
     progress: &'a Progress<'a, C>,
 ) -> Result<Vec<Watched<'a, Tracked<Input>, C>>, Outcome>
-    ensures same { IfOk result (λ watched. map inner_of watched.items ≡ sources.items) }
+    ensures same { IfOk result (λ watched. map watched_inner watched.items ≡ sources.items) }
     ensures len { IfOk result (λ watched. vec_len watched ≡ vec_len sources) }
     ensures stops { IfErr result (λ outcome. outcome ≡ Outcome.Fault Fault.Memory) }
 {

@@ -1,7 +1,8 @@
 //! A feed whose packets' times are watched for those that run back.
 ghost use Rattle.std.specs.Prelude.{◌≡◌, ◌+◌, ◌≤◌, ◌^◌, IsTrue};
-ghost use Rattle.cap_source.specs.Feed.{GivesHead, Keeps, KeepsItems, FindsPacket, ShowsPacket, FindsItem, SameItems};
-ghost use Rattle.cap_source.specs.Feed.{Passes, IsPacket, IfPacket};
+ghost use Rattle.cap_source.specs.Feed.{GivesHead, FeedKeeps, KeepsItems, FindsPacket, ShowsPacket, FindsItem};
+ghost use Rattle.cap_source.specs.Feed.{SameItems};
+ghost use Rattle.cap_source.specs.Feed.{FeedPasses, IsPacket, IfPacket};
 ghost use Rattle.cap_source.specs.Times.{meta_time};
 ghost use Rattle.cap_time.specs.Clock.{later};
 ghost use Rattle.cap_tool.specs.RunningBack.{runs_back, no_times, times_by};
@@ -41,13 +42,13 @@ fn takes_back(greatest: &mut Option<Stamp>, time: Option<Stamp>) -> bool
 }
 
 impl<F: PacketFeed> TimeWatched<F> {
-    ghost use Rattle.cap_tool.specs.TimeWatched.{inner_of, times_of, watches_of};
+    ghost use Rattle.cap_tool.specs.TimeWatched.{time_watched_inner, times_of, watches_of};
 
     /// The packets of a feed that gives at most 2^40 of them, as the one of a file does. They are counted if it
     /// `watches`.
     pub fn new(inner: F, watches: bool) -> TimeWatched<F>
         requires few { (F.feed inner).left ≤ 2 ^ 40 }
-        ensures inner { inner_of result ≡ inner }
+        ensures inner { time_watched_inner result ≡ inner }
         ensures times { times_of result ≡ no_times }
         ensures watches { watches_of result ≡ watches }
     {
@@ -68,17 +69,18 @@ impl<F: PacketFeed> TimeWatched<F> {
 }
 
 impl<F: PacketFeed> PacketFeed for TimeWatched<F> {
-    ghost use Rattle.cap_tool.specs.TimeWatched.{inner_of, times_of, watches_of};
+    ghost use Rattle.cap_tool.specs.TimeWatched.{time_watched_inner, times_of, watches_of};
 
-    ghost feed = { λ w. F.feed (inner_of w) };
+    ghost feed = { λ w. F.feed (time_watched_inner w) };
 
-    ghost lawful = { λ w. F.lawful (inner_of w) };
+    ghost lawful = { λ w. F.lawful (time_watched_inner w) };
 
     fn head(&mut self) -> Result<Head, Fault>
-        ensures answer { GivesHead (F.feed (inner_of self.old)) result (F.feed (inner_of self.new)) }
-        ensures keeps { Keeps (F.feed (inner_of self.old)) (F.feed (inner_of self.new)) }
-        ensures items { IsTrue (F.feed (inner_of self.old)).told
-            → KeepsItems (F.feed (inner_of self.old)) result (F.feed (inner_of self.new)) }
+        ensures answer { GivesHead (F.feed (time_watched_inner self.old)) result
+            (F.feed (time_watched_inner self.new)) }
+        ensures keeps { FeedKeeps (F.feed (time_watched_inner self.old)) (F.feed (time_watched_inner self.new)) }
+        ensures items { IsTrue (F.feed (time_watched_inner self.old)).told
+            → KeepsItems (F.feed (time_watched_inner self.old)) result (F.feed (time_watched_inner self.new)) }
         ensures times { times_of self.new ≡ times_of self.old }
     {
         self.inner.head()
@@ -86,10 +88,11 @@ impl<F: PacketFeed> PacketFeed for TimeWatched<F> {
 
     #[inline(always)]
     fn has_packet(&mut self) -> Result<bool, Fault>
-        ensures answer { FindsPacket (F.feed (inner_of self.old)) result (F.feed (inner_of self.new)) }
-        ensures keeps { Keeps (F.feed (inner_of self.old)) (F.feed (inner_of self.new)) }
-        ensures items { IsTrue (F.feed (inner_of self.old)).told
-            → FindsItem (F.feed (inner_of self.old)) result (F.feed (inner_of self.new)) }
+        ensures answer { FindsPacket (F.feed (time_watched_inner self.old)) result
+            (F.feed (time_watched_inner self.new)) }
+        ensures keeps { FeedKeeps (F.feed (time_watched_inner self.old)) (F.feed (time_watched_inner self.new)) }
+        ensures items { IsTrue (F.feed (time_watched_inner self.old)).told
+            → FindsItem (F.feed (time_watched_inner self.old)) result (F.feed (time_watched_inner self.new)) }
         ensures times { times_of self.new ≡ times_of self.old }
     {
         self.inner.has_packet()
@@ -97,10 +100,11 @@ impl<F: PacketFeed> PacketFeed for TimeWatched<F> {
 
     #[inline(always)]
     fn shows_packet(&mut self) -> bool
-        ensures answer { ShowsPacket (F.feed (inner_of self.old)) result (F.feed (inner_of self.new)) }
-        ensures keeps { Keeps (F.feed (inner_of self.old)) (F.feed (inner_of self.new)) }
-        ensures items { IsTrue (F.feed (inner_of self.old)).told
-            → SameItems (F.feed (inner_of self.old)) (F.feed (inner_of self.new)) }
+        ensures answer { ShowsPacket (F.feed (time_watched_inner self.old)) result
+            (F.feed (time_watched_inner self.new)) }
+        ensures keeps { FeedKeeps (F.feed (time_watched_inner self.old)) (F.feed (time_watched_inner self.new)) }
+        ensures items { IsTrue (F.feed (time_watched_inner self.old)).told
+            → SameItems (F.feed (time_watched_inner self.old)) (F.feed (time_watched_inner self.new)) }
         ensures times { times_of self.new ≡ times_of self.old }
     {
         self.inner.shows_packet()
@@ -118,10 +122,10 @@ impl<F: PacketFeed> PacketFeed for TimeWatched<F> {
 
     #[inline(always)]
     fn pass(&mut self)
-        requires packet { IsPacket (F.feed (inner_of self.old)).known }
-        ensures passes { Passes (F.feed (inner_of self.old)) (F.feed (inner_of self.new)) }
-        ensures keeps { Keeps (F.feed (inner_of self.old)) (F.feed (inner_of self.new)) }
-        ensures times { IfPacket (F.feed (inner_of self.old)).known
+        requires packet { IsPacket (F.feed (time_watched_inner self.old)).known }
+        ensures passes { FeedPasses (F.feed (time_watched_inner self.old)) (F.feed (time_watched_inner self.new)) }
+        ensures keeps { FeedKeeps (F.feed (time_watched_inner self.old)) (F.feed (time_watched_inner self.new)) }
+        ensures times { IfPacket (F.feed (time_watched_inner self.old)).known
             (λ meta. times_of self.new ≡ times_by (watches_of self.old) (times_of self.old) (meta_time meta)) }
         ensures watches { watches_of self.new ≡ watches_of self.old }
     {

@@ -1,6 +1,6 @@
 //! A device whose bytes are counted for the line that shows how far a run is.
 ghost use Rattle.std.specs.Prelude.{◌≡◌};
-ghost use Rattle.cap_tool.specs.Watched.{inner_of};
+ghost use Rattle.cap_tool.specs.Watched.{watched_inner};
 
 use crate::progress::Progress;
 use cap_bytes::{Broken, Device, Sink, Source};
@@ -17,23 +17,23 @@ pub struct Watched<'a, T, C: Clock> {
 impl<'a, T, C: Clock> Watched<'a, T, C> {
     /// A device that does what `inner` does, and tells that progress.
     pub fn new(inner: T, progress: &'a Progress<'a, C>) -> Watched<'a, T, C>
-        ensures inner { inner_of result ≡ inner }
+        ensures inner { watched_inner result ≡ inner }
     {
         Watched { inner, progress }
     }
 
     /// What it reads from or writes to.
     pub fn into_inner(self) -> T
-        ensures { result ≡ inner_of self.entry }
+        ensures { result ≡ watched_inner self.entry }
     {
         self.inner
     }
 }
 
 impl<'a, T: Device, C: Clock> Device for Watched<'a, T, C> {
-    ghost has_failed = { λ w. T.has_failed (inner_of w) };
+    ghost has_failed = { λ w. T.has_failed (watched_inner w) };
 
-    ghost can_fail = { λ w. T.can_fail (inner_of w) };
+    ghost can_fail = { λ w. T.can_fail (watched_inner w) };
 
     fn failed(&self) -> bool {
         self.inner.failed()
@@ -41,11 +41,11 @@ impl<'a, T: Device, C: Clock> Device for Watched<'a, T, C> {
 }
 
 impl<'a, T: Source, C: Clock> Source for Watched<'a, T, C> {
-    ghost tells_coming = { λ w. T.tells_coming (inner_of w) };
+    ghost tells_coming = { λ w. T.tells_coming (watched_inner w) };
 
-    ghost coming = { λ w. T.coming (inner_of w) };
+    ghost coming = { λ w. T.coming (watched_inner w) };
 
-    ghost most = { λ w. T.most (inner_of w) };
+    ghost most = { λ w. T.most (watched_inner w) };
 
     fn take(&mut self, buffer: &mut [u8]) -> Result<usize, Broken> {
         self.progress.before_read();
@@ -56,9 +56,9 @@ impl<'a, T: Source, C: Clock> Source for Watched<'a, T, C> {
 }
 
 impl<'a, T: Sink, C: Clock> Sink for Watched<'a, T, C> {
-    ghost tells_held = { λ w. T.tells_held (inner_of w) };
+    ghost tells_held = { λ w. T.tells_held (watched_inner w) };
 
-    ghost held = { λ w. T.held (inner_of w) };
+    ghost held = { λ w. T.held (watched_inner w) };
 
     fn give(&mut self, bytes: &[u8]) -> Result<usize, Broken> {
         self.progress.make_way();

@@ -19,16 +19,17 @@ use Rattle.cap_source.specs.declared.packets.Meta.{Meta}
 use Rattle.cap_time.specs.declared.stamps.Stamp.{Stamp}
 use Rattle.cap_write.proofs.Forming.{Prints-untimed, no-time, stop-nothing, text-nothing}
 use Rattle.cap_write.specs.inner.Interfaces.{HasUnits}
-use Rattle.cap_write.specs.inner.Datagrams.{IsFilled, answered}
+use Rattle.cap_write.specs.inner.Datagrams.{IsFilled, answered_datagram}
 use Rattle.cap_write.specs.inner.Forms.{FormState, form_after, form_behind, form_stop, form_text}
 use Rattle.cap_write.specs.Joined.{Complete, joined_of, completed_in, completed, datagram_meta, items_of_packet}
 
-answered-pieces : (ps : List Piece) (arrived : Arrived) → IsFragmentOf ps arrived → answered arrived ≡ joined_of ps
+answered-pieces : (ps : List Piece) (arrived : Arrived) → IsFragmentOf ps arrived
+    → answered_datagram arrived ≡ joined_of ps
 unfolding joined_of
 answered-pieces ps arrived h = grind arith
 
 pub answered-is : (r : Reading) (arrived : Arrived) (clock : Option Stamp) (stamped : Stamped) (events : List Event)
-    → IsArrived r clock stamped events arrived → answered arrived ≡ completed_in r clock stamped events
+    → IsArrived r clock stamped events arrived → answered_datagram arrived ≡ completed_in r clock stamped events
 answered-is (found header captured) arrived clock stamped events h =
     grind (arith, answered-pieces, common_steps, nat_tests)
 answered-is bad as_.Bad clock stamped events h = refl

@@ -26,7 +26,7 @@ use Rattle.cap_write.specs.inner.Forms.{form_behind, EndsForm}
 use Rattle.cap_write.specs.inner.Interfaces.{HasUnits}
 use Rattle.cap_write.specs.Numbering.{Origin, refusal_at, refusal_by, refusal_in, with_origin, write_fault, numbered_of}
 use Rattle.cap_write.specs.Numbering.{numbered as numbered_in}
-use Rattle.cap_write.specs.Pcap.{header_of, packet_record, record_fault, records_bytes, records_refusal}
+use Rattle.cap_write.specs.Pcap.{header_of, packet_record, written_record_fault, records_bytes, records_refusal}
 use Rattle.cap_write.specs.PcapRun.{run_bytes, run_refusal}
 use Rattle.cap_write.specs.Texts.{numbered_bytes, one_bytes, packets_bytes, text_behind, text_or}
 
@@ -49,13 +49,14 @@ unfolding refusal_in
 refusal-one origins meta frame = grind arith
 
 records-one : (first : Interface) (meta : Meta) (frame : List ℕ)
-    → records_refusal first (packet meta frame ∷ []) ≡ refusal_by meta (record_fault first meta)
+    → records_refusal first (packet meta frame ∷ []) ≡ refusal_by meta (written_record_fault first meta)
 unfolding records_refusal
 records-one first meta frame = grind arith
 
 -- a packet that is written after a header has a time
-timed : (first : Interface) (meta : Meta) → record_fault first meta ≡ None → (units : ℕ) × (meta.units ≡ Some units)
-unfolding record_fault
+timed : (first : Interface) (meta : Meta) → written_record_fault first meta ≡ None → (units : ℕ)
+    × (meta.units ≡ Some units)
+unfolding written_record_fault
 timed first meta none = by meta.units refl
   where
     by : (units : Option ℕ) → meta.units ≡ units → (units : ℕ) × (meta.units ≡ Some units)
@@ -107,7 +108,8 @@ numbered-steps order origins meta frame none =
       stop = goes.refusal;
     }
 
-headed-steps : (order : Order) (first : Interface) (meta : Meta) (frame : List ℕ) → record_fault first meta ≡ None
+headed-steps : (order : Order) (first : Interface) (meta : Meta) (frame : List ℕ)
+    → written_record_fault first meta ≡ None
     → Steps order (headed (Some first)) meta frame
 headed-steps order first meta frame none =
     let goes = records.plan_of-next order first meta frame none in
@@ -118,7 +120,7 @@ headed-steps order first meta frame none =
       stop = goes.refusal;
     }
 
-leading-steps : (order : Order) (meta : Meta) (frame : List ℕ) → record_fault meta.interface meta ≡ None
+leading-steps : (order : Order) (meta : Meta) (frame : List ℕ) → written_record_fault meta.interface meta ≡ None
     → Steps order (headed None) meta frame
 leading-steps order meta frame none =
     let first = meta.interface in
@@ -164,14 +166,14 @@ numbered-stops order origins meta frame rule is =
     record { text = λ items. gives.text items ∙ sym (gives.text []); refusal = gives.refusal; stop = gives.refusal }
 
 headed-stops : (order : Order) (first : Interface) (meta : Meta) (frame : List ℕ) (rule : Rule)
-    → record_fault first meta ≡ Some rule
+    → written_record_fault first meta ≡ Some rule
     → Stops order (headed (Some first)) meta frame (refusal_at meta rule)
 headed-stops order first meta frame rule is =
     let gives = records.plan_of-refused order first meta frame rule is in
     record { text = λ items. gives.text items ∙ sym (gives.text []); refusal = gives.refusal; stop = gives.refusal }
 
 leading-stops : (order : Order) (meta : Meta) (frame : List ℕ) (rule : Rule)
-    → record_fault meta.interface meta ≡ Some rule
+    → written_record_fault meta.interface meta ≡ Some rule
     → Stops order (headed None) meta frame (refusal_at meta rule)
 leading-stops order meta frame rule is =
     let s = headed-stops order meta.interface meta frame rule is in
@@ -201,8 +203,9 @@ stops order (headed (Some first)) meta frame r is =
     subst (Stops order (headed (Some first)) meta frame) fault.2 (headed-stops order first meta frame fault.0 fault.1)
 
 -- a packet without a time
-record_fault-untimed : (first : Interface) (meta : Meta) → meta.units ≡ None → record_fault first meta ≡ Some NoTime
-unfolding record_fault
+record_fault-untimed : (first : Interface) (meta : Meta) → meta.units ≡ None
+    → written_record_fault first meta ≡ Some NoTime
+unfolding written_record_fault
 record_fault-untimed first meta none = grind arith
 
 pub no-time : (meta : Meta) (fault : Fault) → HasUnits meta (Err fault) → (meta.units ≡ None)
@@ -259,9 +262,9 @@ text-one order origins meta frame = by (write_fault origins meta) refl
 
 record-one : (order : Order) (first : Interface) (meta : Meta) (frame : List ℕ)
     → records_bytes order first (packet meta frame ∷ [])
-    ≡ text_or (record_fault first meta) (packet_record order first meta frame)
+    ≡ text_or (written_record_fault first meta) (packet_record order first meta frame)
 unfolding records_bytes
-record-one order first meta frame = ap (text_or (record_fault first meta))
+record-one order first meta frame = ap (text_or (written_record_fault first meta))
     (append-nil (packet_record order first meta frame))
 
 pub Prints-numbered : (order : Order) (form : FormState) (origins : List Origin) (meta : Meta) (frame held new : List ℕ)
@@ -275,8 +278,8 @@ Prints-numbered order form origins meta frame held new result is h =
 
 pub Prints-headed : (order : Order) (form : FormState) (first : Interface) (meta : Meta) (frame held new : List ℕ)
     (result : Result (Unit {0}) Fault) → form ≡ headed (Some first)
-    → Prints {A = Unit {0}} (text_or (record_fault first meta) (packet_record order first meta frame))
-    (refusal_by meta (record_fault first meta)) held result new
+    → Prints {A = Unit {0}} (text_or (written_record_fault first meta) (packet_record order first meta frame))
+    (refusal_by meta (written_record_fault first meta)) held result new
     → Prints {A = Unit {0}} (form_text order form (packet meta frame ∷ []))
     (form_stop form (packet meta frame ∷ [])) held result new
 Prints-headed order form first meta frame held new result is h =
@@ -290,11 +293,11 @@ after-numbered form origins origins_new meta frame is h =
     rw is ((ap numbered h.0, refusal-one origins meta frame ∙ ap (refusal_by meta) h.1))
 
 pub after-headed : (form : FormState) (first : Interface) (meta : Meta) (frame : List ℕ) → form ≡ headed (Some first)
-    → record_fault first meta ≡ None
+    → written_record_fault first meta ≡ None
     → (form ≡ form_after form meta) × (form_stop form (packet meta frame ∷ []) ≡ None)
 after-headed form first meta frame is none = rw is ((refl, records-one first meta frame ∙ ap (refusal_by meta) none))
 
-pub after-leading : (meta : Meta) (frame : List ℕ) → record_fault meta.interface meta ≡ None
+pub after-leading : (meta : Meta) (frame : List ℕ) → written_record_fault meta.interface meta ≡ None
     → run_refusal (packet meta frame ∷ []) ≡ None
 after-leading meta frame none = records-one meta.interface meta frame ∙ ap (refusal_by meta) none
 

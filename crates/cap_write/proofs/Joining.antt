@@ -7,13 +7,13 @@ use Rattle.cap_bytes.specs.declared.faults.Fault.{Fault}
 use Rattle.cap_bytes.specs.declared.faults.Refusal.{Refusal}
 use Rattle.cap_bytes.specs.declared.numbers.Order.{Order}
 use Rattle.cap_join.specs.History.{Event}
-use Rattle.cap_join.specs.Joiners.{JoinerState, StandsFor}
+use Rattle.cap_join.specs.Joiners.{JoinerState, JoinerStandsFor}
 use Rattle.cap_merge.proofs.RunItems.{items-of-run, first-of-run}
-use Rattle.cap_merge.specs.Parts.{Part, feed_of, run_of, BeginsAt}
+use Rattle.cap_merge.specs.Parts.{Part, merged_feed, run_of, BeginsAt}
 use Rattle.cap_merge.specs.Run.{Clocked}
 use Rattle.cap_source.proofs.Onward.{Went, Went-more, Ends-more}
 use Rattle.cap_source.proofs.Walking.{Plan, Walking, Walking-by}
-use Rattle.cap_source.specs.Feed.{Feed, Item, packet, refused, Keeps, Passes}
+use Rattle.cap_source.specs.Feed.{Feed, Item, packet, refused, FeedKeeps, FeedPasses}
 use Rattle.cap_source.specs.inner.Walk.{GivesPacket, ShowsItem, SameEndings}
 use Rattle.cap_source.specs.declared.packets.Meta.{Meta}
 use Rattle.cap_time.specs.declared.stamps.Stamp.{Stamp}
@@ -22,7 +22,7 @@ use Rattle.cap_write.specs.inner.Forms.{FormState, IsFew, form_behind, form_refu
 use Rattle.cap_write.specs.Joined.{items_of_packet, events_after, joined_items}
 
 run-first : (mid shown new : List Part) (meta : Meta) (frame : List ℕ) (clock : Option Stamp)
-    → (feed_of mid).items ≡ packet meta frame ∷ drop 1 (feed_of mid).items → run_of shown ≡ run_of mid
+    → (merged_feed mid).items ≡ packet meta frame ∷ drop 1 (merged_feed mid).items → run_of shown ≡ run_of mid
     → BeginsAt clock (run_of shown) → run_of new ≡ drop 1 (run_of shown)
     → run_of mid ≡ record { clock = clock; item = packet meta frame } ∷ run_of new
 run-first mid shown new meta frame clock head same begins dropped = grind (arith, first-of-run, drop, items-of-run)
@@ -30,7 +30,7 @@ run-first mid shown new meta frame clock head same begins dropped = grind (arith
 -- what is to be written of it
 pub joined-first : (mid shown new : List Part) (meta : Meta) (frame : List ℕ) (clock : Option Stamp) (place : ℕ)
     (events : List Event)
-    → (feed_of mid).items ≡ packet meta frame ∷ drop 1 (feed_of mid).items → run_of shown ≡ run_of mid
+    → (merged_feed mid).items ≡ packet meta frame ∷ drop 1 (merged_feed mid).items → run_of shown ≡ run_of mid
     → BeginsAt clock (run_of shown) → run_of new ≡ drop 1 (run_of shown)
     → joined_items place events (run_of mid)
     ≡ items_of_packet place events clock meta frame
@@ -41,7 +41,7 @@ joined-first mid shown new meta frame clock place events head same begins droppe
 
 pub joined-at-first : (mid shown : List Part) (meta : Meta) (frame : List ℕ) (clock : Option Stamp) (place : ℕ)
     (events : List Event)
-    → (feed_of mid).items ≡ packet meta frame ∷ drop 1 (feed_of mid).items → run_of shown ≡ run_of mid
+    → (merged_feed mid).items ≡ packet meta frame ∷ drop 1 (merged_feed mid).items → run_of shown ≡ run_of mid
     → BeginsAt clock (run_of shown)
     → joined_items place events (run_of mid)
     ≡ items_of_packet place events clock meta frame
@@ -56,18 +56,18 @@ plan_in order form = record { text = form_text order form; refusal = form_refusa
 
 -- what is to be written of a run as of a feed
 abbrev pub feeding : List Part → ℕ → List Event → Feed
-feeding ps place events = record (feed_of ps) { items = joined_items place events (run_of ps) }
+feeding ps place events = record (merged_feed ps) { items = joined_items place events (run_of ps) }
 
 -- The datagrams so far of a run that was `old` are written by a writer that was `from`.
 pub record Joining (order : Order) (old new : List Part) (form_old form : FormState) (joiner : JoinerState) (place : ℕ)
     (failed_old failed_new : Bool) (from to : Writer) : Type 0 where
   pub limit : IsFew form
-  pub went : Went (feed_of old) (feed_of new)
-  pub ends : IsTrue (feed_of old).told → SameEndings (feed_of old) (feed_of new)
+  pub went : Went (merged_feed old) (merged_feed new)
+  pub ends : IsTrue (merged_feed old).told → SameEndings (merged_feed old) (merged_feed new)
   pub events : List Event
-  pub stands : StandsFor joiner events
+  pub stands : JoinerStandsFor joiner events
   pub next : joiner.next ≤ place
-  pub places : place + (feed_of new).left ≤ (feed_of old).left
+  pub places : place + (merged_feed new).left ≤ (merged_feed old).left
   pub walk : Walking (plan_in order form_old) (plan_in order form) (feeding old 0 [])
       (feeding new place events) failed_old failed_new from to
 
@@ -75,21 +75,22 @@ pub record Joining (order : Order) (old new : List Part) (form_old form : FormSt
 pub Joining-more : (order : Order) (old mid shown new : List Part) (form_old form form_new : FormState)
     (joiner joiner_new : JoinerState) (place : ℕ) (fo fm fn : Bool)
     (from m to : Writer) (meta : Meta) (lent : List ℕ) (clock : Option Stamp)
-    → lent ≡ (feed_of shown).frame
+    → lent ≡ (merged_feed shown).frame
     → Joining order old mid form_old form joiner place fo fm from m
-    → GivesPacket (feed_of mid) (Ok (Some meta)) (feed_of shown) → Keeps (feed_of mid) (feed_of shown)
-    → (IsTrue (feed_of mid).told → ShowsItem (feed_of mid) (Ok (Some meta)) (feed_of shown))
-    → (IsTrue (feed_of mid).told → run_of shown ≡ run_of mid)
-    → (IsTrue (feed_of shown).told → BeginsAt clock (run_of shown))
-    → Keeps (feed_of shown) (feed_of new) → Passes (feed_of shown) (feed_of new)
-    → (IsTrue (feed_of shown).told → run_of new ≡ drop 1 (run_of shown))
+    → GivesPacket (merged_feed mid) (Ok (Some meta)) (merged_feed shown)
+    → FeedKeeps (merged_feed mid) (merged_feed shown)
+    → (IsTrue (merged_feed mid).told → ShowsItem (merged_feed mid) (Ok (Some meta)) (merged_feed shown))
+    → (IsTrue (merged_feed mid).told → run_of shown ≡ run_of mid)
+    → (IsTrue (merged_feed shown).told → BeginsAt clock (run_of shown))
+    → FeedKeeps (merged_feed shown) (merged_feed new) → FeedPasses (merged_feed shown) (merged_feed new)
+    → (IsTrue (merged_feed shown).told → run_of new ≡ drop 1 (run_of shown))
     → IsFew form_new → joiner_new.next ≤ place + 1
-    → ((events : List Event) → StandsFor joiner events
-    → StandsFor joiner_new (events_after place events clock meta lent))
-    → ((events : List Event) → StandsFor joiner events
+    → ((events : List Event) → JoinerStandsFor joiner events
+    → JoinerStandsFor joiner_new (events_after place events clock meta lent))
+    → ((events : List Event) → JoinerStandsFor joiner events
     → (form_new ≡ form_behind form (items_of_packet place events clock meta lent))
     × (form_stop form (items_of_packet place events clock meta lent) ≡ None))
-    → (IsTrue m.told → (events : List Event) → StandsFor joiner events
+    → (IsTrue m.told → (events : List Event) → JoinerStandsFor joiner events
     → to.held ≡ m.held ++ form_text order form (items_of_packet place events clock meta lent))
     → (IsTrue m.told → IsTrue to.told) → (IsTrue to.can_fail → IsTrue m.can_fail) → fn ≡ fm
     → Joining order old new form_old form_new joiner_new (place + 1) fo fn from to
@@ -99,17 +100,18 @@ Joining-more order old mid shown new form_old form form_new joiner joiner_new pl
     let after = events_after place events clock meta frame in
     let items = items_of_packet place events clock meta frame in
     let rest = joined_items (place + 1) after (run_of new) in
-    let split : IsTrue (feed_of mid).told → joined_items place events (run_of mid) ≡ items ++ rest =
+    let split : IsTrue (merged_feed mid).told → joined_items place events (run_of mid) ≡ items ++ rest =
     λ t. joined-first mid shown new meta frame clock place events ((shows t).1
-    ∙ ap (λ f. packet meta f ∷ drop 1 (feed_of mid).items) (sym lent)) (same t) (begins (asked.told t))
+    ∙ ap (λ f. packet meta f ∷ drop 1 (merged_feed mid).items) (sym lent)) (same t) (begins (asked.told t))
     (dropped (asked.told t)) in
     let name = named events p.stands in
     let both = behind order form items rest name.1 in
     record {
       limit = limit;
-      went = Went-more (feed_of old) (feed_of mid) (feed_of shown) (feed_of new) meta p.went gives asked passes passed;
-      ends = Ends-more (feed_of old) (feed_of mid) (feed_of shown)
-          (feed_of new) meta p.ends p.went.keeps asked shows passes;
+      went = Went-more (merged_feed old) (merged_feed mid) (merged_feed shown) (merged_feed new) meta p.went gives
+          asked passes passed;
+      ends = Ends-more (merged_feed old) (merged_feed mid) (merged_feed shown)
+          (merged_feed new) meta p.ends p.went.keeps asked shows passes;
       events = after;
       stands = stands events p.stands;
       next = next;
@@ -141,12 +143,12 @@ joined-refused (x ∷ xs) place events r e = grind (arith, joined-none)
 
 -- What a call for the next packet answers that tells none, it tells of what is to be written too.
 pub shows-fault : (fault : Fault) (mid : List Part) (shown : Feed) (place : ℕ) (events : List Event)
-    → ShowsItem (feed_of mid) (Err fault) shown
+    → ShowsItem (merged_feed mid) (Err fault) shown
     → ShowsItem (feeding mid place events) (Err fault) (feeding mid place events)
 shows-fault fault mid shown place events shows = grind (arith, joined-refused, items-of-run)
 
 pub shows-end : (mid : List Part) (shown : Feed) (place : ℕ) (events : List Event)
-    → ShowsItem (feed_of mid) (Ok None) shown
+    → ShowsItem (merged_feed mid) (Ok None) shown
     → ShowsItem (feeding mid place events) (Ok None) (feeding mid place events)
 shows-end mid shown place events shows = grind (arith, joined-none, items-of-run)
 
@@ -154,11 +156,12 @@ shows-end mid shown place events shows = grind (arith, joined-none, items-of-run
 pub Joining-part : (order : Order) (fault : Fault) (old mid shown : List Part) (form_old form : FormState)
     (joiner : JoinerState) (place : ℕ) (fo fm : Bool) (from m : Writer) (held : List ℕ)
     (meta : Meta) (lent : List ℕ) (clock : Option Stamp)
-    → lent ≡ (feed_of shown).frame
-    → Joining order old mid form_old form joiner place fo fm from m → IsTrue (feed_of old).told → IsTrue from.told
-    → (feed_of mid).items ≡ packet meta (feed_of shown).frame ∷ drop 1 (feed_of mid).items → run_of shown ≡ run_of mid
+    → lent ≡ (merged_feed shown).frame
+    → Joining order old mid form_old form joiner place fo fm from m → IsTrue (merged_feed old).told → IsTrue from.told
+    → (merged_feed mid).items ≡ packet meta (merged_feed shown).frame ∷ drop 1 (merged_feed mid).items
+    → run_of shown ≡ run_of mid
     → BeginsAt clock (run_of shown)
-    → ((events : List Event) → StandsFor joiner events
+    → ((events : List Event) → JoinerStandsFor joiner events
     → Prints {A = Unit {0}} (form_text order form (items_of_packet place events clock meta lent))
     (form_stop form (items_of_packet place events clock meta lent)) m.held (Err fault) held)
     → Prints {A = Unit {0}} (form_text order form_old (joined_items 0 [] (run_of old)))
@@ -170,7 +173,7 @@ Joining-part order fault old mid shown form_old form joiner place fo fm from m h
     (joined_items place p.events (run_of mid)) (items_of_packet place p.events clock meta frame)
     (joined_items (place + 1) (events_after place p.events clock meta frame) (drop 1 (run_of mid)))
     (joined-at-first mid shown meta frame clock place p.events (head
-    ∙ ap (λ f. packet meta f ∷ drop 1 (feed_of mid).items) (sym lent)) same begins)
+    ∙ ap (λ f. packet meta f ∷ drop 1 (merged_feed mid).items) (sym lent)) same begins)
     (p.walk.text t) w (p.walk.refusal_same t) (prints p.events p.stands)
 
 -- a place is small, if a run of few files has at most that many packets

@@ -17,7 +17,8 @@ use Rattle.cap_time.specs.declared.resolutions.Interface.{Interface}
 use Rattle.cap_time.specs.declared.stamps.Unit.{Unit as Fraction}
 use Rattle.cap_write.specs.inner.Interfaces.{HasUnits}
 use Rattle.cap_write.specs.Numbering.{refusal_at}
-use Rattle.cap_write.specs.Pcap.{fraction_of, units_fault, record_fault, packet_record, records_bytes, records_refusal}
+use Rattle.cap_write.specs.Pcap.{fraction_of, units_fault, written_record_fault, packet_record, records_bytes}
+use Rattle.cap_write.specs.Pcap.{records_refusal}
 use Rattle.cap_write.specs.Texts.{text_or}
 use Rattle.cap_write.specs.inner.Times.{HasTime, HasRecord}
 
@@ -28,21 +29,21 @@ fault_by units same fraction interface =
 -- a packet without a time
 pub HasRecord-untimed : (first : Interface) (meta : Meta) (fault : Fault) → HasUnits meta (Err fault)
     → HasRecord first meta (Err fault)
-unfolding record_fault
+unfolding written_record_fault
 HasRecord-untimed first meta fault h = grind arith
 
 -- a packet of another link
 pub HasRecord-mixed : (first : Interface) (meta : Meta) (units : ℕ) (fault : Fault) → meta.units ≡ Some units
     → (meta.interface.link ≡ first.link → ⊥)
     → fault ≡ Refused (refusal_at meta LinkMixed) → HasRecord first meta (Err fault)
-unfolding record_fault
+unfolding written_record_fault
 HasRecord-mixed first meta units fault is other told = grind arith
 
 -- a packet whose time is written, or isn't
 pub HasRecord-timed : (first : Interface) (meta : Meta) (units : ℕ) (result : Result RecordTime Fault)
     → meta.units ≡ Some units → meta.interface.link ≡ first.link
     → HasTime (fraction_of first) meta units result → HasRecord first meta result
-unfolding record_fault
+unfolding written_record_fault
 HasRecord-timed first meta units result is one h = grind arith
 
 -- what is to be written after that header
@@ -53,14 +54,16 @@ pub plan_of-is : (order : Order) (first : Interface) → IsPlan (plan_of order f
 unfolding records_bytes records_refusal
 plan_of-is order first = grind arith
 
-pub plan_of-next : (order : Order) (first : Interface) (meta : Meta) (frame : List ℕ) → record_fault first meta ≡ None
-    → GoesOn (plan_of order first) meta frame (text_or (record_fault first meta) (packet_record order first meta frame))
+pub plan_of-next : (order : Order) (first : Interface) (meta : Meta) (frame : List ℕ)
+    → written_record_fault first meta ≡ None
+    → GoesOn (plan_of order first) meta frame (text_or (written_record_fault first meta)
+    (packet_record order first meta frame))
     (plan_of order first)
 unfolding records_bytes records_refusal
 plan_of-next order first meta frame none = grind arith
 
 pub plan_of-refused : (order : Order) (first : Interface) (meta : Meta) (frame : List ℕ) (rule : Rule)
-    → record_fault first meta ≡ Some rule
+    → written_record_fault first meta ≡ Some rule
     → GivesUp (plan_of order first) meta frame (refusal_at meta rule)
 unfolding records_bytes records_refusal
 plan_of-refused order first meta frame rule is = grind arith

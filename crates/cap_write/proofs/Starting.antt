@@ -12,7 +12,7 @@ use Rattle.cap_source.proofs.Onward.{Goes-behind, Lasts-goes, Lasts-trans}
 use Rattle.cap_source.proofs.Walking.{Plan, Walking}
 use Rattle.cap_source.specs.ReadFaults.{FailsOf}
 use Rattle.std.proofs.lemmas.Bool.Decides.{nat_tests}
-use Rattle.cap_source.specs.Feed.{Feed, HasFile, Keeps, Knows, GivesHead, IsFeed, IfPacket, IsPacket, IsPacketOf}
+use Rattle.cap_source.specs.Feed.{Feed, HasFile, FeedKeeps, Knows, GivesHead, IsFeed, IfPacket, IsPacket, IsPacketOf}
 use Rattle.cap_source.specs.Feed.{SameItems}
 use Rattle.cap_source.specs.inner.Growing.{OfMemory, IfMemory}
 use Rattle.cap_source.specs.inner.Walk.{GivesPacket, SameEndings, Walks}
@@ -125,7 +125,7 @@ memory-wider (Err fault) P Q f h = memory-more fault P Q f h
 
 -- a walk after what comes first was asked for
 pub Walks-first : {A : Type 0} (old mid new : Feed) (head : Head) (result : Result A Fault) → Knows old head mid
-    → Keeps old mid → Walks mid result new
+    → FeedKeeps old mid → Walks mid result new
     → Walks old result new
 Walks-first old mid new head (Ok x) k keeps w = (w.0, Goes-behind old mid new (Lasts-goes old mid k.goes) w.1)
 Walks-first old mid new head (Err (Refused refusal)) k keeps w = Goes-behind old mid new (Lasts-goes old mid k.goes) w
@@ -142,7 +142,7 @@ Walks-first old mid new head (Err Write) k keeps w = Lasts-trans old mid new (La
 Walks-first old mid new head (Err Memory) k keeps w = Lasts-trans old mid new (Lasts-goes old mid k.goes) w
 
 -- how the files end stays told, after what comes first was asked for
-pub Ends-first : {A : Type 0} (old mid new : Feed) (result : Result A Fault) → Keeps old mid
+pub Ends-first : {A : Type 0} (old mid new : Feed) (result : Result A Fault) → FeedKeeps old mid
     → (IsTrue old.told → SameItems old mid)
     → OnOk result (IsTrue mid.told → SameEndings mid new) → OnOk result (IsTrue old.told → SameEndings old new)
 Ends-first old mid new (Ok x) keeps same ends = λ t file. ends (keeps.told t) file ∙ (same t).endings file

@@ -6,17 +6,17 @@ use Rattle.cap_bytes.specs.declared.numbers.Order.{Order}
 use Rattle.cap_ip.specs.Header.{HeaderFields}
 use Rattle.cap_ip.specs.Read.{Reading, found, bad, cut, read_of}
 use Rattle.cap_ip.specs.Transport.{transport_of}
-use Rattle.cap_ip.specs.Written.{header_bytes}
+use Rattle.cap_ip.specs.Written.{ipv4_header_bytes}
 use Rattle.cap_ip.specs.declared.headers.Fragment.{Fragment}
 use Rattle.cap_ip.specs.declared.transports.Transport.{Transport}
 use Rattle.cap_ip.specs.declared.transports.Transport.TheVariants as transports
-use Rattle.cap_join.specs.Arrivals.{events_with}
-use Rattle.cap_join.specs.ByteMap.{completes, header_of, data_of}
+use Rattle.cap_join.specs.Arrivals.{events_with_reading}
+use Rattle.cap_join.specs.ByteMap.{completes, joined_header, joined_data}
 use Rattle.cap_join.specs.Fragments.{Piece, piece_of}
-use Rattle.cap_join.specs.History.{Event, joined_pieces, state_of}
+use Rattle.cap_join.specs.History.{Event, joined_pieces, open_groups_after}
 use Rattle.cap_join.specs.Joiners.{open_limit}
 use Rattle.cap_join.specs.declared.datagrams.Stamped.{Stamped}
-use Rattle.cap_link.specs.Links.{network_of, is_whole}
+use Rattle.cap_link.specs.Links.{network_of, is_captured_whole}
 use Rattle.cap_link.specs.Seen.{Carried, ipv4, other_link, not_ipv4, short, cut as ends}
 use Rattle.cap_source.specs.Times.{meta_time}
 use Rattle.cap_merge.specs.Run.{Clocked}
@@ -33,7 +33,7 @@ pub record Complete : Type 0 where
 
 -- a datagram as one packet
 abbrev pub datagram_bytes : Complete → List ℕ
-datagram_bytes d = header_bytes d.header (length d.bytes) ++ d.bytes
+datagram_bytes d = ipv4_header_bytes d.header (length d.bytes) ++ d.bytes
 
 -- its data has the form of its protocol, as far as its ports
 abbrev pub has_form : Transport → Bool
@@ -52,8 +52,8 @@ complete_of header captured size =
 -- the datagram that some fragments make, once they complete it: the header is that of the latest that begins at 0
 unfoldable pub joined_of : List Piece → Option Complete
 joined_of pieces =
-    if completes pieces then option_and_then (λ h. complete_of h (data_of pieces) (length (data_of pieces)))
-    (header_of pieces) else None
+    if completes pieces then option_and_then (λ h. complete_of h (joined_data pieces) (length (joined_data pieces)))
+    (joined_header pieces) else None
 
 -- The datagram that a packet completes, of which that was read, if `group` has the fragments of a fragment's group: the
 -- packet is a whole datagram, or the last fragment that was missing.
@@ -76,7 +76,7 @@ datagram_at ends whole stamped group = None
 
 -- the same at a clock, after some events at a joiner
 abbrev pub group_after : Option Stamp → List Event → Piece → List Piece
-group_after clock events p = joined_pieces clock p (state_of open_limit events)
+group_after clock events p = joined_pieces clock p (open_groups_after open_limit events)
 
 abbrev pub completed_by : Option Fragment → HeaderFields → List ℕ → Option Stamp → Stamped → List Event
     → Option Complete
@@ -91,7 +91,7 @@ completed_at carried whole clock stamped events = datagram_at carried whole stam
 
 -- and the events after it, the latest first
 abbrev pub events_at : Carried → Bool → Option Stamp → Stamped → List Event → List Event
-events_at (ipv4 bytes) whole clock stamped events = events_with (read_of bytes whole) clock stamped events
+events_at (ipv4 bytes) whole clock stamped events = events_with_reading (read_of bytes whole) clock stamped events
 events_at other_link whole clock stamped events = events
 events_at not_ipv4 whole clock stamped events = events
 events_at short whole clock stamped events = events
@@ -104,12 +104,12 @@ stamped_of place meta = record { time = meta_time meta; place = place; original 
 -- the datagram that a packet completes, which has that place in the run and that clock
 unfoldable pub completed : ℕ → List Event → Option Stamp → Meta → List ℕ → Option Complete
 completed place events clock meta frame =
-    completed_at (network_of meta.interface.link frame meta.original) (is_whole frame meta.original) clock
+    completed_at (network_of meta.interface.link frame meta.original) (is_captured_whole frame meta.original) clock
     (stamped_of place meta) events
 
 unfoldable pub events_after : ℕ → List Event → Option Stamp → Meta → List ℕ → List Event
 events_after place events clock meta frame =
-    events_at (network_of meta.interface.link frame meta.original) (is_whole frame meta.original) clock
+    events_at (network_of meta.interface.link frame meta.original) (is_captured_whole frame meta.original) clock
     (stamped_of place meta) events
 
 -- the interface of a written datagram: no link header (LINKTYPE_RAW, 101) and no limit; times as at the packet's own
@@ -136,11 +136,11 @@ datagram_items meta (Some d) = datagram_item meta d ∷ []
 
 -- What is to be written of a packet: the datagram that it completes, if it does. A packet without a time stands for
 -- itself, so that its writing is refused.
-abbrev pub items_with : Meta → List ℕ → Option Complete → List Item
-items_with meta frame d = if is_some meta.units then datagram_items meta d else packet meta frame ∷ []
+abbrev pub items_with_datagram : Meta → List ℕ → Option Complete → List Item
+items_with_datagram meta frame d = if is_some meta.units then datagram_items meta d else packet meta frame ∷ []
 
 unfoldable pub items_of_packet : ℕ → List Event → Option Stamp → Meta → List ℕ → List Item
-items_of_packet place events clock meta frame = items_with meta frame (completed place events clock meta frame)
+items_of_packet place events clock meta frame = items_with_datagram meta frame (completed place events clock meta frame)
 
 -- what is to be written of an item of that clock, and the events after it
 abbrev pub items_here : ℕ → List Event → Option Stamp → Item → List Item

@@ -47,19 +47,19 @@ units_fault fraction interface (Some units) = time_fault (whole_time fraction in
 
 -- Why a packet isn't written after a header of that link and fraction: it has no time, it has another
 -- link, or its time isn't written.
-unfoldable pub record_fault : Interface → Meta → Option Rule
-record_fault first meta =
+unfoldable pub written_record_fault : Interface → Meta → Option Rule
+written_record_fault first meta =
     if is_none meta.units then Some NoTime else
     if not (meta.interface.link == first.link) then Some LinkMixed else
     units_fault (fraction_of first) meta.interface meta.units
 
 -- the time that is written of a packet after a header of that fraction, if it is whole in it
-abbrev pub time_in : Fraction → Interface → Option ℕ → Option (ℤ × ℕ)
-time_in fraction interface None = None
-time_in fraction interface (Some units) = whole_time fraction interface units
+abbrev pub whole_time_in : Fraction → Interface → Option ℕ → Option (ℤ × ℕ)
+whole_time_in fraction interface None = None
+whole_time_in fraction interface (Some units) = whole_time fraction interface units
 
 abbrev pub written_time : Interface → Meta → Option (ℤ × ℕ)
-written_time first meta = time_in (fraction_of first) meta.interface meta.units
+written_time first meta = whole_time_in (fraction_of first) meta.interface meta.units
 
 -- what is written for it (draft-ietf-opsawg-pcap, 5).
 abbrev pub time_bytes : Order → Option (ℤ × ℕ) → ℕ → List ℕ → List ℕ
@@ -73,13 +73,13 @@ packet_record order first meta frame = time_bytes order (written_time first meta
 unfoldable pub records_bytes : Order → Interface → List Item → List ℕ
 records_bytes order first [] = []
 records_bytes order first (packet meta frame ∷ items) =
-    text_or (record_fault first meta) (packet_record order first meta frame ++ records_bytes order first items)
+    text_or (written_record_fault first meta) (packet_record order first meta frame ++ records_bytes order first items)
 records_bytes order first (refused refusal ∷ items) = []
 
 unfoldable pub records_refusal : Interface → List Item → Option Refusal
 records_refusal first [] = None
 records_refusal first (packet meta frame ∷ items) =
-    refusal_or (record_fault first meta) meta (records_refusal first items)
+    refusal_or (written_record_fault first meta) meta (records_refusal first items)
 records_refusal first (refused refusal ∷ items) = Some refusal
 
 -- the refusal of a file that describes no interface: its own, or that it describes none

@@ -2,11 +2,11 @@
 ghost use Rattle.std.specs.Prelude.{◌≡◌, ◌+◌, ◌≤◌, ◌<◌, ◌++◌, ◌==◌, ◌&&◌, length, List, IsTrue, IsOkUnless, IfOk, OnOk};
 ghost use Rattle.cap_ip.specs.Read.{read_of};
 ghost use Rattle.cap_ip.specs.Transport.{transport_of};
-ghost use Rattle.cap_ip.specs.Written.{header_bytes};
-ghost use Rattle.cap_join.specs.Arrivals.{events_with};
+ghost use Rattle.cap_ip.specs.Written.{ipv4_header_bytes};
+ghost use Rattle.cap_join.specs.Arrivals.{events_with_reading};
 ghost use Rattle.cap_join.specs.History.{Event};
-ghost use Rattle.cap_join.specs.Joiners.{StandsFor};
-ghost use Rattle.cap_write.specs.inner.Datagrams.{IsFilled, IsShort, Stands, answered};
+ghost use Rattle.cap_join.specs.Joiners.{JoinerStandsFor};
+ghost use Rattle.cap_write.specs.inner.Datagrams.{IsFilled, IsShort, JoinerStands, answered_datagram};
 ghost use Rattle.cap_write.specs.inner.PlacedPackets.{stamped_in, whole_in};
 ghost use Rattle.cap_write.specs.Joined.{has_form, complete_of, completed_in, completed, events_after};
 
@@ -32,7 +32,7 @@ fn append(packet: &mut Vec<u8>, bytes: &[u8]) -> Result<(), Fault>
 // Puts a datagram into an empty packet.
 fn fill(packet: &mut Vec<u8>, header: &Header, bytes: &[u8]) -> Result<(), Fault>
     requires short { length bytes.now ≤ 65515 }
-    ensures items { OnOk result (packet.new.items ≡ header_bytes header.now (length bytes.now) ++ bytes.now) }
+    ensures items { OnOk result (packet.new.items ≡ ipv4_header_bytes header.now (length bytes.now) ++ bytes.now) }
     ensures short { OnOk result (length packet.new.items ≤ 65535) }
     ensures fault { IsOkUnless result Fault.Memory }
 {
@@ -84,7 +84,7 @@ fn fill_complete(
 // Puts the datagram that a joiner answered into the packet, if it is complete.
 fn fill_answered(packet: &mut Vec<u8>, arrived: Arrived<'_>) -> Result<bool, Fault>
     requires short { IsShort arrived }
-    ensures filled { IfOk result (λ some. IsFilled (answered arrived.entry) some packet.new.items) }
+    ensures filled { IfOk result (λ some. IsFilled (answered_datagram arrived.entry) some packet.new.items) }
     ensures short { IfOk result (λ some. IsTrue some → length packet.new.items ≤ 65535) }
     ensures fault { IsOkUnless result Fault.Memory }
 {
@@ -116,13 +116,13 @@ fn stamped_of(run: &PlacedPacket<'_>) -> Stamped
 // Takes the IPv4 packet that a packet of a run carries, and puts the datagram that it completes, if it does, into the
 // room.
 fn take_ipv4(joining: &mut Joining, run: &PlacedPacket<'_>, bytes: &[u8]) -> Result<bool, Fault>
-    requires stands { Stands joining.old.joiner }
+    requires stands { JoinerStands joining.old.joiner }
     requires place { joining.old.joiner.next ≤ run.now.place }
-    ensures filled { IfOk result (λ some. (events : List Event) → StandsFor joining.old.joiner events →
+    ensures filled { IfOk result (λ some. (events : List Event) → JoinerStandsFor joining.old.joiner events →
         IsFilled (completed_in (read_of bytes.now (whole_in run.now)) run.now.clock (stamped_in run.now) events) some
         joining.new.packet.items) }
-    ensures stands { OnOk result ((events : List Event) → StandsFor joining.old.joiner events →
-        StandsFor joining.new.joiner (events_with (read_of bytes.now (whole_in run.now)) run.now.clock
+    ensures stands { OnOk result ((events : List Event) → JoinerStandsFor joining.old.joiner events →
+        JoinerStandsFor joining.new.joiner (events_with_reading (read_of bytes.now (whole_in run.now)) run.now.clock
         (stamped_in run.now) events)) }
     ensures next { OnOk result (joining.new.joiner.next ≤ run.now.place + 1) }
     ensures short { IfOk result (λ some. IsTrue some → length joining.new.packet.items ≤ 65535) }
@@ -143,13 +143,13 @@ fn take_ipv4(joining: &mut Joining, run: &PlacedPacket<'_>, bytes: &[u8]) -> Res
 /// the form of its protocol. `Memory` comes if a growth was refused.
 #[tactic(auto, unfolding(crate::specs::Joined::completed, crate::specs::Joined::events_after))]
 pub(crate) fn take_packet(joining: &mut Joining, run: &PlacedPacket<'_>) -> Result<bool, Fault>
-    requires stands { Stands joining.old.joiner }
+    requires stands { JoinerStands joining.old.joiner }
     requires place { joining.old.joiner.next ≤ run.now.place }
-    ensures filled { IfOk result (λ some. (events : List Event) → StandsFor joining.old.joiner events →
+    ensures filled { IfOk result (λ some. (events : List Event) → JoinerStandsFor joining.old.joiner events →
         IsFilled (completed run.now.place events run.now.clock run.now.meta.now run.now.frame.now) some
         joining.new.packet.items) }
-    ensures stands { OnOk result ((events : List Event) → StandsFor joining.old.joiner events →
-        StandsFor joining.new.joiner
+    ensures stands { OnOk result ((events : List Event) → JoinerStandsFor joining.old.joiner events →
+        JoinerStandsFor joining.new.joiner
         (events_after run.now.place events run.now.clock run.now.meta.now run.now.frame.now)) }
     ensures next { OnOk result (joining.new.joiner.next ≤ run.now.place + 1) }
     ensures short { IfOk result (λ some. IsTrue some → length joining.new.packet.items ≤ 65535) }

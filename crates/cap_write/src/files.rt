@@ -4,10 +4,10 @@ ghost use Rattle.cap_bytes.specs.Device.{WriterKeeps, writer_of};
 ghost use Rattle.cap_bytes.specs.Printing.{Prints, is_write};
 ghost use Rattle.cap_write.specs.Pcap.{pcap_bytes, pcap_refusal};
 ghost use Rattle.cap_write.specs.Texts.{pcapng_bytes, pcapng_refusal};
-ghost use Rattle.cap_source.specs.Feed.{Keeps};
+ghost use Rattle.cap_source.specs.Feed.{FeedKeeps};
 ghost use Rattle.cap_source.specs.inner.Walk.{Walks, SameEndings};
 ghost use Rattle.cap_source.specs.inner.Growing.{IfMemory, IsAtPacket};
-ghost use Rattle.cap_source.specs.inner.Captures.{feed_of, number_of, first_of};
+ghost use Rattle.cap_source.specs.inner.Captures.{capture_feed, capture_number, capture_first};
 
 use crate::interfaces::FileStart;
 use crate::pcap::put_pcap;
@@ -28,17 +28,18 @@ pub fn to_pcapng<R: Source, W: Sink>(
     order: Order,
     writer: &mut W,
 ) -> Result<(), Fault>
-    ensures text { IsTrue (feed_of capture.old).told → IsTrue (W.tells_held writer.old)
-        → Prints (pcapng_bytes order (number_of capture.old) (first_of capture.old) (feed_of capture.old).items)
-        (pcapng_refusal (number_of capture.old) (first_of capture.old) (feed_of capture.old).items)
+    ensures text { IsTrue (capture_feed capture.old).told → IsTrue (W.tells_held writer.old)
+        → Prints (pcapng_bytes order (capture_number capture.old) (capture_first capture.old)
+        (capture_feed capture.old).items)
+        (pcapng_refusal (capture_number capture.old) (capture_first capture.old) (capture_feed capture.old).items)
         (W.held writer.old) result (W.held writer.new) }
     ensures writer { WriterKeeps (writer_of W.Sink writer.old) (is_write result) (writer_of W.Sink writer.new) }
-    ensures walks { Walks (feed_of capture.old) result (feed_of capture.new) }
-    ensures endings { OnOk result (IsTrue (feed_of capture.old).told
-        → SameEndings (feed_of capture.old) (feed_of capture.new)) }
-    ensures memory { IfMemory result (IsAtPacket (feed_of capture.new).known
-        ⊎ (IsTrue (feed_of capture.old).told → IsSome (first_of capture.old))) }
-    ensures keeps { Keeps (feed_of capture.old) (feed_of capture.new) }
+    ensures walks { Walks (capture_feed capture.old) result (capture_feed capture.new) }
+    ensures endings { OnOk result (IsTrue (capture_feed capture.old).told
+        → SameEndings (capture_feed capture.old) (capture_feed capture.new)) }
+    ensures memory { IfMemory result (IsAtPacket (capture_feed capture.new).known
+        ⊎ (IsTrue (capture_feed capture.old).told → IsSome (capture_first capture.old))) }
+    ensures keeps { FeedKeeps (capture_feed capture.old) (capture_feed capture.new) }
 {
     let file = capture.file();
     let first = capture.first()?;
@@ -58,16 +59,16 @@ pub fn to_pcap<R: Source, W: Sink>(
     order: Order,
     writer: &mut W,
 ) -> Result<(), Fault>
-    ensures text { IsTrue (feed_of capture.old).told → IsTrue (W.tells_held writer.old)
-        → Prints (pcap_bytes order (first_of capture.old) (feed_of capture.old).items)
-        (pcap_refusal (number_of capture.old) (first_of capture.old) (feed_of capture.old).items)
+    ensures text { IsTrue (capture_feed capture.old).told → IsTrue (W.tells_held writer.old)
+        → Prints (pcap_bytes order (capture_first capture.old) (capture_feed capture.old).items)
+        (pcap_refusal (capture_number capture.old) (capture_first capture.old) (capture_feed capture.old).items)
         (W.held writer.old) result (W.held writer.new) }
     ensures writer { WriterKeeps (writer_of W.Sink writer.old) (is_write result) (writer_of W.Sink writer.new) }
-    ensures walks { Walks (feed_of capture.old) result (feed_of capture.new) }
-    ensures endings { OnOk result (IsTrue (feed_of capture.old).told
-        → SameEndings (feed_of capture.old) (feed_of capture.new)) }
-    ensures memory { IfMemory result ((feed_of capture.new).known ≡ None) }
-    ensures keeps { Keeps (feed_of capture.old) (feed_of capture.new) }
+    ensures walks { Walks (capture_feed capture.old) result (capture_feed capture.new) }
+    ensures endings { OnOk result (IsTrue (capture_feed capture.old).told
+        → SameEndings (capture_feed capture.old) (capture_feed capture.new)) }
+    ensures memory { IfMemory result ((capture_feed capture.new).known ≡ None) }
+    ensures keeps { FeedKeeps (capture_feed capture.old) (capture_feed capture.new) }
 {
     let file = capture.file();
     let first = capture.first()?;

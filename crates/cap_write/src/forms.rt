@@ -1,9 +1,9 @@
 //! Packets that are written one by one in one of the formats.
 ghost use Rattle.std.specs.Prelude.{◌≡◌, ◌≤◌, length, [], ◌∷◌, IsTrue, OnOk, None};
 ghost use Rattle.cap_bytes.specs.Device.{WriterKeeps, writer_of};
-ghost use Rattle.cap_bytes.specs.Printing.{Prints, IsRead, is_write};
+ghost use Rattle.cap_bytes.specs.Printing.{Prints, IsReadFault, is_write};
 ghost use Rattle.cap_source.specs.Feed.{packet};
-ghost use Rattle.cap_write.specs.inner.Forms.{EndsForm, IsFew, form_after, form_stop, form_text, headed, state_of};
+ghost use Rattle.cap_write.specs.inner.Forms.{EndsForm, IsFew, form_after, form_stop, form_text, headed, form_state};
 ghost use Rattle.cap_write.specs.PcapRun.{run_bytes, run_refusal};
 
 use crate::interfaces::{Origins, units_of};
@@ -36,7 +36,7 @@ fn put_leading<W: Sink>(
         (W.held writer.old) result (W.held writer.new) }
     ensures whole { OnOk result (run_refusal (packet meta.now frame.now ∷ []) ≡ None) }
     ensures writer { WriterKeeps (writer_of W.Sink writer.old) (is_write result) (writer_of W.Sink writer.new) }
-    ensures read { IsRead result → ⊥ }
+    ensures read { IsReadFault result → ⊥ }
 {
     units_of(meta)?;
     put_header(writer, &header_of(order, &meta.interface))?;
@@ -59,7 +59,7 @@ fn put_headed<W: Sink>(
     ensures form { OnOk result ((headed first.new ≡ form_after (headed first.old) meta.now)
         × (form_stop (headed first.old) (packet meta.now frame.now ∷ []) ≡ None)) }
     ensures writer { WriterKeeps (writer_of W.Sink writer.old) (is_write result) (writer_of W.Sink writer.new) }
-    ensures read { IsRead result → ⊥ }
+    ensures read { IsReadFault result → ⊥ }
 {
     if let Some(header) = *first {
         return put_after_header(&header, order, meta, frame, writer);
@@ -78,16 +78,16 @@ pub(crate) fn put_in<W: Sink>(
     writer: &mut W,
 ) -> Result<(), Fault>
     requires captured { length frame.now ≤ 262144 }
-    requires limit { IsFew (state_of form.old) }
+    requires limit { IsFew (form_state form.old) }
     ensures text { IsTrue (W.tells_held writer.old)
-        → Prints (form_text order (state_of form.old) (packet meta.now frame.now ∷ []))
-        (form_stop (state_of form.old) (packet meta.now frame.now ∷ []))
+        → Prints (form_text order (form_state form.old) (packet meta.now frame.now ∷ []))
+        (form_stop (form_state form.old) (packet meta.now frame.now ∷ []))
         (W.held writer.old) result (W.held writer.new) }
-    ensures form { OnOk result ((state_of form.new ≡ form_after (state_of form.old) meta.now)
-        × (form_stop (state_of form.old) (packet meta.now frame.now ∷ []) ≡ None)) }
-    ensures limit { IsFew (state_of form.new) }
+    ensures form { OnOk result ((form_state form.new ≡ form_after (form_state form.old) meta.now)
+        × (form_stop (form_state form.old) (packet meta.now frame.now ∷ []) ≡ None)) }
+    ensures limit { IsFew (form_state form.new) }
     ensures writer { WriterKeeps (writer_of W.Sink writer.old) (is_write result) (writer_of W.Sink writer.new) }
-    ensures read { IsRead result → ⊥ }
+    ensures read { IsReadFault result → ⊥ }
 {
     match form {
         Form::Pcapng(origins) => put_one(origins, order, meta, frame, writer),
@@ -97,7 +97,7 @@ pub(crate) fn put_in<W: Sink>(
 
 /// The answer at the end of the packets: a pcap file without a header is refused by rule 21, no-interface, of file 1.
 pub(crate) fn end_of(form: &Form) -> Result<(), Fault>
-    ensures { EndsForm (state_of form.now) result }
+    ensures { EndsForm (form_state form.now) result }
 {
     match form {
         Form::Pcapng(_) => Ok(()),

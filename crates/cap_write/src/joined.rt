@@ -1,19 +1,19 @@
 //! Files of whole datagrams.
 ghost use Rattle.std.specs.Prelude.{◌≡◌, ◌+◌, ◌≤◌, ◌<◌, ◌^◌, length, List, [], IsSome, IsTrue, OnOk, None};
 ghost use Rattle.cap_bytes.specs.Device.{WriterKeeps, writer_of};
-ghost use Rattle.cap_bytes.specs.Printing.{Prints, IsRead, is_write};
+ghost use Rattle.cap_bytes.specs.Printing.{Prints, IsReadFault, is_write};
 ghost use Rattle.cap_join.specs.History.{Event};
-ghost use Rattle.cap_join.specs.Joiners.{StandsFor};
-ghost use Rattle.cap_merge.specs.Parts.{feed_of, run_of};
+ghost use Rattle.cap_join.specs.Joiners.{JoinerStandsFor};
+ghost use Rattle.cap_merge.specs.Parts.{merged_feed, run_of};
 ghost use Rattle.cap_merge.specs.inner.View.{parts_of};
-ghost use Rattle.cap_source.specs.Feed.{Keeps};
+ghost use Rattle.cap_source.specs.Feed.{FeedKeeps};
 ghost use Rattle.cap_source.specs.inner.Walk.{Walks, SameEndings};
 ghost use Rattle.cap_source.specs.inner.Growing.{IfMemory, IsAtPacket};
-ghost use Rattle.cap_write.specs.inner.Datagrams.{Stands};
-ghost use Rattle.cap_write.specs.inner.Forms.{IsFew, form_behind, form_refusal, form_stop, form_text, state_of};
+ghost use Rattle.cap_write.specs.inner.Datagrams.{JoinerStands};
+ghost use Rattle.cap_write.specs.inner.Forms.{IsFew, form_behind, form_refusal, form_stop, form_text, form_state};
 ghost use Rattle.cap_write.specs.Joined.{datagram_meta, events_after, joined_items, joined_bytes, joined_refusal};
 ghost use Rattle.cap_write.specs.PcapRun.{joined_pcap_bytes, joined_pcap_refusal};
-ghost use Rattle.cap_write.specs.inner.PlacedPackets.{items_in};
+ghost use Rattle.cap_write.specs.inner.PlacedPackets.{items_of_placed};
 
 use crate::datagrams::take_packet;
 use crate::forms::{Form, end_of, put_in};
@@ -60,23 +60,23 @@ fn put_completed<W: Sink>(
     run: &PlacedPacket<'_>,
     writer: &mut W,
 ) -> Result<(), Fault>
-    requires limit { IsFew (state_of form.old) }
-    requires stands { Stands joining.old.joiner }
+    requires limit { IsFew (form_state form.old) }
+    requires stands { JoinerStands joining.old.joiner }
     requires place { joining.old.joiner.next ≤ run.now.place }
-    ensures text { IsTrue (W.tells_held writer.old) → (events : List Event) → StandsFor joining.old.joiner events
-        → Prints (form_text order (state_of form.old) (items_in run.now events))
-        (form_stop (state_of form.old) (items_in run.now events))
+    ensures text { IsTrue (W.tells_held writer.old) → (events : List Event) → JoinerStandsFor joining.old.joiner events
+        → Prints (form_text order (form_state form.old) (items_of_placed run.now events))
+        (form_stop (form_state form.old) (items_of_placed run.now events))
         (W.held writer.old) result (W.held writer.new) }
-    ensures form { OnOk result ((events : List Event) → StandsFor joining.old.joiner events
-        → (state_of form.new ≡ form_behind (state_of form.old) (items_in run.now events))
-        × (form_stop (state_of form.old) (items_in run.now events) ≡ None)) }
-    ensures stands { OnOk result ((events : List Event) → StandsFor joining.old.joiner events
-        → StandsFor joining.new.joiner
+    ensures form { OnOk result ((events : List Event) → JoinerStandsFor joining.old.joiner events
+        → (form_state form.new ≡ form_behind (form_state form.old) (items_of_placed run.now events))
+        × (form_stop (form_state form.old) (items_of_placed run.now events) ≡ None)) }
+    ensures stands { OnOk result ((events : List Event) → JoinerStandsFor joining.old.joiner events
+        → JoinerStandsFor joining.new.joiner
         (events_after run.now.place events run.now.clock run.now.meta.now run.now.frame.now)) }
     ensures next { OnOk result (joining.new.joiner.next ≤ run.now.place + 1) }
-    ensures limit { IsFew (state_of form.new) }
+    ensures limit { IsFew (form_state form.new) }
     ensures writer { WriterKeeps (writer_of W.Sink writer.old) (is_write result) (writer_of W.Sink writer.new) }
-    ensures read { IsRead result → ⊥ }
+    ensures read { IsReadFault result → ⊥ }
     ensures memory { IfMemory result (IsSome run.now.meta.now.units) }
 {
     units_of(run.meta)?;
@@ -96,17 +96,17 @@ fn put_joined<F: PacketFeed, W: Sink>(
     form: &mut Form,
     writer: &mut W,
 ) -> Result<(), Fault>
-    requires limit { IsFew (state_of form.old) }
-    ensures text { IsTrue (feed_of (parts_of merged.old)).told → IsTrue (W.tells_held writer.old)
-        → Prints (form_text order (state_of form.old) (joined_items 0 [] (run_of (parts_of merged.old))))
-        (form_refusal (state_of form.old) (joined_items 0 [] (run_of (parts_of merged.old))))
+    requires limit { IsFew (form_state form.old) }
+    ensures text { IsTrue (merged_feed (parts_of merged.old)).told → IsTrue (W.tells_held writer.old)
+        → Prints (form_text order (form_state form.old) (joined_items 0 [] (run_of (parts_of merged.old))))
+        (form_refusal (form_state form.old) (joined_items 0 [] (run_of (parts_of merged.old))))
         (W.held writer.old) result (W.held writer.new) }
     ensures writer { WriterKeeps (writer_of W.Sink writer.old) (is_write result) (writer_of W.Sink writer.new) }
-    ensures walks { Walks (feed_of (parts_of merged.old)) result (feed_of (parts_of merged.new)) }
-    ensures endings { OnOk result (IsTrue (feed_of (parts_of merged.old)).told
-        → SameEndings (feed_of (parts_of merged.old)) (feed_of (parts_of merged.new))) }
-    ensures memory { IfMemory result (IsAtPacket (feed_of (parts_of merged.new)).known) }
-    ensures keeps { Keeps (feed_of (parts_of merged.old)) (feed_of (parts_of merged.new)) }
+    ensures walks { Walks (merged_feed (parts_of merged.old)) result (merged_feed (parts_of merged.new)) }
+    ensures endings { OnOk result (IsTrue (merged_feed (parts_of merged.old)).told
+        → SameEndings (merged_feed (parts_of merged.old)) (merged_feed (parts_of merged.new))) }
+    ensures memory { IfMemory result (IsAtPacket (merged_feed (parts_of merged.new)).known) }
+    ensures keeps { FeedKeeps (merged_feed (parts_of merged.old)) (merged_feed (parts_of merged.new)) }
 {
     let mut joining = Joining {
         joiner: Joiner::new(alloc),
@@ -146,15 +146,15 @@ pub fn write_joined<F: PacketFeed, W: Sink>(
     order: Order,
     writer: &mut W,
 ) -> Result<(), Fault>
-    ensures text { IsTrue (feed_of (parts_of merged.old)).told → IsTrue (W.tells_held writer.old)
+    ensures text { IsTrue (merged_feed (parts_of merged.old)).told → IsTrue (W.tells_held writer.old)
         → Prints (joined_bytes order (run_of (parts_of merged.old))) (joined_refusal (run_of (parts_of merged.old)))
         (W.held writer.old) result (W.held writer.new) }
     ensures writer { WriterKeeps (writer_of W.Sink writer.old) (is_write result) (writer_of W.Sink writer.new) }
-    ensures walks { Walks (feed_of (parts_of merged.old)) result (feed_of (parts_of merged.new)) }
-    ensures endings { OnOk result (IsTrue (feed_of (parts_of merged.old)).told
-        → SameEndings (feed_of (parts_of merged.old)) (feed_of (parts_of merged.new))) }
-    ensures memory { IfMemory result (IsAtPacket (feed_of (parts_of merged.new)).known) }
-    ensures keeps { Keeps (feed_of (parts_of merged.old)) (feed_of (parts_of merged.new)) }
+    ensures walks { Walks (merged_feed (parts_of merged.old)) result (merged_feed (parts_of merged.new)) }
+    ensures endings { OnOk result (IsTrue (merged_feed (parts_of merged.old)).told
+        → SameEndings (merged_feed (parts_of merged.old)) (merged_feed (parts_of merged.new))) }
+    ensures memory { IfMemory result (IsAtPacket (merged_feed (parts_of merged.new)).known) }
+    ensures keeps { FeedKeeps (merged_feed (parts_of merged.old)) (merged_feed (parts_of merged.new)) }
 {
     put_section(writer, order)?;
     let mut numbered = Form::Pcapng(Origins::new(alloc));
@@ -177,16 +177,16 @@ pub fn write_joined_pcap<F: PacketFeed, W: Sink>(
     order: Order,
     writer: &mut W,
 ) -> Result<(), Fault>
-    ensures text { IsTrue (feed_of (parts_of merged.old)).told → IsTrue (W.tells_held writer.old)
+    ensures text { IsTrue (merged_feed (parts_of merged.old)).told → IsTrue (W.tells_held writer.old)
         → Prints (joined_pcap_bytes order (run_of (parts_of merged.old)))
         (joined_pcap_refusal (run_of (parts_of merged.old)))
         (W.held writer.old) result (W.held writer.new) }
     ensures writer { WriterKeeps (writer_of W.Sink writer.old) (is_write result) (writer_of W.Sink writer.new) }
-    ensures walks { Walks (feed_of (parts_of merged.old)) result (feed_of (parts_of merged.new)) }
-    ensures endings { OnOk result (IsTrue (feed_of (parts_of merged.old)).told
-        → SameEndings (feed_of (parts_of merged.old)) (feed_of (parts_of merged.new))) }
-    ensures memory { IfMemory result (IsAtPacket (feed_of (parts_of merged.new)).known) }
-    ensures keeps { Keeps (feed_of (parts_of merged.old)) (feed_of (parts_of merged.new)) }
+    ensures walks { Walks (merged_feed (parts_of merged.old)) result (merged_feed (parts_of merged.new)) }
+    ensures endings { OnOk result (IsTrue (merged_feed (parts_of merged.old)).told
+        → SameEndings (merged_feed (parts_of merged.old)) (merged_feed (parts_of merged.new))) }
+    ensures memory { IfMemory result (IsAtPacket (merged_feed (parts_of merged.new)).known) }
+    ensures keeps { FeedKeeps (merged_feed (parts_of merged.old)) (merged_feed (parts_of merged.new)) }
 {
     let mut headed = Form::Pcap(None);
     put_joined(alloc, merged, order, &mut headed, writer)

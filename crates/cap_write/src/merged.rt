@@ -2,7 +2,7 @@
 ghost use Rattle.std.specs.Prelude.{◌≡◌, IsTrue, OnOk, None};
 ghost use Rattle.cap_bytes.specs.Device.{WriterKeeps, writer_of};
 ghost use Rattle.cap_bytes.specs.Printing.{Prints, is_write};
-ghost use Rattle.cap_source.specs.Feed.{Keeps};
+ghost use Rattle.cap_source.specs.Feed.{FeedKeeps};
 ghost use Rattle.cap_source.specs.inner.Walk.{Walks, SameEndings};
 ghost use Rattle.cap_source.specs.inner.Growing.{IfMemory, IsAtPacket};
 ghost use Rattle.cap_write.specs.PcapRun.{run_bytes, run_refusal};
@@ -34,7 +34,7 @@ pub fn write_merged<F: PacketFeed, W: Sink>(
     ensures walks { Walks (F.feed feed.old) result (F.feed feed.new) }
     ensures endings { OnOk result (IsTrue (F.feed feed.old).told → SameEndings (F.feed feed.old) (F.feed feed.new)) }
     ensures memory { IfMemory result (IsAtPacket (F.feed feed.new).known) }
-    ensures keeps { Keeps (F.feed feed.old) (F.feed feed.new) }
+    ensures keeps { FeedKeeps (F.feed feed.old) (F.feed feed.new) }
 {
     put_section(writer, order)?;
     let mut origins = Origins::new(alloc);
@@ -61,7 +61,7 @@ pub fn write_merged_pcap<F: PacketFeed, W: Sink>(
     ensures walks { Walks (F.feed feed.old) result (F.feed feed.new) }
     ensures endings { OnOk result (IsTrue (F.feed feed.old).told → SameEndings (F.feed feed.old) (F.feed feed.new)) }
     ensures memory { IfMemory result ((F.feed feed.new).known ≡ None) }
-    ensures keeps { Keeps (F.feed feed.old) (F.feed feed.new) }
+    ensures keeps { FeedKeeps (F.feed feed.old) (F.feed feed.new) }
 {
     match next_packet(feed)? {
         Some(meta) => {

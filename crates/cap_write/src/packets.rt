@@ -2,9 +2,9 @@
 ghost use Rattle.std.specs.Prelude.{◌≡◌, ◌+◌, ◌≤◌, ◌++◌, length, IsTrue, is_err, IsOkUnless, OnOk, None, if◌then◌else◌};
 ghost use Rattle.std.specs.Prelude.{◌==◌, []};
 ghost use Rattle.cap_bytes.specs.Device.{Puts, WriterKeeps, writer_of};
-ghost use Rattle.cap_bytes.specs.Printing.{Prints, IsRead, is_write};
+ghost use Rattle.cap_bytes.specs.Printing.{Prints, IsReadFault, is_write};
 ghost use Rattle.cap_blocks.specs.Grammar.{interface_bytes, packet_bytes};
-ghost use Rattle.cap_source.specs.Feed.{Keeps};
+ghost use Rattle.cap_source.specs.Feed.{FeedKeeps};
 ghost use Rattle.cap_source.specs.inner.Walk.{Walks, SameEndings};
 ghost use Rattle.cap_source.specs.inner.Growing.{IfMemory, IsAtPacket};
 ghost use Rattle.cap_write.specs.Numbering.{number_of, with_origin, refusal_in, refusal_by, write_fault};
@@ -85,7 +85,7 @@ pub(crate) fn put_one<W: Sink>(
         × (write_fault origins.old.keys meta.now ≡ None)) }
     ensures limit { length origins.new.keys ≤ 1024 }
     ensures writer { WriterKeeps (writer_of W.Sink writer.old) (is_write result) (writer_of W.Sink writer.new) }
-    ensures read { IsRead result → ⊥ }
+    ensures read { IsReadFault result → ⊥ }
     ensures memory { IfMemory result (write_fault origins.old.keys meta.now ≡ None) }
 {
     let units = units_of(meta)?;
@@ -117,7 +117,7 @@ pub(crate) fn put_packets<F: PacketFeed, W: Sink>(
     ensures walks { Walks (F.feed feed.old) result (F.feed feed.new) }
     ensures endings { OnOk result (IsTrue (F.feed feed.old).told → SameEndings (F.feed feed.old) (F.feed feed.new)) }
     ensures memory { IfMemory result (IsAtPacket (F.feed feed.new).known) }
-    ensures keeps { Keeps (F.feed feed.old) (F.feed feed.new) }
+    ensures keeps { FeedKeeps (F.feed feed.old) (F.feed feed.new) }
 {
     while let Some(meta) = next_packet(feed)? {
         put_one(origins, order, &meta, feed.frame(), writer)?;

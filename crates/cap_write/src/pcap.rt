@@ -1,11 +1,11 @@
 //! A feed written as a pcap file.
 ghost use Rattle.std.specs.Prelude.{◌≡◌, ◌≤◌, [], length, IsTrue, IsFalse, OnOk, Some, None};
 ghost use Rattle.cap_bytes.specs.Device.{WriterKeeps, writer_of};
-ghost use Rattle.cap_bytes.specs.Printing.{Prints, IsRead, is_write};
-ghost use Rattle.cap_source.specs.Feed.{Keeps};
+ghost use Rattle.cap_bytes.specs.Printing.{Prints, IsReadFault, is_write};
+ghost use Rattle.cap_source.specs.Feed.{FeedKeeps};
 ghost use Rattle.cap_source.specs.inner.Walk.{Walks, SameEndings};
 ghost use Rattle.cap_source.specs.inner.Growing.{IfMemory};
-ghost use Rattle.cap_write.specs.Pcap.{fraction_of, header_of, packet_record, record_fault, records_bytes};
+ghost use Rattle.cap_write.specs.Pcap.{fraction_of, header_of, packet_record, written_record_fault, records_bytes};
 ghost use Rattle.cap_write.specs.Pcap.{records_refusal, pcap_bytes, pcap_refusal, bare_refusal};
 ghost use Rattle.cap_write.specs.inner.Times.{HasTime, HasRecord, IsBare};
 ghost use Rattle.cap_write.specs.Texts.{text_or};
@@ -79,12 +79,12 @@ pub(crate) fn put_after_header<W: Sink>(
 ) -> Result<(), Fault>
     requires captured { length frame.now ≤ 262144 }
     ensures text { IsTrue (W.tells_held writer.old)
-        → Prints (text_or (record_fault first.now meta.now) (packet_record order first.now meta.now frame.now))
-        (refusal_by meta.now (record_fault first.now meta.now))
+        → Prints (text_or (written_record_fault first.now meta.now) (packet_record order first.now meta.now frame.now))
+        (refusal_by meta.now (written_record_fault first.now meta.now))
         (W.held writer.old) result (W.held writer.new) }
-    ensures whole { OnOk result (record_fault first.now meta.now ≡ None) }
+    ensures whole { OnOk result (written_record_fault first.now meta.now ≡ None) }
     ensures writer { WriterKeeps (writer_of W.Sink writer.old) (is_write result) (writer_of W.Sink writer.new) }
-    ensures read { IsRead result → ⊥ }
+    ensures read { IsReadFault result → ⊥ }
     ensures memory { IfMemory result ⊥ }
 {
     let time = written_time(first, meta)?;
@@ -106,7 +106,7 @@ fn put_records<F: PacketFeed, W: Sink>(
     ensures walks { Walks (F.feed feed.old) result (F.feed feed.new) }
     ensures endings { OnOk result (IsTrue (F.feed feed.old).told → SameEndings (F.feed feed.old) (F.feed feed.new)) }
     ensures memory { IfMemory result ((F.feed feed.new).known ≡ None) }
-    ensures keeps { Keeps (F.feed feed.old) (F.feed feed.new) }
+    ensures keeps { FeedKeeps (F.feed feed.old) (F.feed feed.new) }
 {
     while let Some(meta) = next_packet(feed)? {
         put_after_header(first, order, &meta, feed.frame(), writer)?;
@@ -130,7 +130,7 @@ pub(crate) fn put_file<F: PacketFeed, W: Sink>(
     ensures walks { Walks (F.feed feed.old) result (F.feed feed.new) }
     ensures endings { OnOk result (IsTrue (F.feed feed.old).told → SameEndings (F.feed feed.old) (F.feed feed.new)) }
     ensures memory { IfMemory result ((F.feed feed.new).known ≡ None) }
-    ensures keeps { Keeps (F.feed feed.old) (F.feed feed.new) }
+    ensures keeps { FeedKeeps (F.feed feed.old) (F.feed feed.new) }
 {
     put_header(writer, &header_of(order, first))?;
     put_records(feed, order, first, writer)
@@ -154,7 +154,7 @@ fn refuse_bare<F: PacketFeed>(feed: &mut F, file: u32) -> Result<(), Fault>
     ensures walks { Walks (F.feed feed.old) result (F.feed feed.new) }
     ensures endings { OnOk result (IsTrue (F.feed feed.old).told → SameEndings (F.feed feed.old) (F.feed feed.new)) }
     ensures memory { IfMemory result ((F.feed feed.new).known ≡ None) }
-    ensures keeps { Keeps (F.feed feed.old) (F.feed feed.new) }
+    ensures keeps { FeedKeeps (F.feed feed.old) (F.feed feed.new) }
     ensures write { IsFalse (is_write result) }
 {
     match feed.head()? {
@@ -185,7 +185,7 @@ pub(crate) fn put_pcap<F: PacketFeed, W: Sink>(
     ensures walks { Walks (F.feed feed.old) result (F.feed feed.new) }
     ensures endings { OnOk result (IsTrue (F.feed feed.old).told → SameEndings (F.feed feed.old) (F.feed feed.new)) }
     ensures memory { IfMemory result ((F.feed feed.new).known ≡ None) }
-    ensures keeps { Keeps (F.feed feed.old) (F.feed feed.new) }
+    ensures keeps { FeedKeeps (F.feed feed.old) (F.feed feed.new) }
 {
     match start.first {
         Some(first) => put_file(feed, order, &first, writer),

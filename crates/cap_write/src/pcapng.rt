@@ -2,7 +2,7 @@
 ghost use Rattle.std.specs.Prelude.{◌≡◌, ◌⊎◌, IsErr, IsSome, IsTrue, is_err, IsOkUnless, OnOk};
 ghost use Rattle.cap_bytes.specs.Device.{Puts, WriterKeeps, writer_of};
 ghost use Rattle.cap_bytes.specs.Printing.{Prints, is_write};
-ghost use Rattle.cap_source.specs.Feed.{Keeps};
+ghost use Rattle.cap_source.specs.Feed.{FeedKeeps};
 ghost use Rattle.cap_source.specs.inner.Walk.{Walks, SameEndings};
 ghost use Rattle.cap_source.specs.inner.Growing.{IfMemory, IsAtPacket};
 ghost use Rattle.cap_write.specs.inner.Interfaces.{Holds};
@@ -76,7 +76,7 @@ pub(crate) fn put_pcapng<F: PacketFeed, W: Sink>(
     ensures endings { OnOk result (IsTrue (F.feed feed.old).told → SameEndings (F.feed feed.old) (F.feed feed.new)) }
     ensures memory { IfMemory result (IsAtPacket (F.feed feed.new).known
         ⊎ (IsSome start.first × (F.feed feed.new ≡ F.feed feed.old))) }
-    ensures keeps { Keeps (F.feed feed.old) (F.feed feed.new) }
+    ensures keeps { FeedKeeps (F.feed feed.old) (F.feed feed.new) }
 {
     let mut origins = first_origins(alloc, start)?;
     put_front(writer, order, start.first)?;

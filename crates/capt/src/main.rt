@@ -3,7 +3,7 @@
 
 ghost use Rattle.std.specs.Prelude.{◌≡◌, ◌⊎◌, IfErr, IfOk, IsFalse, map, string_bytes, vec_len, Result};
 ghost use Rattle.cap_line.specs.CommandLine.{Parses};
-ghost use Rattle.cap_line.specs.Jobs.{IsWhole};
+ghost use Rattle.cap_line.specs.Jobs.{IsWholeJob};
 ghost use Rattle.cap_line.specs.declared.faults.LineFault.{LineFault};
 ghost use Rattle.cap_line.specs.declared.jobs.Job.{Job};
 ghost use Rattle.cap_tool.specs.Outcomes.{is_help};
@@ -79,7 +79,7 @@ fn run_job<R: Source, C: Clock>(
     progress: &Progress<'_, C>,
     told: &mut Told,
 ) -> Result<(), Stop>
-    requires whole { IsWhole job.now }
+    requires whole { IsWholeJob job.now }
     requires sources { vec_len sources ≡ vec_len job.now.files }
 {
     let mut writer = Watched::new(Tracked::new(Shared::new(output)), progress);
@@ -123,7 +123,7 @@ fn work<R: Files<File = File> + Clock + AllocGlobal>(
     output: Output,
     told: &mut Told,
 ) -> Result<(), Stop>
-    requires whole { IsWhole job.now }
+    requires whole { IsWholeJob job.now }
     requires sources { vec_len inputs.sources ≡ vec_len job.now.files }
 {
     let screen = screen_of(rt, faults, &output);
@@ -173,7 +173,7 @@ fn open<R: Files<File = File> + AllocGlobal>(
     standard: Stdin,
     has_no_input: bool,
 ) -> Result<Inputs, Outcome>
-    requires { IsWhole job.now }
+    requires { IsWholeJob job.now }
     ensures { IfOk result (λ inputs. vec_len inputs.sources ≡ vec_len job.now.files) }
 {
     check_input(has_no_input, job.files.as_slice())?;
@@ -188,7 +188,7 @@ fn run<R: Files<File = File> + Clock + AllocGlobal>(
     has_no_input: bool,
     told: &mut Told,
 ) -> Result<(), Stop>
-    requires { IsWhole job.now }
+    requires { IsWholeJob job.now }
 {
     let inputs = match open(rt, job, streams.input, has_no_input) {
         Ok(inputs) => inputs,
@@ -264,7 +264,7 @@ fn do_job<R: Files<File = File> + Clock + AllocGlobal>(
     streams: StandardStreams,
     has_no_input: bool,
 ) -> Outcome
-    requires { IsWhole job.now }
+    requires { IsWholeJob job.now }
 {
     let mut told = Told::new(job.explain || streams.faults.is_terminal());
     let stop = stop_of(run(rt, job, streams, has_no_input, &mut told));

@@ -2,18 +2,18 @@
 use Rattle.std.proofs.Common.{◌≡◌, ◌+◌, ℕ, suc, List, [], ◌∷◌, ◌++◌, length, slice_set, take, refl, sym, ◌∙◌, arith}
 use Rattle.cap_source.specs.Feed.{Item, packet}
 use Rattle.cap_source.specs.declared.packets.Meta.{Meta}
-use Rattle.capt_c.specs.Packets.{Shows, Told}
+use Rattle.capt_c.specs.Packets.{ShowsFields, Told}
 use Rattle.capt_c.specs.declared.packets.Packet.{Packet}
 
 pub Told-more : (old : List Item) (ps : List Packet) (now : List Item) → Told old ps now
     → (meta : Meta) (frame : List ℕ) (rest : List Item) (p : Packet)
-    → now ≡ packet meta frame ∷ rest → Shows meta p → Told old (ps ++ p ∷ []) rest
+    → now ≡ packet meta frame ∷ rest → ShowsFields meta p → Told old (ps ++ p ∷ []) rest
 Told-more old [] now told meta frame rest p next shows = (meta, frame, rest, sym told ∙ next, shows, refl)
 Told-more old (q ∷ ps) now told meta frame rest p next shows =
     (told.0, told.1, told.2, told.3, told.4, Told-more told.2 ps now told.5 meta frame rest p next shows)
 
 pub Told-first : (old mid new : List Item) (fs : List Packet) (p : Packet) (others : List Packet) (k : ℕ)
-    → length fs ≡ 1 → (meta : Meta) → Shows meta p → (frame : List ℕ)
+    → length fs ≡ 1 → (meta : Meta) → ShowsFields meta p → (frame : List ℕ)
     → old ≡ packet meta frame ∷ mid → Told mid (take k others) new
     → Told old (take (k + 1) (slice_set fs 0 p ++ others)) new
 Told-first old mid new [] p others k one meta shows frame first told = absurd (omega (arith, one))

@@ -20,11 +20,16 @@ status_of Memory = 5
 abbrev pub nowhere : Place
 nowhere = record { offset = 0; file = 0; rule = 0 }
 
-abbrev pub place_of : Fault → Place
-place_of (Refused refusal) = record { offset = refusal.offset; file = refusal.file; rule = rule_number refusal.rule }
-place_of (Read file offset) = record { offset = offset; file = file; rule = 0 }
-place_of Write = nowhere
-place_of Memory = nowhere
+abbrev pub place_of_fault : Fault → Place
+place_of_fault (Refused refusal) = record {
+  offset = refusal.offset;
+  file = refusal.file;
+  rule = rule_number
+      refusal.rule;
+}
+place_of_fault (Read file offset) = record { offset = offset; file = file; rule = 0 }
+place_of_fault Write = nowhere
+place_of_fault Memory = nowhere
 
 abbrev pub status_of_result : Result Unit Fault → ℕ
 status_of_result (Ok _) = 0
@@ -32,7 +37,7 @@ status_of_result (Err fault) = status_of fault
 
 abbrev pub place_of_result : Result Unit Fault → Place
 place_of_result (Ok _) = nowhere
-place_of_result (Err fault) = place_of fault
+place_of_result (Err fault) = place_of_fault fault
 
 -- what is done with a cut end
 abbrev pub tail_of : Bool → Tail

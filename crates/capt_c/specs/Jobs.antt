@@ -9,8 +9,8 @@ use Rattle.capt_c.specs.declared.handles.Held.TheVariants as helds
 use Rattle.capt_c.specs.declared.jobs.Bytes.{Bytes}
 
 -- the bytes of a file
-abbrev pub bytes_of : Bytes → List ℕ
-bytes_of file = file.bytes.now
+abbrev pub file_bytes : Bytes → List ℕ
+file_bytes file = file.bytes.now
 
 -- a write to memory that fails is a growth that was refused
 abbrev pub by_memory : Result Unit Fault → Result Unit Fault
@@ -31,6 +31,6 @@ Shown items answer len status place (Some (helds.Text text)) =
 
 -- A caller is shown a text of that length that was made as `Does` says, from nothing, and how the job ended; or nothing
 -- for want of memory.
-abbrev pub Ends : (List ℕ → Result Unit Fault → List ℕ → Type 0) → ℕ → ℕ → Place → Option Held → Type 0
-Ends Does len status place held =
+abbrev pub JobEnds : (List ℕ → Result Unit Fault → List ℕ → Type 0) → ℕ → ℕ → Place → Option Held → Type 0
+JobEnds Does len status place held =
     (answer : Result Unit Fault) × (items : List ℕ) × Does [] answer items × Shown items answer len status place held

@@ -9,6 +9,6 @@ PutsText text count room buffer =
     (count ≡ length text) × (take (min count room) buffer ≡ take (min count room) text)
 
 -- The name of the rule of that number is put into a buffer; there is none of another number.
-pub record Names (number count room : ℕ) (buffer : List ℕ) : Type 0 where
+pub record NamesRule (number count room : ℕ) (buffer : List ℕ) : Type 0 where
   pub name : (rule : Rule) → rule_number rule ≡ number → PutsText (rule_name rule) count room buffer
   pub none : ((rule : Rule) → rule_number rule ≡ number → ⊥) → count ≡ 0

@@ -3,7 +3,7 @@ use Rattle.std.specs.Prelude.{◌≡◌, ℕ, ◌^◌, ◌≤◌, length, take, 
 use Rattle.std.specs.Prelude.{IsTrue, Option, Some, None, IfSome, Result, Ok, Err}
 use Rattle.cap_bytes.specs.declared.faults.Fault.{Fault}
 use Rattle.cap_bytes.specs.declared.faults.Fault.TheVariants.{Refused, Read, Write, Memory}
-use Rattle.cap_source.specs.Feed.{Feed, Item, Breaks, packet, refused}
+use Rattle.cap_source.specs.Feed.{Feed, Item, FeedBreaks, packet, refused}
 use Rattle.cap_source.specs.declared.feeds.Head.{Head}
 use Rattle.cap_source.specs.declared.feeds.Head.TheVariants as heads
 use Rattle.cap_source.specs.declared.packets.Meta.{Meta}
@@ -19,7 +19,7 @@ ShowsTime (Some units) interface seconds carry numerator denominator =
     × (numerator ≡ numerator_of (stamp_in units interface)) × (denominator ≡ denominator_of (stamp_in units interface))
 
 -- a packet is told by these numbers
-pub record Shows (meta : Meta) (p : Packet) : Type 0 where
+pub record ShowsFields (meta : Meta) (p : Packet) : Type 0 where
   pub offset : p.offset ≡ meta.offset
   pub instance : p.instance ≡ meta.instance
   pub captured : p.captured ≡ meta.captured
@@ -29,41 +29,43 @@ pub record Shows (meta : Meta) (p : Packet) : Type 0 where
   pub time : ShowsTime meta.units meta.interface p.seconds p.carry p.numerator p.denominator
 
 -- what is answered for what is known to come next
-abbrev pub answer_of : Head → Result Bool Fault
-answer_of (heads.Packet meta) = Ok true
-answer_of (heads.Refused refusal) = Err (Refused refusal)
-answer_of heads.End = Ok false
+abbrev pub head_answer : Head → Result Bool Fault
+head_answer (heads.Packet meta) = Ok true
+head_answer (heads.Refused refusal) = Err (Refused refusal)
+head_answer heads.End = Ok false
 
 -- If it was known what comes next, that is what is answered: the end and a refusal, which stay known, come again and
 -- again.
-abbrev pub Agrees : Option Head → Result Bool Fault → Type 0
-Agrees known answer = IfSome known (λ head. answer ≡ answer_of head)
+abbrev pub AgreesWithKnown : Option Head → Result Bool Fault → Type 0
+AgreesWithKnown known answer = IfSome known (λ head. answer ≡ head_answer head)
 
 -- The next packet was told and passed, or it is known that there is none. If the bytes of the capture are known, it was
 -- the next of its packets, and the refusal is the one that ends them. After a refused growth the packets to come are
 -- the same.
-abbrev pub Leaves : Feed → Result Bool Fault → Packet → Feed → Type 0
-Leaves old (Ok true) p new =
-    (meta : Meta) × Shows meta p × (IsTrue old.told → (frame : List ℕ) × (old.items ≡ packet meta frame ∷ new.items))
-Leaves old (Ok false) p new = (new.known ≡ Some heads.End) × (IsTrue old.told → old.items ≡ [])
-Leaves old (Err (Refused refusal)) p new =
+abbrev pub LeavesPacket : Feed → Result Bool Fault → Packet → Feed → Type 0
+LeavesPacket old (Ok true) p new =
+    (meta : Meta) × ShowsFields meta p × (IsTrue old.told → (frame : List ℕ)
+    × (old.items ≡ packet meta frame ∷ new.items))
+LeavesPacket old (Ok false) p new = (new.known ≡ Some heads.End) × (IsTrue old.told → old.items ≡ [])
+LeavesPacket old (Err (Refused refusal)) p new =
     (new.known ≡ Some (heads.Refused refusal)) × (IsTrue old.told → old.items ≡ refused refusal ∷ [])
-Leaves old (Err (Read file offset)) p new = Breaks old file offset new
-Leaves old (Err Write) p new = ⊥
-Leaves old (Err Memory) p new = IsTrue old.told → new.items ≡ old.items
+LeavesPacket old (Err (Read file offset)) p new = FeedBreaks old file offset new
+LeavesPacket old (Err Write) p new = ⊥
+LeavesPacket old (Err Memory) p new = IsTrue old.told → new.items ≡ old.items
 
 -- what a call for the next packet answers and leaves
-abbrev pub Steps : Feed → Result Bool Fault → Packet → Feed → Type 0
-Steps old answer p new = Agrees old.known answer × Leaves old answer p new
+abbrev pub StepsPacket : Feed → Result Bool Fault → Packet → Feed → Type 0
+StepsPacket old answer p new = AgreesWithKnown old.known answer × LeavesPacket old answer p new
 
 -- Those packets were told, one after another.
 abbrev pub Told : List Item → List Packet → List Item → Type 0
 Told old [] new = new ≡ old
 Told old (p ∷ ps) new =
     (meta : Meta) × (frame : List ℕ) × (rest : List Item)
-    × (old ≡ packet meta frame ∷ rest) × Shows meta p × Told rest ps new
+    × (old ≡ packet meta frame ∷ rest) × ShowsFields meta p × Told rest ps new
 
--- The next packets were told and passed, as many as `count` says, or it is known that there is none: as `Leaves` has it
+-- The next packets were told and passed, as many as `count` says, or it is known that there is none: as `LeavesPacket`
+-- has it
 -- for one.
 abbrev pub LeavesMany : Feed → Result Bool Fault → ℕ → List Packet → Feed → Type 0
 LeavesMany old (Ok true) count packets new =
@@ -72,10 +74,10 @@ LeavesMany old (Ok false) count packets new = (count ≡ 0) × (new.known ≡ So
     × (IsTrue old.told → old.items ≡ [])
 LeavesMany old (Err (Refused refusal)) count packets new =
     (count ≡ 0) × (new.known ≡ Some (heads.Refused refusal)) × (IsTrue old.told → old.items ≡ refused refusal ∷ [])
-LeavesMany old (Err (Read file offset)) count packets new = (count ≡ 0) × Breaks old file offset new
+LeavesMany old (Err (Read file offset)) count packets new = (count ≡ 0) × FeedBreaks old file offset new
 LeavesMany old (Err Write) count packets new = ⊥
 LeavesMany old (Err Memory) count packets new = (count ≡ 0) × (IsTrue old.told → new.items ≡ old.items)
 
 -- what a call for the next packets answers and leaves
 abbrev pub StepsMany : Feed → Result Bool Fault → ℕ → List Packet → Feed → Type 0
-StepsMany old answer count packets new = Agrees old.known answer × LeavesMany old answer count packets new
+StepsMany old answer count packets new = AgreesWithKnown old.known answer × LeavesMany old answer count packets new

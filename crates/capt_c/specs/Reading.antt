@@ -2,13 +2,13 @@
 use Rattle.std.specs.Prelude.{◌≡◌, ℕ, List, [], ◌∷◌, Bool, true, false, Option, Some, None, Result, Ok, Err}
 use Rattle.cap_bytes.specs.declared.faults.Fault.{Fault}
 use Rattle.cap_bytes.specs.declared.faults.Tail.{Tail}
-use Rattle.cap_source.specs.Feed.{Feed, GivesHead, Keeps}
+use Rattle.cap_source.specs.Feed.{Feed, GivesHead, FeedKeeps}
 use Rattle.cap_source.specs.Items.{file_items}
 use Rattle.cap_source.specs.declared.captures.Capture.{Capture}
-use Rattle.capt_c.specs.Answers.{status_of, place_of, nowhere}
+use Rattle.capt_c.specs.Answers.{status_of, place_of_fault, nowhere}
 use Rattle.capt_c.specs.contracts.sources.InputDevice.TheImpl as device
 use Rattle.capt_c.specs.contracts.sources.InputSource.TheImpl as source
-use Rattle.capt_c.specs.Packets.{Steps, StepsMany}
+use Rattle.capt_c.specs.Packets.{StepsPacket, StepsMany}
 use Rattle.capt_c.specs.declared.answers.Place.{Place}
 use Rattle.cap_source.specs.declared.feeds.Ending.{Ending}
 use Rattle.cap_source.specs.declared.feeds.Head.{Head}
@@ -22,8 +22,8 @@ use Rattle.capt_c.specs.declared.reading.End.{End}
 use Rattle.capt_c.specs.declared.sources.Input.{Input}
 
 -- a capture that is read
-abbrev pub Reader : Type 0
-Reader = Capture Input source.ghosts device.ghosts
+abbrev pub CaptureReader : Type 0
+CaptureReader = Capture Input source.ghosts device.ghosts
 
 abbrev pub status_of_step : Result Bool Fault → ℕ
 status_of_step (Ok true) = 1
@@ -32,46 +32,48 @@ status_of_step (Err fault) = status_of fault
 
 abbrev pub place_of_step : Result Bool Fault → Place
 place_of_step (Ok found) = nowhere
-place_of_step (Err fault) = place_of fault
+place_of_step (Err fault) = place_of_fault fault
 
 -- A capture is open of which no packet was told; or no memory was found. `told` says whether its bytes are known, which
 -- are `bytes` then, and `can_fail` whether its reads can fail.
-abbrev pub Opens : (Reader → Feed) → Tail → Bool → List ℕ → Bool → ℕ → Option Held → Type 0
-Opens feed tail told bytes can_fail status None = status ≡ 5
-Opens feed tail told bytes can_fail status (Some (helds.Text text)) = ⊥
-Opens feed tail told bytes can_fail status (Some (helds.Table t)) = ⊥
-Opens feed tail told bytes can_fail status (Some (helds.Capture c)) =
+abbrev pub OpensCapture : (CaptureReader → Feed) → Tail → Bool → List ℕ → Bool → ℕ → Option Held → Type 0
+OpensCapture feed tail told bytes can_fail status None = status ≡ 5
+OpensCapture feed tail told bytes can_fail status (Some (helds.Text text)) = ⊥
+OpensCapture feed tail told bytes can_fail status (Some (helds.Table t)) = ⊥
+OpensCapture feed tail told bytes can_fail status (Some (helds.Capture c)) =
     (status ≡ 0) × ((feed c).known ≡ None) × ((feed c).files ≡ 1 ∷ []) × ((feed c).told ≡ told)
     × ((feed c).items ≡ file_items tail 1 bytes) × ((feed c).can_fail 1 ≡ can_fail)
 
 -- What a call for the next packet answers and leaves.
-abbrev pub Nexts : (Reader → Feed) → Option Held → ℕ → Packet → Place → Option Held → Type 0
+abbrev pub Nexts : (CaptureReader → Feed) → Option Held → ℕ → Packet → Place → Option Held → Type 0
 Nexts feed None status p place new = (status ≡ 6) × (new ≡ None)
 Nexts feed (Some (helds.Text text)) status p place new = (status ≡ 6) × (new ≡ Some (helds.Text text))
 Nexts feed (Some (helds.Table t)) status p place new = (status ≡ 6) × (new ≡ Some (helds.Table t))
 Nexts feed (Some (helds.Capture c)) status p place new =
-    (answer : Result Bool Fault) × (later : Reader) × (status ≡ status_of_step answer) × (place ≡ place_of_step answer)
-    × (new ≡ Some (helds.Capture later)) × Steps (feed c) answer p (feed later) × Keeps (feed c) (feed later)
+    (answer : Result Bool Fault) × (later : CaptureReader) × (status ≡ status_of_step answer)
+    × (place ≡ place_of_step answer)
+    × (new ≡ Some (helds.Capture later)) × StepsPacket (feed c) answer p (feed later) × FeedKeeps (feed c) (feed later)
 
 -- What a call for the next packets answers and leaves.
-abbrev pub NextsMany : (Reader → Feed) → Option Held → ℕ → ℕ → List Packet → Place → Option Held → Type 0
+abbrev pub NextsMany : (CaptureReader → Feed) → Option Held → ℕ → ℕ → List Packet → Place → Option Held → Type 0
 NextsMany feed None status count packets place new = (status ≡ 6) × (new ≡ None)
 NextsMany feed (Some (helds.Text text)) status count packets place new = (status ≡ 6) × (new ≡ Some (helds.Text text))
 NextsMany feed (Some (helds.Table t)) status count packets place new = (status ≡ 6) × (new ≡ Some (helds.Table t))
 NextsMany feed (Some (helds.Capture c)) status count packets place new =
-    (answer : Result Bool Fault) × (later : Reader) × (status ≡ status_of_step answer) × (place ≡ place_of_step answer)
+    (answer : Result Bool Fault) × (later : CaptureReader) × (status ≡ status_of_step answer)
+    × (place ≡ place_of_step answer)
     × (new ≡ Some (helds.Capture later)) × StepsMany (feed c) answer count packets (feed later)
-    × Keeps (feed c) (feed later)
+    × FeedKeeps (feed c) (feed later)
 
 -- whether a file is a pcapng file
-abbrev pub is_pcapng : Format → Bool
-is_pcapng Pcap = false
-is_pcapng Pcapng = true
+abbrev pub is_pcapng_format : Format → Bool
+is_pcapng_format Pcap = false
+is_pcapng_format Pcapng = true
 
 -- how a file ended, in numbers
 pub record ShowsEnding (ending : Ending) (end : End) : Type 0 where
   pub skipped : end.skipped ≡ ending.skipped
-  pub format : end.is_pcapng ≡ is_pcapng ending.format
+  pub format : end.is_pcapng ≡ is_pcapng_format ending.format
   pub was_cut : end.was_cut ≡ ending.was_cut
 
 -- What is told of a feed of one file if that is answered for what comes next: how the file ended, if that is the end.
@@ -83,10 +85,10 @@ EndTold feed (Ok heads.End) status end =
 EndTold feed (Err fault) status end = status ≡ 6
 
 -- What a call answers and leaves that tells how a capture ended.
-abbrev pub TellsEnd : (Reader → Feed) → Option Held → ℕ → End → Option Held → Type 0
+abbrev pub TellsEnd : (CaptureReader → Feed) → Option Held → ℕ → End → Option Held → Type 0
 TellsEnd feed None status end new = (status ≡ 6) × (new ≡ None)
 TellsEnd feed (Some (helds.Text text)) status end new = (status ≡ 6) × (new ≡ Some (helds.Text text))
 TellsEnd feed (Some (helds.Table t)) status end new = (status ≡ 6) × (new ≡ Some (helds.Table t))
 TellsEnd feed (Some (helds.Capture c)) status end new =
-    (answer : Result Head Fault) × (later : Reader) × (new ≡ Some (helds.Capture later))
-    × GivesHead (feed c) answer (feed later) × EndTold (feed later) answer status end × Keeps (feed c) (feed later)
+    (answer : Result Head Fault) × (later : CaptureReader) × (new ≡ Some (helds.Capture later))
+    × GivesHead (feed c) answer (feed later) × EndTold (feed later) answer status end × FeedKeeps (feed c) (feed later)

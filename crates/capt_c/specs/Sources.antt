@@ -13,14 +13,14 @@ abbrev pub tells_of : Input → Bool
 tells_of (Memory slice) = true
 tells_of (Standard stream) = false
 
-abbrev pub coming_of : Input → List ℕ
-coming_of (Memory slice) = rest_of slice
-coming_of (Standard stream) = []
+abbrev pub input_coming : Input → List ℕ
+input_coming (Memory slice) = rest_of slice
+input_coming (Standard stream) = []
 
 abbrev pub has_failed_of : Input → Bool
 has_failed_of (Memory slice) = false
 has_failed_of (Standard stream) = has_failed stream
 
-abbrev pub can_fail_of : Input → Bool
-can_fail_of (Memory slice) = false
-can_fail_of (Standard stream) = true
+abbrev pub input_can_fail : Input → Bool
+input_can_fail (Memory slice) = false
+input_can_fail (Standard stream) = true

@@ -3,23 +3,23 @@ use Rattle.std.specs.Prelude.{◌≡◌, ℕ, List, [], true, false, Option, Som
 use Rattle.cap_bytes.specs.Printing.{Prints}
 use Rattle.cap_bytes.specs.declared.faults.Fault.{Fault}
 use Rattle.cap_bytes.specs.declared.faults.Tail.{Tail}
-use Rattle.cap_merge.specs.inner.Readers.{IsUnreadRun, Reader}
-use Rattle.cap_talks.specs.inner.table.Stepping.{Steps, StepKeeps, TableState, TableStands, endings_so_far}
+use Rattle.cap_merge.specs.inner.Readers.{IsUnreadRun, ReaderFacts}
+use Rattle.cap_talks.specs.inner.table.Stepping.{TableSteps, StepKeeps, TableState, TableStands, endings_so_far}
 use Rattle.cap_talks.specs.inner.table.TableView.{table_of}
 use Rattle.cap_talks.specs.table.Taken.{Taken}
 use Rattle.cap_talks.specs.table.TakenText.{text_of}
 use Rattle.cap_talks.specs.declared.table.tables.Step.{Step}
 use Rattle.cap_talks.specs.declared.table.tables.Step.TheVariants.{Took, Done}
-use Rattle.capt_c.specs.Answers.{status_of, place_of, nowhere}
-use Rattle.capt_c.specs.Jobs.{Ends, bytes_of}
+use Rattle.capt_c.specs.Answers.{status_of, place_of_fault, nowhere}
+use Rattle.capt_c.specs.Jobs.{JobEnds, file_bytes}
 use Rattle.capt_c.specs.declared.answers.Place.{Place}
 use Rattle.capt_c.specs.declared.handles.Held.{Held}
 use Rattle.capt_c.specs.declared.handles.Held.TheVariants as helds
 use Rattle.capt_c.specs.declared.jobs.Bytes.{Bytes}
 
 -- the reader of a file in memory
-abbrev pub reader_of_file : Bytes → Reader
-reader_of_file file = record { told = true; can_fail = false; bytes = bytes_of file }
+abbrev pub reader_of_file : Bytes → ReaderFacts
+reader_of_file file = record { told = true; can_fail = false; bytes = file_bytes file }
 
 -- A table of those files is open, of which no packet was taken; or no memory was found.
 abbrev pub OpensTable : Tail → List Bytes → ℕ → Option Held → Type 0
@@ -44,7 +44,7 @@ status_of_step (Err fault) = status_of fault
 
 abbrev pub place_of_step : Result Step Fault → Place
 place_of_step (Ok step) = nowhere
-place_of_step (Err fault) = place_of fault
+place_of_step (Err fault) = place_of_fault fault
 
 -- What a call that takes the next packet answers and leaves.
 abbrev pub StepsTable : Option Held → ℕ → Place → Option Held → Type 0
@@ -53,7 +53,7 @@ StepsTable (Some (helds.Capture c)) status place new = (status ≡ 6) × (new �
 StepsTable (Some (helds.Text text)) status place new = (status ≡ 6) × (new ≡ Some (helds.Text text))
 StepsTable (Some (helds.Table t)) status place new =
     (answer : Result Step Fault) × (status ≡ status_of_step answer) × (place ≡ place_of_step answer)
-    × LeavesTable new (λ later. Steps (table_of t.value) answer later × StepKeeps (table_of t.value) later)
+    × LeavesTable new (λ later. TableSteps (table_of t.value) answer later × StepKeeps (table_of t.value) later)
 
 -- What a call answers that shows the report over the packets that were taken.
 abbrev pub WritesTable : Option Held → ℕ → ℕ → Place → Option Held → Type 0
@@ -62,5 +62,5 @@ WritesTable (Some (helds.Capture c)) len status place text = status ≡ 6
 WritesTable (Some (helds.Text t)) len status place text = status ≡ 6
 WritesTable (Some (helds.Table t)) len status place text =
     (xs : List Taken) → TableStands (table_of t.value) xs
-    → Ends (Prints (text_of (length (table_of t.value).totals.files) (endings_so_far (table_of t.value)) xs) None)
+    → JobEnds (Prints (text_of (length (table_of t.value).totals.files) (endings_so_far (table_of t.value)) xs) None)
     len status place text

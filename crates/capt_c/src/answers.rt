@@ -1,6 +1,6 @@
 //! What a call answers: a status, and where a capture is refused or a read failed.
 ghost use Rattle.std.specs.Prelude.{◌≡◌};
-ghost use Rattle.capt_c.specs.Answers.{status_of, place_of, tail_of, order_of, format_of, status_of_result};
+ghost use Rattle.capt_c.specs.Answers.{status_of, place_of_fault, tail_of, order_of, format_of, status_of_result};
 ghost use Rattle.capt_c.specs.Answers.{place_of_result};
 
 use cap_bytes::{Fault, Order, Tail};
@@ -64,7 +64,7 @@ pub fn status_of(fault: Fault) -> u32
 
 /// The place of a fault.
 pub fn place_of(fault: Fault) -> Place
-    ensures { result ≡ place_of fault }
+    ensures { result ≡ place_of_fault fault }
 {
     match fault {
         Fault::Refused(refusal) => Place {

@@ -1,6 +1,6 @@
 //! Packets that are told many at a time.
 ghost use Rattle.std.specs.Prelude.{◌≡◌, ◌≤◌, ◌<◌, IsTrue, length, take};
-ghost use Rattle.cap_source.specs.Feed.{Keeps};
+ghost use Rattle.cap_source.specs.Feed.{FeedKeeps};
 ghost use Rattle.capt_c.specs.Packets.{StepsMany, Told};
 
 use crate::packets::{Packet, packet_of};
@@ -13,7 +13,7 @@ fn more<F: PacketFeed>(feed: &mut F, packets: &mut [Packet]) -> usize
     ensures most { result ≤ length packets.new }
     ensures told { IsTrue (F.feed feed.old).told
         → Told (F.feed feed.old).items (take result packets.new) (F.feed feed.new).items }
-    ensures keeps { Keeps (F.feed feed.old) (F.feed feed.new) }
+    ensures keeps { FeedKeeps (F.feed feed.old) (F.feed feed.new) }
 {
     let mut count = 0;
     while count < packets.len() && feed.shows_packet() {
@@ -33,7 +33,7 @@ pub fn step_many<F: PacketFeed>(
 ) -> Result<bool, Fault>
     requires { 0 < length packets.old }
     ensures answer { StepsMany (F.feed feed.old) result count.new packets.new (F.feed feed.new) }
-    ensures keeps { Keeps (F.feed feed.old) (F.feed feed.new) }
+    ensures keeps { FeedKeeps (F.feed feed.old) (F.feed feed.new) }
 {
     *count = 0;
     let (first, others) = packets.split_at_mut(1);

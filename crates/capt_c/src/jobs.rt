@@ -1,6 +1,6 @@
 //! What `capt` makes of captures in memory: a text that the caller holds.
 ghost use Rattle.std.specs.Prelude.{◌≡◌, ◌≤◌, ◌↔◌, IfOk, IsOkUnless, IsTrue, None, length, map};
-ghost use Rattle.cap_bytes.specs.Printing.{IsRead, Prints};
+ghost use Rattle.cap_bytes.specs.Printing.{IsReadFault, Prints};
 ghost use Rattle.cap_tool.specs.BlockText.{block_list, block_refusal};
 ghost use Rattle.cap_tool.specs.ListText.{list_refusal, list_text};
 ghost use Rattle.cap_merge.specs.Files.{clocked_run, endings_of_files};
@@ -11,7 +11,7 @@ ghost use Rattle.cap_tool.specs.Converted.{convert_refusal, convert_text};
 ghost use Rattle.cap_tool.specs.JoinText.{join_refusal, join_text};
 ghost use Rattle.cap_tool.specs.MergeText.{merge_refusal, merge_text};
 ghost use Rattle.capt_c.specs.Answers.{tail_of, order_of, format_of};
-ghost use Rattle.capt_c.specs.Jobs.{Ends, Shown, by_memory, bytes_of};
+ghost use Rattle.capt_c.specs.Jobs.{JobEnds, Shown, by_memory, file_bytes};
 ghost use Rattle.capt_c.specs.Sources.{rest_of};
 
 use crate::answers::{MEMORY, MISUSE, Place, finish, format_of, nowhere, order_of, tail_of};
@@ -45,7 +45,7 @@ pub struct Text {
 /// Readers of files.
 pub(crate) fn slices<'a>(alloc: Global, files: &[Bytes<'a>]) -> Result<Vec<Slice<'a>>, Fault>
     requires { length files.now ≤ 32 }
-    ensures bytes { IfOk result (λ v. map rest_of v.items ≡ map bytes_of files.now) }
+    ensures bytes { IfOk result (λ v. map rest_of v.items ≡ map file_bytes files.now) }
     ensures count { IfOk result (λ v. length v.items ≡ length files.now) }
     ensures fault { IsOkUnless result Fault.Memory }
 {
@@ -79,7 +79,7 @@ pub(crate) fn show(
 ) -> u32
     ensures text { Shown (⟦<Grown as Sink>⟧.held sink) answer
         text.new.len result place.new text.new.handle.kept.value }
-    ensures read { (IsRead answer → ⊥) → result ≡ 3 → ⊥ }
+    ensures read { (IsReadFault answer → ⊥) → result ≡ 3 → ⊥ }
 {
     let bytes = sink.into_bytes();
     text.at = start_of(&bytes);
@@ -109,10 +109,10 @@ fn make_report(
 ) -> Result<(), Fault>
     requires some { 1 ≤ length files.now }
     requires most { length files.now ≤ 32 }
-    ensures text { Tells (report_text (length files.now) (endings_of_files tail (map bytes_of files.now))
-        (clocked_run tail (map bytes_of files.now))) (report_refusal (clocked_run tail (map bytes_of files.now)))
+    ensures text { Tells (report_text (length files.now) (endings_of_files tail (map file_bytes files.now))
+        (clocked_run tail (map file_bytes files.now))) (report_refusal (clocked_run tail (map file_bytes files.now)))
         (⟦<Grown as Sink>⟧.held sink.old) result (⟦<Grown as Sink>⟧.held sink.new) }
-    ensures read { IsRead result → ⊥ }
+    ensures read { IsReadFault result → ⊥ }
 {
     let sources = slices(alloc, files)?;
     report(alloc, sources, tail, sink)
@@ -128,9 +128,10 @@ pub extern "C" fn capt_report(
     place: &mut Place,
 ) -> u32
     ensures text { (1 ≤ length files.now) × (length files.now ≤ 32)
-        → Ends (Tells (report_text (length files.now) (endings_of_files (tail_of allow_cut) (map bytes_of files.now))
-        (clocked_run (tail_of allow_cut) (map bytes_of files.now)))
-        (report_refusal (clocked_run (tail_of allow_cut) (map bytes_of files.now))))
+        → JobEnds (Tells (report_text (length files.now)
+        (endings_of_files (tail_of allow_cut) (map file_bytes files.now))
+        (clocked_run (tail_of allow_cut) (map file_bytes files.now)))
+        (report_refusal (clocked_run (tail_of allow_cut) (map file_bytes files.now))))
         text.new.len result place.new text.new.handle.kept.value }
     ensures read { result ≡ 3 → ⊥ }
     ensures misuse { ((1 ≤ length files.now) × (length files.now ≤ 32) → ⊥)
@@ -148,9 +149,9 @@ pub extern "C" fn capt_report(
 fn make_info(alloc: Global, files: &[Bytes<'_>], tail: Tail, sink: &mut Grown) -> Result<(), Fault>
     requires some { 1 ≤ length files.now }
     requires most { length files.now ≤ 32 }
-    ensures text { Tells (info_text tail (map bytes_of files.now)) (first_refusal tail 1 (map bytes_of files.now))
+    ensures text { Tells (info_text tail (map file_bytes files.now)) (first_refusal tail 1 (map file_bytes files.now))
         (⟦<Grown as Sink>⟧.held sink.old) result (⟦<Grown as Sink>⟧.held sink.new) }
-    ensures read { IsRead result → ⊥ }
+    ensures read { IsReadFault result → ⊥ }
 {
     let sources = slices(alloc, files)?;
     file_lines(alloc, sources, tail, sink)
@@ -166,8 +167,8 @@ pub extern "C" fn capt_info(
     place: &mut Place,
 ) -> u32
     ensures text { (1 ≤ length files.now) × (length files.now ≤ 32)
-        → Ends (Tells (info_text (tail_of allow_cut) (map bytes_of files.now))
-        (first_refusal (tail_of allow_cut) 1 (map bytes_of files.now)))
+        → JobEnds (Tells (info_text (tail_of allow_cut) (map file_bytes files.now))
+        (first_refusal (tail_of allow_cut) 1 (map file_bytes files.now)))
         text.new.len result place.new text.new.handle.kept.value }
     ensures read { result ≡ 3 → ⊥ }
     ensures misuse { ((1 ≤ length files.now) × (length files.now ≤ 32) → ⊥)
@@ -191,9 +192,10 @@ fn make_merge(
 ) -> Result<(), Fault>
     requires some { 1 ≤ length files.now }
     requires most { length files.now ≤ 32 }
-    ensures text { Prints (merge_text order tail (map bytes_of files.now)) (merge_refusal tail (map bytes_of files.now))
+    ensures text { Prints (merge_text order tail (map file_bytes files.now))
+        (merge_refusal tail (map file_bytes files.now))
         (⟦<Grown as Sink>⟧.held sink.old) result (⟦<Grown as Sink>⟧.held sink.new) }
-    ensures read { IsRead result → ⊥ }
+    ensures read { IsReadFault result → ⊥ }
 {
     let sources = slices(alloc, files)?;
     merge_to(alloc, sources, tail, order, sink)
@@ -210,8 +212,8 @@ pub extern "C" fn capt_merge(
     place: &mut Place,
 ) -> u32
     ensures text { (1 ≤ length files.now) × (length files.now ≤ 32)
-        → Ends (Prints (merge_text (order_of big) (tail_of allow_cut) (map bytes_of files.now))
-        (merge_refusal (tail_of allow_cut) (map bytes_of files.now)))
+        → JobEnds (Prints (merge_text (order_of big) (tail_of allow_cut) (map file_bytes files.now))
+        (merge_refusal (tail_of allow_cut) (map file_bytes files.now)))
         text.new.len result place.new text.new.handle.kept.value }
     ensures read { result ≡ 3 → ⊥ }
     ensures misuse { ((1 ≤ length files.now) × (length files.now ≤ 32) → ⊥)
@@ -235,9 +237,10 @@ fn make_join(
 ) -> Result<(), Fault>
     requires some { 1 ≤ length files.now }
     requires most { length files.now ≤ 32 }
-    ensures text { Prints (join_text order tail (map bytes_of files.now)) (join_refusal tail (map bytes_of files.now))
+    ensures text { Prints (join_text order tail (map file_bytes files.now))
+        (join_refusal tail (map file_bytes files.now))
         (⟦<Grown as Sink>⟧.held sink.old) result (⟦<Grown as Sink>⟧.held sink.new) }
-    ensures read { IsRead result → ⊥ }
+    ensures read { IsReadFault result → ⊥ }
 {
     let sources = slices(alloc, files)?;
     join_to(alloc, sources, tail, order, sink)
@@ -254,8 +257,8 @@ pub extern "C" fn capt_join(
     place: &mut Place,
 ) -> u32
     ensures text { (1 ≤ length files.now) × (length files.now ≤ 32)
-        → Ends (Prints (join_text (order_of big) (tail_of allow_cut) (map bytes_of files.now))
-        (join_refusal (tail_of allow_cut) (map bytes_of files.now)))
+        → JobEnds (Prints (join_text (order_of big) (tail_of allow_cut) (map file_bytes files.now))
+        (join_refusal (tail_of allow_cut) (map file_bytes files.now)))
         text.new.len result place.new text.new.handle.kept.value }
     ensures read { result ≡ 3 → ⊥ }
     ensures misuse { ((1 ≤ length files.now) × (length files.now ≤ 32) → ⊥)
@@ -278,7 +281,8 @@ pub extern "C" fn capt_list(
     text: &mut Text,
     place: &mut Place,
 ) -> u32
-    ensures text { Ends (Prints (list_text (tail_of allow_cut) bytes.now) (list_refusal (tail_of allow_cut) bytes.now))
+    ensures text { JobEnds (Prints (list_text (tail_of allow_cut) bytes.now)
+        (list_refusal (tail_of allow_cut) bytes.now))
         text.new.len result place.new text.new.handle.kept.value }
     ensures read { result ≡ 3 → ⊥ }
 {
@@ -296,7 +300,7 @@ pub extern "C" fn capt_blocks(
     text: &mut Text,
     place: &mut Place,
 ) -> u32
-    ensures text { Ends (Prints (block_list (tail_of allow_cut) bytes.now)
+    ensures text { JobEnds (Prints (block_list (tail_of allow_cut) bytes.now)
         (block_refusal (tail_of allow_cut) bytes.now))
         text.new.len result place.new text.new.handle.kept.value }
     ensures read { result ≡ 3 → ⊥ }
@@ -317,7 +321,7 @@ pub extern "C" fn capt_convert(
     text: &mut Text,
     place: &mut Place,
 ) -> u32
-    ensures text { Ends (Prints (convert_text (format_of pcap) (order_of big) (tail_of allow_cut) bytes.now)
+    ensures text { JobEnds (Prints (convert_text (format_of pcap) (order_of big) (tail_of allow_cut) bytes.now)
         (convert_refusal (format_of pcap) (tail_of allow_cut) bytes.now))
         text.new.len result place.new text.new.handle.kept.value }
     ensures read { result ≡ 3 → ⊥ }

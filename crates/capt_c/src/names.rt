@@ -3,8 +3,8 @@ ghost use Rattle.std.specs.Prelude.{◌≡◌, ◌<◌, ◌⊎◌, IfSome, None,
 ghost use Rattle.cap_bytes.specs.Rules.{rule_number};
 ghost use Rattle.cap_bytes.specs.declared.faults.Fault.{Fault};
 ghost use Rattle.cap_tool.specs.Outcomes.{fault_text};
-ghost use Rattle.capt_c.specs.Answers.{status_of, place_of};
-ghost use Rattle.capt_c.specs.Names.{Names, PutsText};
+ghost use Rattle.capt_c.specs.Answers.{status_of, place_of_fault};
+ghost use Rattle.capt_c.specs.Names.{NamesRule, PutsText};
 
 use crate::answers::{MEMORY, Place, READ, REFUSED, WRITE};
 use cap_bytes::{Fault, Refusal, Rule};
@@ -60,7 +60,7 @@ fn put(text: &[u8], buffer: &mut [u8]) -> usize
 /// such rule.
 #[unsafe(no_mangle)]
 pub extern "C" fn capt_rule_name(rule: u32, buffer: &mut [u8]) -> usize
-    ensures { Names rule result (length buffer.old) buffer.new }
+    ensures { NamesRule rule result (length buffer.old) buffer.new }
 {
     match rule_of(rule) {
         Some(rule) => put(rule.name().as_bytes(), buffer),
@@ -70,7 +70,7 @@ pub extern "C" fn capt_rule_name(rule: u32, buffer: &mut [u8]) -> usize
 
 // The fault that a status and a place tell, if they tell one.
 fn fault_of(status: u32, place: &Place) -> Option<Fault>
-    ensures some { (fault : Fault) → status_of fault ≡ status → place_of fault ≡ place.now → result ≡ Some fault }
+    ensures some { (fault : Fault) → status_of fault ≡ status → place_of_fault fault ≡ place.now → result ≡ Some fault }
     ensures none { ((fault : Fault) → status_of fault ≡ status → ⊥) → result ≡ None }
 {
     if status == REFUSED {
@@ -100,7 +100,7 @@ fn fault_of(status: u32, place: &Place) -> Option<Fault>
 /// tell, with its end, and answers how long the line is: 0 if the status tells no fault.
 #[unsafe(no_mangle)]
 pub extern "C" fn capt_error_text(status: u32, place: &Place, buffer: &mut [u8]) -> usize
-    ensures text { (fault : Fault) → status_of fault ≡ status → place_of fault ≡ place.now
+    ensures text { (fault : Fault) → status_of fault ≡ status → place_of_fault fault ≡ place.now
         → PutsText (fault_text fault) result (length buffer.old) buffer.new }
     ensures none { ((fault : Fault) → status_of fault ≡ status → ⊥) → result ≡ 0 }
 {

@@ -1,6 +1,6 @@
 //! Packets as a caller sees them.
 ghost use Rattle.std.specs.Prelude.{◌≡◌, ◌≤ℤ◌, ◌<ℤ◌, ◌^◌, ◌+ℤ◌, ◌*ℤ◌, pos, neg_ℤ};
-ghost use Rattle.capt_c.specs.Packets.{Shows, ShowsTime};
+ghost use Rattle.capt_c.specs.Packets.{ShowsFields, ShowsTime};
 
 use cap_source::Meta;
 use cap_time::Stamp;
@@ -93,7 +93,7 @@ pub fn start_of(bytes: &[u8]) -> *const u8 {
 /// A packet whose captured bytes are there.
 #[inline(always)]
 pub fn packet_of(meta: &Meta, frame: &[u8]) -> Packet
-    ensures { Shows meta.now result }
+    ensures { ShowsFields meta.now result }
 {
     let time = time_of(meta);
     Packet {

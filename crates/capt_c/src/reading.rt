@@ -1,12 +1,13 @@
 //! A capture that is read packet by packet.
 ghost use Rattle.std.specs.Prelude.{◌≡◌, ◌<◌, [], Result, Some, None, true, false, length};
-ghost use Rattle.cap_source.specs.Feed.{GivesHead, Keeps};
+ghost use Rattle.cap_source.specs.Feed.{GivesHead, FeedKeeps};
 ghost use Rattle.cap_bytes.specs.declared.faults.Fault.{Fault};
 ghost use Rattle.cap_source.specs.declared.feeds.Head.{Head};
 ghost use Rattle.capt_c.specs.Answers.{tail_of};
-ghost use Rattle.capt_c.specs.Packets.{Steps};
-ghost use Rattle.capt_c.specs.Sources.{tells_of, coming_of, can_fail_of};
-ghost use Rattle.capt_c.specs.Reading.{Nexts, NextsMany, Opens, EndTold, TellsEnd, status_of_step, place_of_step};
+ghost use Rattle.capt_c.specs.Packets.{StepsPacket};
+ghost use Rattle.capt_c.specs.Sources.{tells_of, input_coming, input_can_fail};
+ghost use Rattle.capt_c.specs.Reading.{Nexts, NextsMany, OpensCapture, EndTold, TellsEnd, status_of_step};
+ghost use Rattle.capt_c.specs.Reading.{place_of_step};
 
 use crate::answers::{DONE, MEMORY, MISUSE, PACKET, Place, nowhere, place_of, status_of, tail_of};
 use crate::batches::step_many;
@@ -21,8 +22,8 @@ use std::io::Stdin;
 /// Tells the next packet and passes it, if there is one.
 #[inline(always)]
 pub fn step<F: PacketFeed>(feed: &mut F, packet: &mut Packet) -> Result<bool, Fault>
-    ensures answer { Steps (F.feed feed.old) result packet.new (F.feed feed.new) }
-    ensures keeps { Keeps (F.feed feed.old) (F.feed feed.new) }
+    ensures answer { StepsPacket (F.feed feed.old) result packet.new (F.feed feed.new) }
+    ensures keeps { FeedKeeps (F.feed feed.old) (F.feed feed.new) }
 {
     match next_packet(feed)? {
         Some(meta) => {
@@ -76,8 +77,8 @@ pub struct End {
 
 // Opens a capture over what `input` gives. What the handle held is let go.
 fn open(alloc: Global, reader: &mut Handle, input: Input, allow_cut: bool) -> u32
-    ensures { Opens (λ c. ⟦<Capture<Input> as PacketFeed>⟧.feed c) (tail_of allow_cut)
-        (tells_of input) (coming_of input) (can_fail_of input) result reader.new.kept.value }
+    ensures { OpensCapture (λ c. ⟦<Capture<Input> as PacketFeed>⟧.feed c) (tail_of allow_cut)
+        (tells_of input) (input_coming input) (input_can_fail input) result reader.new.kept.value }
 {
     let capture = Capture::new(alloc, input, 1, tail_of(allow_cut));
     if reader.hold(alloc, Held::Capture(capture)) {
@@ -95,7 +96,7 @@ pub extern "C" fn capt_open(
     bytes: &'static [u8],
     allow_cut: bool,
 ) -> u32
-    ensures { Opens (λ c. ⟦<Capture<Input> as PacketFeed>⟧.feed c) (tail_of allow_cut)
+    ensures { OpensCapture (λ c. ⟦<Capture<Input> as PacketFeed>⟧.feed c) (tail_of allow_cut)
         true bytes.now false result reader.new.kept.value }
 {
     open(alloc, reader, Input::Memory(Slice::new(bytes)), allow_cut)
@@ -109,7 +110,7 @@ pub extern "C" fn capt_open_stdin(
     reader: &mut Handle,
     allow_cut: bool,
 ) -> u32
-    ensures { Opens (λ c. ⟦<Capture<Input> as PacketFeed>⟧.feed c) (tail_of allow_cut)
+    ensures { OpensCapture (λ c. ⟦<Capture<Input> as PacketFeed>⟧.feed c) (tail_of allow_cut)
         false [] true result reader.new.kept.value }
 {
     open(
@@ -201,7 +202,7 @@ fn tell_end(capture: &mut Capture<Input>, ending: &mut End) -> u32
         × GivesHead (⟦<Capture<Input> as PacketFeed>⟧.feed capture.old) answer
         (⟦<Capture<Input> as PacketFeed>⟧.feed capture.new)
         × EndTold (⟦<Capture<Input> as PacketFeed>⟧.feed capture.new) answer result ending.new }
-    ensures keeps { Keeps (⟦<Capture<Input> as PacketFeed>⟧.feed capture.old)
+    ensures keeps { FeedKeeps (⟦<Capture<Input> as PacketFeed>⟧.feed capture.old)
         (⟦<Capture<Input> as PacketFeed>⟧.feed capture.new) }
 {
     match capture.head() {

@@ -60,11 +60,11 @@ pub enum Input {
 }
 
 impl Device for Input {
-    ghost use Rattle.capt_c.specs.Sources.{has_failed_of, can_fail_of};
+    ghost use Rattle.capt_c.specs.Sources.{has_failed_of, input_can_fail};
 
     ghost has_failed = { has_failed_of };
 
-    ghost can_fail = { can_fail_of };
+    ghost can_fail = { input_can_fail };
 
     fn failed(&self) -> bool {
         match self {
@@ -76,11 +76,11 @@ impl Device for Input {
 
 impl Source for Input {
     ghost use Rattle.std.specs.Prelude.{None};
-    ghost use Rattle.capt_c.specs.Sources.{tells_of, coming_of};
+    ghost use Rattle.capt_c.specs.Sources.{tells_of, input_coming};
 
     ghost tells_coming = { tells_of };
 
-    ghost coming = { coming_of };
+    ghost coming = { input_coming };
 
     ghost most = { λ _. None };
 

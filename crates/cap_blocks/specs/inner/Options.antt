@@ -6,10 +6,10 @@ use Rattle.cap_blocks.specs.OptionList.{OptionItem, options_of}
 use Rattle.cap_blocks.specs.declared.options.Options.{Options}
 
 -- the options to come
-abbrev pub items_of : Options → List OptionItem
-items_of options = options_of options.order options.rest.now
+abbrev pub options_to_come : Options → List OptionItem
+options_to_come options = options_of options.order options.rest.now
 
 -- an option without where its value lies in memory
-abbrev pub item_of : Result (ℕ × Bor (List ℕ)) Rule → OptionItem
-item_of (Ok option) = Ok (option.0, option.1.now)
-item_of (Err rule) = Err rule
+abbrev pub option_item : Result (ℕ × Bor (List ℕ)) Rule → OptionItem
+option_item (Ok option) = Ok (option.0, option.1.now)
+option_item (Err rule) = Err rule

@@ -1,24 +1,25 @@
 -- What a reader of a pcapng file is at one moment, and what its calls do.
 use Rattle.std.specs.Prelude.{◌≡◌, ◌+◌, ◌^◌, ◌≤◌, ℕ, List, ◌∷◌, length, Bool, true, false, IsTrue, Option, Some, None}
 use Rattle.std.specs.Prelude.{option_map, is_some, IfSome, Result}
-use Rattle.cap_bytes.specs.Items.{Item, given, items_by_stop}
+use Rattle.cap_bytes.specs.Items.{PieceItem, given, items_by_stop}
 use Rattle.cap_bytes.specs.Items as items
 use Rattle.cap_bytes.specs.inner.Reach.{Reaches}
-use Rattle.cap_bytes.specs.inner.Reader.{State, Gives}
+use Rattle.cap_bytes.specs.inner.Reader.{ReaderState, Gives}
 use Rattle.cap_bytes.specs.inner.Reader as readers
-use Rattle.cap_bytes.specs.inner.Window.{State as WindowState}
+use Rattle.cap_bytes.specs.inner.Window.{WindowState}
 use Rattle.cap_bytes.specs.declared.faults.Fault.{Fault}
 use Rattle.cap_bytes.specs.declared.faults.Tail.{Tail}
 use Rattle.cap_bytes.specs.declared.numbers.Order.{Order}
 use Rattle.cap_bytes.specs.declared.stops.Stop.{Stop}
-use Rattle.cap_blocks.specs.Grammar.{is_known, is_total}
-use Rattle.cap_blocks.specs.Split.{block_at, block_fault, body_in, stop_at, wanted_at, LacksRoom, items_from}
+use Rattle.cap_blocks.specs.Grammar.{is_known_kind, is_total}
+use Rattle.cap_blocks.specs.Split.{block_at, block_fault, body_in, block_stop_at, wanted_at, LacksRoom}
+use Rattle.cap_blocks.specs.Split.{block_items_from}
 use Rattle.cap_blocks.specs.declared.blocks.Block.{Block}
 
 -- the items to come
-abbrev pub items_of : State Order → List (Item Block)
-items_of reader = items_by_stop reader.stop
-    (items_from reader.known reader.tail reader.file reader.offset reader.coming)
+abbrev pub blocks_to_come : ReaderState Order → List (PieceItem Block)
+blocks_to_come reader = items_by_stop reader.stop
+    (block_items_from reader.known reader.tail reader.file reader.offset reader.coming)
 
 -- how many bytes a block takes
 abbrev pub block_size : Block → ℕ
@@ -26,39 +27,39 @@ block_size block = block.total
 
 -- A block is given, whose bytes stand at the front of the bytes to come. Its body is lent if its kind
 -- is known.
-pub record GivesBlock (old : State Order) (block : Block) (new : State Order) : Type 0 where
+pub record GivesBlock (old : ReaderState Order) (block : Block) (new : ReaderState Order) : Type 0 where
   pub gives : Gives (Some block.order) block.total old new
   pub offset : block.offset ≡ old.offset
   pub allowed : IsTrue (is_total block.kind block.total)
   pub least : 12 ≤ block.total
-  pub known : is_some new.lent ≡ is_known block.kind
+  pub known : is_some new.lent ≡ is_known_kind block.kind
   pub size : IfSome new.lent (λ body. length body + 12 ≡ block.total)
-  pub none : IsTrue old.told → stop_at old.known old.tail old.file old.offset old.coming ≡ None
+  pub none : IsTrue old.told → block_stop_at old.known old.tail old.file old.offset old.coming ≡ None
   pub block_is : IsTrue old.told → block ≡ block_at old.known old.offset old.coming
   pub body_is : IsTrue old.told → IfSome new.lent (λ body. body ≡ body_in block.total old.coming)
 
 -- what `next_block` answers
-abbrev pub GivesNext : State Order → Result (Option Block) Fault → State Order → Type 0
-GivesNext old result new =
-    readers.GivesNext (λ block. GivesBlock old block new) (is_some old.known)
+abbrev pub GivesNextBlock : ReaderState Order → Result (Option Block) Fault → ReaderState Order → Type 0
+GivesNextBlock old result new =
+    readers.GivesNextPiece (λ block. GivesBlock old block new) (is_some old.known)
     (block_fault old.known old.offset old.coming)
     524288 (LacksRoom old.known old.offset old.coming old.room) old result new
 
 -- how far it reads
-abbrev pub ReachesNext : State Order → Result (Option Block) Fault → State Order → Type 0
-ReachesNext old result new =
+abbrev pub ReachesBlock : ReaderState Order → Result (Option Block) Fault → ReaderState Order → Type 0
+ReachesBlock old result new =
     Reaches (option_map block_size) (wanted_at old.known old.offset old.coming) (readers.position old) result new.read
 
 -- what it does to the items to come
-abbrev pub TakesItem : State Order → Result (Option Block) Fault → State Order → Type 0
-TakesItem old result new =
-    items.TakesItem (λ block. items_of old ≡ given block (body_in block.total old.coming) ∷ items_of new)
-    (items_of old) result (items_of new)
+abbrev pub TakesBlock : ReaderState Order → Result (Option Block) Fault → ReaderState Order → Type 0
+TakesBlock old result new =
+    items.TakesPiece (λ block. blocks_to_come old ≡ given block (body_in block.total old.coming) ∷ blocks_to_come new)
+    (blocks_to_come old) result (blocks_to_come new)
 
 -- how many bytes the block takes that was given last and that the window still shows
-abbrev pub size_of : Option ℕ → ℕ
-size_of None = 0
-size_of (Some total) = total
+abbrev pub shown_block_size : Option ℕ → ℕ
+shown_block_size None = 0
+shown_block_size (Some total) = total
 
 -- its body
 abbrev pub body_of : Option ℕ → List ℕ → Option (List ℕ)
@@ -72,13 +73,13 @@ shown_size false total = None
 
 -- a reader by the window over its file, its tail, the section's order, the total length of the block that
 -- was given last and that the window still shows, and what ended the blocks
-abbrev pub state_of : WindowState → Tail → Option Order → Option ℕ → Option Stop → State Order
-state_of window tail section shown stop = readers.state_of window tail section (size_of shown)
+abbrev pub block_reader_state : WindowState → Tail → Option Order → Option ℕ → Option Stop → ReaderState Order
+block_reader_state window tail section shown stop = readers.reader_state window tail section (shown_block_size shown)
     (body_of shown window.shown) stop
 
 -- what a reader's fields always meet
-pub record IsSound (given : Option ℕ) (shown offset held : ℕ) : Type 0 where
+pub record IsSoundBlockReader (given : Option ℕ) (shown offset held : ℕ) : Type 0 where
   pub least : IfSome given (λ total. 12 ≤ total)
-  pub within : size_of given ≤ shown
-  pub limit : offset + size_of given ≤ 2 ^ 40
+  pub within : shown_block_size given ≤ shown
+  pub limit : offset + shown_block_size given ≤ 2 ^ 40
   pub held_limit : held ≤ 524288

@@ -2,7 +2,7 @@
 use Rattle.std.specs.Prelude.{◌≡◌, ◌+◌, ◌^◌, ◌≤◌, ◌<◌, ℕ, List, drop, Bool, IsTrue, Option, Some, None, IfSome, IfNone}
 use Rattle.std.specs.Prelude.{IsSome, Result, Ok, Err}
 use Rattle.cap_bytes.specs.inner.Reach.{Position}
-use Rattle.cap_bytes.specs.inner.Window.{State as WindowState}
+use Rattle.cap_bytes.specs.inner.Window.{WindowState}
 use Rattle.cap_bytes.specs.inner.Window as windows
 use Rattle.cap_bytes.specs.Items.{stop_where, IsStopAt, IsEnd}
 use Rattle.cap_bytes.specs.declared.faults.Fault.{Fault}
@@ -19,7 +19,7 @@ use Rattle.cap_bytes.specs.declared.stops.Stop.TheVariants as stops
 -- that was given last, until the next is asked for. `stop` is what ended the pieces, once something has. `broken` is
 -- where the piece began at which a read failed, once one has. `held` bytes are kept in the window, which has room
 -- for `room`.
-pub record State (K : Type 0) : Type 0 where
+pub record ReaderState (K : Type 0) : Type 0 where
   pub file : ℕ
   pub tail : Tail
   pub known : Option K
@@ -37,8 +37,8 @@ pub record State (K : Type 0) : Type 0 where
   pub room : ℕ
 
 -- a new reader
-abbrev pub opened : {K : Type 0} → WindowState → Tail → State K
-opened window tail =
+abbrev pub opened_reader : {K : Type 0} → WindowState → Tail → ReaderState K
+opened_reader window tail =
     record {
       file = window.file;
       tail = tail;
@@ -58,7 +58,7 @@ opened window tail =
     }
 
 -- how far the file was read for the next piece
-abbrev pub position : {K : Type 0} → State K → Position
+abbrev pub position : {K : Type 0} → ReaderState K → Position
 position reader =
     record {
       offset = reader.offset;
@@ -69,7 +69,7 @@ position reader =
     }
 
 -- what every answer of every call keeps
-pub record Keeps {K : Type 0} (old new : State K) : Type 0 where
+pub record ReaderKeeps {K : Type 0} (old new : ReaderState K) : Type 0 where
   pub file : new.file ≡ old.file
   pub tail : new.tail ≡ old.tail
   pub known : IsSome old.known → IsSome new.known
@@ -83,7 +83,7 @@ pub record Keeps {K : Type 0} (old new : State K) : Type 0 where
   pub held : new.held ≤ 524288
 
 -- Nothing had ended the pieces, and no read has failed nor does.
-pub record Goes {K : Type 0} (old new : State K) : Type 0 where
+pub record ReaderGoes {K : Type 0} (old new : ReaderState K) : Type 0 where
   pub stop : old.stop ≡ None
   pub before : old.broken ≡ None
   pub after : new.broken ≡ None
@@ -91,7 +91,7 @@ pub record Goes {K : Type 0} (old new : State K) : Type 0 where
 
 -- A read fails in this call, or failed in an earlier one: then the file and the offset are the same. The
 -- offset is where the piece begins that was being read, also if it is one that is skipped.
-pub record Breaks {K : Type 0} (old : State K) (file offset : ℕ) (new : State K) : Type 0 where
+pub record ReaderBreaks {K : Type 0} (old : ReaderState K) (file offset : ℕ) (new : ReaderState K) : Type 0 where
   pub file_is : file ≡ old.file
   pub again : IfSome old.broken (λ first. offset ≡ first)
   pub first : IfNone old.broken (offset ≡ old.offset)
@@ -103,8 +103,8 @@ pub record Breaks {K : Type 0} (old : State K) (file offset : ℕ) (new : State 
   pub stop_after : new.stop ≡ None
 
 -- Nothing was given, since a growth to that many bytes at most was refused. What is to come is the same.
-pub record Waits {K : Type 0} (size : ℕ) (old new : State K) : Type 0 where
-  pub goes : Goes old new
+pub record ReaderWaits {K : Type 0} (size : ℕ) (old new : ReaderState K) : Type 0 where
+  pub goes : ReaderGoes old new
   pub stop : new.stop ≡ None
   pub known_same : new.known ≡ old.known
   pub offset_same : new.offset ≡ old.offset
@@ -112,41 +112,43 @@ pub record Waits {K : Type 0} (size : ℕ) (old new : State K) : Type 0 where
   pub grown : old.room < size
 
 -- That many bytes are read, which stand at the front of the bytes to come.
-pub record Gives {K : Type 0} (known : Option K) (size : ℕ) (old new : State K) : Type 0 where
-  pub goes : Goes old new
+pub record Gives {K : Type 0} (known : Option K) (size : ℕ) (old new : ReaderState K) : Type 0 where
+  pub goes : ReaderGoes old new
   pub stop : new.stop ≡ None
   pub known_is : new.known ≡ known
   pub next : new.offset ≡ old.offset + size
   pub coming_next : IsTrue old.told → new.coming ≡ drop size old.coming
 
 -- The pieces end, as the bytes to come tell, which meet that condition, if one.
-pub record Stops {K : Type 0} (inside : Bool) (fault : Option Rule) (stop : Stop) (old new : State K) : Type 0 where
-  pub goes : Goes old new
+pub record ReaderStops {K : Type 0} (inside : Bool) (fault : Option Rule) (stop : Stop) (old new : ReaderState K) :
+    Type 0 where
+  pub goes : ReaderGoes old new
   pub known_same : new.known ≡ old.known
   pub is_stop : IsStopAt inside old.tail old.file old.offset stop
   pub told_stop : IsTrue old.told → stop_where inside old.tail old.file old.offset old.coming fault ≡ Some stop
 
 -- What ended the pieces comes: now, or again.
-pub record GivesStop {K : Type 0} (inside : Bool) (fault : Option Rule) (stop : Stop) (old new : State K) : Type 0 where
+pub record GivesStop {K : Type 0} (inside : Bool) (fault : Option Rule) (stop : Stop) (old new : ReaderState K) : Type
+    0 where
   pub stop_is : new.stop ≡ Some stop
   pub again : IfSome old.stop (λ first. (stop ≡ first) × (new ≡ old))
-  pub first : IfNone old.stop (Stops inside fault stop old new)
+  pub first : IfNone old.stop (ReaderStops inside fault stop old new)
 
 -- What a call for a piece answers: a piece that comes in this way, what ended the pieces, or a fault, that of a growth
 -- to `size` bytes only if there is less room than is told.
-abbrev pub GivesNext : {K P : Type 0} → (P → Type 0) → Bool → Option Rule → ℕ → Type 0 → State K
-    → Result (Option P) Fault → State K → Type 0
-GivesNext Comes inside fault size Lacks old (Ok (Some piece)) new = Comes piece
-GivesNext Comes inside fault size Lacks old (Ok None) new = (stop : Stop) × IsEnd stop
+abbrev pub GivesNextPiece : {K P : Type 0} → (P → Type 0) → Bool → Option Rule → ℕ → Type 0 → ReaderState K
+    → Result (Option P) Fault → ReaderState K → Type 0
+GivesNextPiece Comes inside fault size Lacks old (Ok (Some piece)) new = Comes piece
+GivesNextPiece Comes inside fault size Lacks old (Ok None) new = (stop : Stop) × IsEnd stop
     × GivesStop inside fault stop old new
-GivesNext Comes inside fault size Lacks old (Err (Refused refusal)) new =
+GivesNextPiece Comes inside fault size Lacks old (Err (Refused refusal)) new =
     GivesStop inside fault (stops.Refused refusal) old new
-GivesNext Comes inside fault size Lacks old (Err (Read file offset)) new = Breaks old file offset new
-GivesNext Comes inside fault size Lacks old (Err Memory) new = Waits size old new × (IsTrue old.told → Lacks)
-GivesNext Comes inside fault size Lacks old (Err Write) new = ⊥
+GivesNextPiece Comes inside fault size Lacks old (Err (Read file offset)) new = ReaderBreaks old file offset new
+GivesNextPiece Comes inside fault size Lacks old (Err Memory) new = ReaderWaits size old new × (IsTrue old.told → Lacks)
+GivesNextPiece Comes inside fault size Lacks old (Err Write) new = ⊥
 
 -- The window of a reader, which still has what is shown of the piece that was given last.
-pub record HasWindow {K : Type 0} (reader : State K) (window : WindowState) : Type 0 where
+pub record HasWindow {K : Type 0} (reader : ReaderState K) (window : WindowState) : Type 0 where
   pub file : window.file ≡ reader.file
   pub offset : window.offset ≤ reader.offset
   pub read : windows.read_to window ≡ reader.read
@@ -160,8 +162,9 @@ pub record HasWindow {K : Type 0} (reader : State K) (window : WindowState) : Ty
 
 -- A reader by the window over its file, its tail, what is known, how many bytes the window still shows of the piece
 -- that was given last, what is lent of it, and what ended the pieces.
-abbrev pub state_of : {K : Type 0} → WindowState → Tail → Option K → ℕ → Option (List ℕ) → Option Stop → State K
-state_of window tail known size lent stop =
+abbrev pub reader_state : {K : Type 0} → WindowState → Tail → Option K → ℕ → Option (List ℕ) → Option Stop
+    → ReaderState K
+reader_state window tail known size lent stop =
     record {
       file = window.file;
       tail = tail;

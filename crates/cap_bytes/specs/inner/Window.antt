@@ -9,7 +9,7 @@ use Rattle.cap_bytes.specs.declared.faults.Fault.TheVariants.{Refused, Read, Wri
 -- A window shows the bytes `shown` of the input, which begin at `offset`. After them come those that the reader still
 -- gives, `unread`, if it tells them, at most `most` at a time, if it tells that. `broken` is the offset at which a read
 -- failed, once one has. `held` bytes are kept in its buffer, which has room for `room`.
-pub record State : Type 0 where
+pub record WindowState : Type 0 where
   pub file : ℕ
   pub offset : ℕ
   pub shown : List ℕ
@@ -23,15 +23,15 @@ pub record State : Type 0 where
   pub room : ℕ
 
 -- the bytes to come
-abbrev pub coming : State → List ℕ
+abbrev pub coming : WindowState → List ℕ
 coming window = window.shown ++ window.unread
 
 -- up to where the input was read
-abbrev pub read_to : State → ℕ
+abbrev pub read_to : WindowState → ℕ
 read_to window = window.offset + length window.shown
 
 -- how far it was read for the piece that begins with the bytes to come
-abbrev pub position : State → Position
+abbrev pub position : WindowState → Position
 position window =
     record {
       offset = window.offset;
@@ -42,8 +42,8 @@ position window =
     }
 
 -- a new window, of which nothing has been read
-abbrev pub opened : ℕ → SourceState → State
-opened file source =
+abbrev pub opened_window : ℕ → SourceState → WindowState
+opened_window file source =
     record {
       file = file;
       offset = 0;
@@ -59,7 +59,7 @@ opened file source =
     }
 
 -- what every answer of every call keeps
-pub record Keeps (old new : State) : Type 0 where
+pub record WindowKeeps (old new : WindowState) : Type 0 where
   pub file : new.file ≡ old.file
   pub offset : old.offset ≤ new.offset
   pub told : IsTrue old.told → IsTrue new.told
@@ -71,20 +71,20 @@ pub record Keeps (old new : State) : Type 0 where
   pub held_room : new.held ≤ new.room
 
 -- No read has failed, and none does.
-pub record Goes (old new : State) : Type 0 where
+pub record WindowGoes (old new : WindowState) : Type 0 where
   pub before : old.broken ≡ None
   pub after : new.broken ≡ None
   pub failed : new.failed ≡ old.failed
 
 -- The bytes to come are the same, and those that were shown still are.
-pub record Shows (old new : State) : Type 0 where
-  pub goes : Goes old new
+pub record WindowShows (old new : WindowState) : Type 0 where
+  pub goes : WindowGoes old new
   pub offset : new.offset ≡ old.offset
   pub front : take (length old.shown) new.shown ≡ old.shown
   pub coming_same : IsTrue old.told → coming new ≡ coming old
 
 -- A read fails in this call, or failed in an earlier one: then the file and the offset are the same.
-pub record Breaks (old : State) (file offset : ℕ) (new : State) : Type 0 where
+pub record WindowBreaks (old : WindowState) (file offset : ℕ) (new : WindowState) : Type 0 where
   pub file_is : file ≡ old.file
   pub again : IfSome old.broken (λ first. offset ≡ first)
   pub first : IfNone old.broken ((offset ≡ new.offset) × (IsTrue new.failed))
@@ -93,17 +93,17 @@ pub record Breaks (old : State) (file offset : ℕ) (new : State) : Type 0 where
   pub can_fail : IsTrue old.can_fail
 
 -- The next n bytes are there, or the input ends before them. A read fails only if fewer are shown.
-abbrev pub Needs : ℕ → State → Result Bool Fault → State → Type 0
-Needs n old (Ok true) new = Shows old new × (n ≤ length new.shown)
-Needs n old (Ok false) new = Shows old new × (length new.shown < n) × (IsTrue old.told → new.unread ≡ [])
+abbrev pub Needs : ℕ → WindowState → Result Bool Fault → WindowState → Type 0
+Needs n old (Ok true) new = WindowShows old new × (n ≤ length new.shown)
+Needs n old (Ok false) new = WindowShows old new × (length new.shown < n) × (IsTrue old.told → new.unread ≡ [])
 Needs n old (Err (Read file offset)) new =
-    Breaks old file offset new × (new.offset ≡ old.offset) × IfNone old.broken (length new.shown < n)
-Needs n old (Err Memory) new = Shows old new × (old.room < n)
+    WindowBreaks old file offset new × (new.offset ≡ old.offset) × IfNone old.broken (length new.shown < n)
+Needs n old (Err Memory) new = WindowShows old new × (old.room < n)
 Needs n old (Err Write) new = ⊥
 Needs n old (Err (Refused refusal)) new = ⊥
 
 -- The first n bytes that are shown are dropped.
-pub record Passes (n : ℕ) (old new : State) : Type 0 where
+pub record WindowPasses (n : ℕ) (old new : WindowState) : Type 0 where
   pub file : new.file ≡ old.file
   pub offset : new.offset ≡ old.offset + n
   pub shown : new.shown ≡ drop n old.shown
@@ -116,8 +116,8 @@ pub record Passes (n : ℕ) (old new : State) : Type 0 where
   pub room : new.room ≡ old.room
 
 -- The next n bytes are dropped.
-pub record Drops (n : ℕ) (old new : State) : Type 0 where
-  pub goes : Goes old new
+pub record WindowDrops (n : ℕ) (old new : WindowState) : Type 0 where
+  pub goes : WindowGoes old new
   pub offset : new.offset ≡ old.offset + n
   pub room : 12 ≤ new.room
   pub shown : n ≤ length old.shown → new.shown ≡ drop n old.shown
@@ -125,8 +125,8 @@ pub record Drops (n : ℕ) (old new : State) : Type 0 where
   pub coming_dropped : IsTrue old.told → coming new ≡ drop n (coming old)
 
 -- All bytes to come are dropped, which are fewer than n.
-pub record DropsAll (n : ℕ) (old new : State) : Type 0 where
-  pub goes : Goes old new
+pub record DropsAll (n : ℕ) (old new : WindowState) : Type 0 where
+  pub goes : WindowGoes old new
   pub fewer : new.offset < old.offset + n
   pub room : 12 ≤ new.room
   pub shown : new.shown ≡ []
@@ -135,17 +135,17 @@ pub record DropsAll (n : ℕ) (old new : State) : Type 0 where
   pub unread : IsTrue old.told → new.unread ≡ []
 
 -- The next n bytes are dropped, or all that come, or nothing. A read fails only before the last of the n came.
-abbrev pub Skips : ℕ → State → Result Bool Fault → State → Type 0
-Skips n old (Ok true) new = Drops n old new
+abbrev pub Skips : ℕ → WindowState → Result Bool Fault → WindowState → Type 0
+Skips n old (Ok true) new = WindowDrops n old new
 Skips n old (Ok false) new = DropsAll n old new
-Skips n old (Err (Read file offset)) new = Breaks old file offset new × (new.offset ≤ old.offset + n)
+Skips n old (Err (Read file offset)) new = WindowBreaks old file offset new × (new.offset ≤ old.offset + n)
     × IfNone old.broken (read_to new < old.offset + n)
-Skips n old (Err Memory) new = Shows old new × (old.room < 12)
+Skips n old (Err Memory) new = WindowShows old new × (old.room < 12)
 Skips n old (Err Write) new = ⊥
 Skips n old (Err (Refused refusal)) new = ⊥
 
 -- A read that failed is told with that offset.
-pub record FailsAt (offset : ℕ) (old new : State) : Type 0 where
+pub record FailsAt (offset : ℕ) (old new : WindowState) : Type 0 where
   pub file : new.file ≡ old.file
   pub offset_same : new.offset ≡ old.offset
   pub shown : new.shown ≡ old.shown
@@ -158,7 +158,7 @@ pub record FailsAt (offset : ℕ) (old new : State) : Type 0 where
   pub room : new.room ≡ old.room
 
 -- what a window's fields always meet
-pub record IsSound (start end length offset : ℕ) (broken : Option ℕ) (failed : Bool) : Type 0 where
+pub record IsSoundWindow (start end length offset : ℕ) (broken : Option ℕ) (failed : Bool) : Type 0 where
   pub order : start ≤ end
   pub within : end ≤ length
   pub bounded : length ≤ 524288

@@ -8,15 +8,15 @@ use Rattle.cap_time.specs.declared.stamps.Stamp.{Stamp}
 use Rattle.cap_time.specs.Stamp.{stamp_cmp}
 use Rattle.cap_join.specs.Completed.{completed_of}
 use Rattle.cap_join.specs.Fragments.{Piece}
-use Rattle.cap_join.specs.History.{Event, arrives, flushes, joined_pieces, state_of}
+use Rattle.cap_join.specs.History.{Event, arrives, flushes, joined_pieces, open_groups_after}
 
 -- two clocks are of one time, or both of none
-abbrev pub IsSameTime : Option Stamp → Option Stamp → Type 0
-IsSameTime clock other = option_cmp stamp_cmp clock other ≡ Equal
+abbrev pub IsSameClock : Option Stamp → Option Stamp → Type 0
+IsSameClock clock other = option_cmp stamp_cmp clock other ≡ Equal
 
 -- two events are of one fragment, at clocks of one time, or of one key
 abbrev pub IsSameEvent : Event → Event → Type 0
-IsSameEvent (arrives clock p) (arrives other q) = IsSameTime clock other × (p ≡ q)
+IsSameEvent (arrives clock p) (arrives other q) = IsSameClock clock other × (p ≡ q)
 IsSameEvent (arrives clock p) (flushes key) = ⊥
 IsSameEvent (flushes key) (arrives clock p) = ⊥
 IsSameEvent (flushes key) (flushes other) = key ≡ other
@@ -24,9 +24,9 @@ IsSameEvent (flushes key) (flushes other) = key ≡ other
 -- Two lists of events completed the same groups and gave up as many, and one more fragment joins the same group.
 pub record SameGroups (limit : ℕ) (es fs : List Event) : Type 0 where
   pub completed : completed_of limit es ≡ completed_of limit fs
-  pub given_up : (state_of limit es).given_up ≡ (state_of limit fs).given_up
-  pub joined : (clock other : Option Stamp) (p : Piece) → IsSameTime clock other
-      → joined_pieces clock p (state_of limit es) ≡ joined_pieces other p (state_of limit fs)
+  pub given_up : (open_groups_after limit es).given_up ≡ (open_groups_after limit fs).given_up
+  pub joined : (clock other : Option Stamp) (p : Piece) → IsSameClock clock other
+      → joined_pieces clock p (open_groups_after limit es) ≡ joined_pieces other p (open_groups_after limit fs)
 
 -- The same events, one by one, make the same groups.
 abbrev pub EqualClocksLaw : Type 0

@@ -6,9 +6,9 @@ use Rattle.cap_ip.specs.Header.{HeaderFields}
 use Rattle.cap_join.specs.declared.datagrams.Stamped.{Stamped}
 use Rattle.cap_join.specs.declared.datagrams.Datagram.{Datagram}
 use Rattle.cap_join.specs.Fragments.{Piece}
-use Rattle.cap_join.specs.ByteMap.{total_of, header_of, data_of}
+use Rattle.cap_join.specs.ByteMap.{total_of, joined_header, joined_data}
 use Rattle.cap_join.specs.inner.Buffers.{Maps}
-use Rattle.cap_join.specs.Frames.{original_bytes, first_frame, last_frame}
+use Rattle.cap_join.specs.Frames.{pieces_original, first_frame, last_frame}
 
 -- The part of the buffer that is held, with its holes; the whole buffer's length, where the first hole begins, the
 -- datagram's length if it is known, its header, the number of fragments and of their frames' bytes, the first and the
@@ -30,14 +30,14 @@ pub record GroupState : Type 0 where
 pub record IsGroupOf (s : GroupState) (ps : List Piece) : Type 0 where
   pub maps : Maps s.buffer s.hole ps
   pub total : s.total ≡ total_of ps
-  pub header : IfSome (header_of ps) (λ h. s.header ≡ h)
+  pub header : IfSome (joined_header ps) (λ h. s.header ≡ h)
   pub frames : s.frames ≡ length ps
-  pub bytes : s.bytes ≡ original_bytes ps
+  pub bytes : s.bytes ≡ pieces_original ps
   pub first : s.first ≡ first_frame ps
   pub last : s.last ≡ last_frame ps
 
 -- Each group is one of some fragments, and its numbers fit.
-pub record IsSound (s : GroupState) : Type 0 where
+pub record IsSoundGroupState (s : GroupState) : Type 0 where
   pub pieces : List Piece
   pub group : IsGroupOf s pieces
   pub few : s.frames ≤ 2 ^ 63
@@ -46,9 +46,9 @@ pub record IsSound (s : GroupState) : Type 0 where
 
 -- A datagram that some fragments complete.
 pub record IsDatagramOf (d : Datagram) (ps : List Piece) : Type 0 where
-  pub header : header_of ps ≡ Some d.header
-  pub payload : d.payload.items ≡ data_of ps
+  pub header : joined_header ps ≡ Some d.header
+  pub payload : d.payload.items ≡ joined_data ps
   pub frames : d.frames ≡ length ps
-  pub bytes : d.bytes ≡ original_bytes ps
+  pub bytes : d.bytes ≡ pieces_original ps
   pub first : d.first ≡ first_frame ps
   pub last : d.last ≡ last_frame ps

@@ -4,9 +4,9 @@ use Rattle.std.proofs.Common.{lit<}
 use Rattle.cap_time.specs.declared.stamps.Stamp.{Stamp}
 use Rattle.cap_ip.specs.declared.headers.Key.{Key}
 use Rattle.cap_join.specs.Fragments.{Piece}
-use Rattle.cap_join.specs.ByteMap.{completes, data_of}
+use Rattle.cap_join.specs.ByteMap.{completes, joined_data}
 use Rattle.cap_join.specs.Frames.{is_too_old}
-use Rattle.cap_join.specs.History.{Event, arrives, flushes, state_of, group_of}
+use Rattle.cap_join.specs.History.{Event, arrives, flushes, open_groups_after, group_of}
 
 -- the key of a datagram from 10.0.0.1 to 10.0.0.2
 abbrev pub key_numbered : ℕ → Key
@@ -47,7 +47,7 @@ overlapped =
 -- the last of the ends counts, and what no fragment wrote of a covered block is 0
 pub record OverlapMap : Type 0 where
   pub whole : completes overlapped ≡ true
-  pub bytes : data_of overlapped
+  pub bytes : joined_data overlapped
       ≡ 3 ∷ 232 ∷ 7 ∷ 208 ∷ 0 ∷ 32 ∷ 0 ∷ 0 ∷ 160 ∷ 161 ∷ 162 ∷ 163 ∷ 164 ∷ 165 ∷ 166 ∷ 167 ∷ 192 ∷ 193 ∷ 194 ∷ 0 ∷ 0 ∷ 0
       ∷ 0 ∷ 0 ∷ 208 ∷ 209 ∷ 210 ∷ 211 ∷ 212 ∷ 213 ∷ 214 ∷ 215 ∷ []
 
@@ -57,7 +57,7 @@ opening n = arrives None (piece_at n n 0 true (0 ∷ 0 ∷ 0 ∷ 0 ∷ 0 ∷ 0 �
 
 -- If two groups may be open the third gives up the first; and a flush drops its group.
 pub record OpenLimit : Type 0 where
-  pub given_up : (state_of 2 (opening 2 ∷ opening 1 ∷ opening 0 ∷ [])).given_up ≡ 1
+  pub given_up : (open_groups_after 2 (opening 2 ∷ opening 1 ∷ opening 0 ∷ [])).given_up ≡ 1
   pub first : group_of 2 (opening 2 ∷ opening 1 ∷ opening 0 ∷ []) (key_numbered 0) ≡ None
   pub second : is_some (group_of 2 (opening 2 ∷ opening 1 ∷ opening 0 ∷ []) (key_numbered 1)) ≡ true
   pub third : is_some (group_of 2 (opening 2 ∷ opening 1 ∷ opening 0 ∷ []) (key_numbered 2)) ≡ true

@@ -9,7 +9,7 @@ use Rattle.cap_join.specs.Fragments.{Piece}
 use Rattle.cap_join.specs.ByteMap.{completes}
 use Rattle.cap_join.specs.Frames.{is_too_old}
 use Rattle.cap_join.specs.inner.Groups.{GroupState, IsGroupOf}
-use Rattle.cap_join.specs.History.{OpenGroup, same_key, key_of, live_at, group_at, pieces_with, opens_with}
+use Rattle.cap_join.specs.History.{OpenGroup, same_key, fragment_key, live_at, group_at, pieces_with, opens_with}
 use Rattle.cap_join.specs.History.{gives_up_with}
 use Rattle.cap_join.specs.Joiners.{Entry, AreEntriesOf, IsAnswer, open_limit}
 
@@ -44,9 +44,9 @@ pub record PutsAt (key : Key) (p : Piece) (old : List Entry) (complete : Bool) (
 
 -- What a fragment at a clock makes of the entries that some open groups have: those of the groups after it, the answer,
 -- and whether a group was given up.
-pub record Puts (clock : Option Stamp) (p : Piece) (os : List OpenGroup) (answer : Put) (gave_up : Bool)
+pub record PutsFragment (clock : Option Stamp) (p : Piece) (os : List OpenGroup) (answer : Put) (gave_up : Bool)
     (new : List Entry) : Type 0 where
-  pub groups : AreEntriesOf new (opens_with open_limit clock p (group_at (key_of p) (live_at clock os))
+  pub groups : AreEntriesOf new (opens_with open_limit clock p (group_at (fragment_key p) (live_at clock os))
       (live_at clock os))
-  pub gives_up : gave_up ≡ gives_up_with open_limit p (group_at (key_of p) (live_at clock os)) (live_at clock os)
-  pub answers : IsAnswer answer (pieces_with p (group_at (key_of p) (live_at clock os)))
+  pub gives_up : gave_up ≡ gives_up_with open_limit p (group_at (fragment_key p) (live_at clock os)) (live_at clock os)
+  pub answers : IsAnswer answer (pieces_with p (group_at (fragment_key p) (live_at clock os)))

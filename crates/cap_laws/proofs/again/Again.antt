@@ -12,7 +12,7 @@ use Rattle.cap_blocks.proofs.Items.{items_from-none}
 use Rattle.cap_blocks.specs.Grammar.{interface_kind, enhanced_kind, interface_body, packet_body, interface_bytes}
 use Rattle.cap_blocks.specs.inner.Laws.{block_of}
 use Rattle.cap_blocks.specs.Split as blocks
-use Rattle.cap_blocks.specs.Split.{Piece}
+use Rattle.cap_blocks.specs.Split.{BlockPiece}
 use Rattle.cap_blocks.specs.declared.blocks.Block.{Block}
 use Rattle.cap_bytes.specs.Items as pieces
 use Rattle.cap_bytes.specs.declared.faults.Rule.{Rule}
@@ -20,7 +20,8 @@ use Rattle.cap_bytes.specs.declared.faults.Tail.{Tail}
 use Rattle.cap_bytes.specs.declared.numbers.Order.{Order}
 use Rattle.cap_source.specs.Contents.{content_in}
 use Rattle.cap_source.specs.Feed.{packet}
-use Rattle.cap_source.specs.Items.{Progress, after, behind, items_at, items_in, meta_in, first_or, unless_item}
+use Rattle.cap_source.specs.Items.{Progress, after, behind, items_at_block, items_of_blocks, meta_in, first_or}
+use Rattle.cap_source.specs.Items.{unless_item}
 use Rattle.cap_source.specs.Items.{first_in}
 use Rattle.cap_source.specs.declared.contents.Content.{Content}
 use Rattle.cap_source.specs.declared.contents.Content.TheVariants as contents
@@ -28,18 +29,20 @@ use Rattle.cap_time.specs.declared.resolutions.Interface.{Interface}
 use Rattle.cap_write.specs.Numbering.{Numbered}
 use Rattle.cap_write.specs.Texts.{packet_part, packets_bytes}
 use Rattle.cap_laws.proofs.again.Back.{unnamed, packet_of, content_in-interface, content_in-packet}
-use Rattle.cap_laws.specs.again.Laws.{Fits, AllFit, meta_again, read_items, described, all_described, IsNumbered}
+use Rattle.cap_laws.specs.again.Laws.{NumbersFit, AllFit, meta_again, read_items, described_after, all_described}
+use Rattle.cap_laws.specs.again.Laws.{AreNumbered}
 
 -- the items of a file at a block that says this
-pub items_in-given : (file : ℕ) (progress : Progress) (block : Block) (body : List ℕ) (rest : List (pieces.Item Block))
+pub items_in-given : (file : ℕ) (progress : Progress) (block : Block) (body : List ℕ)
+    (rest : List (pieces.PieceItem Block))
     (content : Result Content Rule)
     → content_in progress.interfaces block.kind block.order body ≡ content
-    → items_in file progress (pieces.given block body ∷ rest)
-    ≡ items_at file progress block body content (items_in file (behind progress content) rest)
-unfolding items_in
+    → items_of_blocks file progress (pieces.given block body ∷ rest)
+    ≡ items_at_block file progress block body content (items_of_blocks file (behind progress content) rest)
+unfolding items_of_blocks
 items_in-given file progress block body rest content is = rw is refl
 
-pub first_in-given : (progress : Progress) (block : Block) (body : List ℕ) (rest : List (pieces.Item Block))
+pub first_in-given : (progress : Progress) (block : Block) (body : List ℕ) (rest : List (pieces.PieceItem Block))
     (content : Result Content Rule)
     → content_in progress.interfaces block.kind block.order body ≡ content
     → first_in progress (pieces.given block body ∷ rest)
@@ -51,10 +54,10 @@ first_in-given progress block body rest content is = rw is refl
 interface_blocks : (order : Order) (tail : Tail) (file offset : ℕ) (i : Interface) (rest : List ℕ) → i.link < 2 ^ 16
     → i.snaplen < 2 ^ 32
     → offset + length (interface_bytes order i) ≤ 2 ^ 40
-    → blocks.items_from (Some order) tail file offset (interface_bytes order i ++ rest)
+    → blocks.block_items_from (Some order) tail file offset (interface_bytes order i ++ rest)
     ≡ pieces.given (block_of offset (record { order = order; kind = interface_kind; body = interface_body order i }))
     (interface_body order i)
-    ∷ blocks.items_from (Some order) tail file (offset + length (interface_bytes order i)) rest
+    ∷ blocks.block_items_from (Some order) tail file (offset + length (interface_bytes order i)) rest
 interface_blocks order tail file offset i rest link snaplen limit = grind (arith, interface_again-law)
 
 -- A written interface is passed, and comes after those before it.
@@ -62,14 +65,15 @@ pub items_in-interface : (order : Order) (tail : Tail) (file offset : ℕ) (prog
     (rest : List ℕ)
     → length progress.interfaces < 1024 → i.link < 2 ^ 16 → i.snaplen < 2 ^ 32 → FitsSigned w64 i.offset
     → offset + length (interface_bytes order i) ≤ 2 ^ 40
-    → items_in file progress (blocks.items_from (Some order) tail file offset (interface_bytes order i ++ rest))
-    ≡ items_in file (after progress (contents.Interface (unnamed i)))
-    (blocks.items_from (Some order) tail file (offset + length (interface_bytes order i)) rest)
+    → items_of_blocks file progress (blocks.block_items_from (Some order) tail file offset (interface_bytes order i
+    ++ rest))
+    ≡ items_of_blocks file (after progress (contents.Interface (unnamed i)))
+    (blocks.block_items_from (Some order) tail file (offset + length (interface_bytes order i)) rest)
 items_in-interface order tail file offset progress i rest few link snaplen fits limit =
-    ap (items_in file progress) (interface_blocks order tail file offset i rest link snaplen limit)
+    ap (items_of_blocks file progress) (interface_blocks order tail file offset i rest link snaplen limit)
     ∙ items_in-given file progress (block_of offset
     (record { order = order; kind = interface_kind; body = interface_body order i })) (interface_body order i)
-    (blocks.items_from (Some order) tail file (offset + length (interface_bytes order i)) rest)
+    (blocks.block_items_from (Some order) tail file (offset + length (interface_bytes order i)) rest)
     (Ok (contents.Interface (unnamed i)))
     (content_in-interface progress.interfaces order i few link snaplen fits)
 
@@ -78,17 +82,18 @@ pub first_in-interface : (order : Order) (tail : Tail) (file offset : ℕ) (prog
     (rest : List ℕ)
     → length progress.interfaces < 1024 → i.link < 2 ^ 16 → i.snaplen < 2 ^ 32 → FitsSigned w64 i.offset
     → offset + length (interface_bytes order i) ≤ 2 ^ 40
-    → first_in progress (blocks.items_from (Some order) tail file offset (interface_bytes order i ++ rest))
+    → first_in progress (blocks.block_items_from (Some order) tail file offset (interface_bytes order i ++ rest))
     ≡ first_in (after progress (contents.Interface (unnamed i)))
-    (blocks.items_from (Some order) tail file (offset + length (interface_bytes order i)) rest)
+    (blocks.block_items_from (Some order) tail file (offset + length (interface_bytes order i)) rest)
 first_in-interface order tail file offset progress i rest few link snaplen fits limit =
     grind (arith, interface_blocks, first_in-given, block_of, content_in-interface)
 
 pub first_in-packet : (order : Order) (tail : Tail) (file offset : ℕ) (progress : Progress) (n : Numbered)
     (rest : List ℕ)
-    → slice_get progress.interfaces n.number ≡ Some n.interface → n.number < 2 ^ 32 → Fits n
+    → slice_get progress.interfaces n.number ≡ Some n.interface → n.number < 2 ^ 32 → NumbersFit n
     → offset + length (packet_part order n) ≤ 2 ^ 40
-    → first_in progress (blocks.items_from (Some order) tail file offset (packet_part order n ++ rest)) ≡ progress.first
+    → first_in progress (blocks.block_items_from (Some order) tail file offset (packet_part order n
+    ++ rest)) ≡ progress.first
 first_in-packet order tail file offset progress n rest known few fits limit =
     grind (arith, packet_again-law, packet_of, first_in-given, block_of, content_in-packet)
 
@@ -110,21 +115,22 @@ same_meta file offset order progress n base skipped = rw (base, skipped, none_be
 -- A written packet is read again.
 pub items_in-packet : (order : Order) (tail : Tail) (file offset : ℕ) (progress : Progress) (n : Numbered)
     (rest : List ℕ)
-    → slice_get progress.interfaces n.number ≡ Some n.interface → n.number < 2 ^ 32 → Fits n → progress.base ≡ 0
+    → slice_get progress.interfaces n.number ≡ Some n.interface → n.number < 2 ^ 32 → NumbersFit n → progress.base ≡ 0
     → progress.skipped ≡ 0
     → offset + length (packet_part order n) ≤ 2 ^ 40
-    → items_in file progress (blocks.items_from (Some order) tail file offset (packet_part order n ++ rest))
-    ≡ packet (meta_again file offset n) n.frame ∷ items_in file progress
-    (blocks.items_from (Some order) tail file (offset + length (packet_part order n)) rest)
+    → items_of_blocks file progress (blocks.block_items_from (Some order) tail file offset (packet_part order n
+    ++ rest))
+    ≡ packet (meta_again file offset n) n.frame ∷ items_of_blocks file progress
+    (blocks.block_items_from (Some order) tail file (offset + length (packet_part order n)) rest)
 items_in-packet order tail file offset progress n rest known few fits base skipped limit =
     let body = packet_body order n.number n.units n.original n.frame in
     let again = packet_again-law order n.number n.units n.original n.frame few fits.units fits.original fits.frame in
     let p = packet_of n.number n.interface n.units (length n.frame) n.original in
     let block = block_of offset (record { order = order; kind = enhanced_kind; body = body }) in
-    let later = items_in file progress (blocks.items_from (Some order) tail file
+    let later = items_of_blocks file progress (blocks.block_items_from (Some order) tail file
     (offset + length (packet_part order n)) rest) in
-    ap (items_in file progress) (again.0.items tail file offset rest limit)
-    ∙ (items_in-given file progress block body (blocks.items_from (Some order) tail file
+    ap (items_of_blocks file progress) (again.0.items tail file offset rest limit)
+    ∙ (items_in-given file progress block body (blocks.block_items_from (Some order) tail file
     (offset + length (packet_part order n)) rest) (Ok (contents.Packet p))
     (content_in-packet progress.interfaces order n known few fits)
     ∙ (ap (λ f. packet (meta_in file progress block p) f ∷ later) again.5
@@ -172,14 +178,14 @@ slice_get-push xs x = grind (arith, slice_get-get_or, length-append, get_or-appe
 -- Some packets are read again, after those interfaces, if their text ends by byte 2^40.
 abbrev IsReadAgain : Order → Tail → ℕ → List Interface → Option Interface → ℕ → List Numbered → Type 0
 IsReadAgain order tail file interfaces first offset ns =
-    items_in file (reached interfaces first) (blocks.items_from (Some order) tail file offset
+    items_of_blocks file (reached interfaces first) (blocks.block_items_from (Some order) tail file offset
     (packets_bytes order (length interfaces) ns))
     ≡ read_items order file offset (length interfaces) ns
 
 again-known : (order : Order) (tail : Tail) (file : ℕ) (interfaces : List Interface) (first : Option Interface)
     (offset : ℕ) (n : Numbered) (rest : List Numbered)
     → (n.number == length interfaces) ≡ false → slice_get interfaces n.number ≡ Some n.interface
-    → n.number < 2 ^ 32 → Fits n
+    → n.number < 2 ^ 32 → NumbersFit n
     → offset + length (packets_bytes order (length interfaces) (n ∷ rest)) ≤ 2 ^ 40
     → (offset + length (packet_part order n) + length (packets_bytes order (length interfaces) rest) ≤ 2 ^ 40
     → IsReadAgain order tail file interfaces first (offset + length (packet_part order n)) rest)
@@ -190,7 +196,7 @@ again-known order tail file interfaces first offset n rest is known few fits lim
       reached,
       packets_bytes-known,
       length-append,
-      items_in,
+      items_of_blocks,
       items_in-packet,
       packet,
       meta_again,
@@ -199,7 +205,7 @@ again-known order tail file interfaces first offset n rest is known few fits lim
 
 again-new : (order : Order) (tail : Tail) (file : ℕ) (interfaces : List Interface) (first : Option Interface)
     (offset : ℕ) (n : Numbered) (rest : List Numbered)
-    → (n.number == length interfaces) ≡ true → n.number ≡ length interfaces → length interfaces < 1024 → Fits n
+    → (n.number == length interfaces) ≡ true → n.number ≡ length interfaces → length interfaces < 1024 → NumbersFit n
     → offset + length (packets_bytes order (length interfaces) (n ∷ rest)) ≤ 2 ^ 40
     → (offset + length (interface_bytes order n.interface) + length (packet_part order n) + length
     (packets_bytes order (length (interfaces ++ n.interface ∷ [])) rest) ≤ 2 ^ 40
@@ -212,7 +218,7 @@ again-new order tail file interfaces first offset n rest is same few fits limit 
       reached,
       length-append,
       packets_bytes-new,
-      items_in,
+      items_of_blocks,
       items_in-interface,
       items_in-packet,
       slice_get,
@@ -228,17 +234,17 @@ pub all_described-more : (interfaces : List Interface) (ns : List Numbered)
     → length interfaces ≤ length (all_described interfaces ns)
 all_described-more interfaces [] = omega arith
 all_described-more interfaces (n ∷ rest) = grind
-    (arith, all_described-more (described interfaces n) rest, length-append)
+    (arith, all_described-more (described_after interfaces n) rest, length-append)
 
 -- Written packets are read again.
 pub items_in-written : (order : Order) (tail : Tail) (file : ℕ) (interfaces : List Interface) (first : Option Interface)
     (offset : ℕ) (ns : List Numbered)
-    → IsNumbered interfaces ns → AllFit ns → length (all_described interfaces ns) ≤ 1024
+    → AreNumbered interfaces ns → AllFit ns → length (all_described interfaces ns) ≤ 1024
     → offset + length (packets_bytes order (length interfaces) ns) ≤ 2 ^ 40
     → IsReadAgain order tail file interfaces first offset ns
-unfolding packets_bytes read_items items_in
+unfolding packets_bytes read_items items_of_blocks
 items_in-written order tail file interfaces first offset [] numbered fit few limit =
-    search (items_in, reached, items_from-none)
+    search (items_of_blocks, reached, items_from-none)
 items_in-written order tail file interfaces first offset (n ∷ rest) numbered fit few limit =
     by (n.number == length interfaces) refl
     (λ interfaces first offset numbered fit few limit. items_in-written order tail file interfaces first offset rest
@@ -246,7 +252,7 @@ items_in-written order tail file interfaces first offset (n ∷ rest) numbered f
   where
     by : (new : Bool) → (n.number == length interfaces) ≡ new
         → ((interfaces : List Interface) (first : Option Interface) (offset : ℕ)
-        → IsNumbered interfaces rest → AllFit rest → length (all_described interfaces rest) ≤ 1024
+        → AreNumbered interfaces rest → AllFit rest → length (all_described interfaces rest) ≤ 1024
         → offset + length (packets_bytes order (length interfaces) rest) ≤ 2 ^ 40
         → IsReadAgain order tail file interfaces first offset rest)
         → IsReadAgain order tail file interfaces first offset (n ∷ rest)
@@ -256,9 +262,9 @@ items_in-written order tail file interfaces first offset (n ∷ rest) numbered f
 -- The first interface, if one stands before some written packets, is the same after them.
 pub first_in-written : (order : Order) (tail : Tail) (file : ℕ) (interfaces : List Interface) (first : Interface)
     (offset : ℕ) (ns : List Numbered)
-    → IsNumbered interfaces ns → AllFit ns → length (all_described interfaces ns) ≤ 1024
+    → AreNumbered interfaces ns → AllFit ns → length (all_described interfaces ns) ≤ 1024
     → offset + length (packets_bytes order (length interfaces) ns) ≤ 2 ^ 40
-    → first_in (reached interfaces (Some first)) (blocks.items_from (Some order) tail file offset
+    → first_in (reached interfaces (Some first)) (blocks.block_items_from (Some order) tail file offset
     (packets_bytes order (length interfaces) ns)) ≡ Some first
 unfolding packets_bytes first_in
 first_in-written order tail file interfaces first offset [] numbered fit few limit = search (reached, items_from-none)
@@ -266,7 +272,7 @@ first_in-written order tail file interfaces first offset (n ∷ rest) numbered f
     by (n.number == length interfaces) refl
   where
     by : (new : Bool) → (n.number == length interfaces) ≡ new
-        → first_in (reached interfaces (Some first)) (blocks.items_from (Some order) tail file offset
+        → first_in (reached interfaces (Some first)) (blocks.block_items_from (Some order) tail file offset
         (packets_bytes order (length interfaces) (n ∷ rest))) ≡ Some first
     by true is = grind (
       arith,
@@ -282,13 +288,14 @@ first_in-written order tail file interfaces first offset (n ∷ rest) numbered f
       slice_get-push,
     )
     by false is =
-        let next : described interfaces n ≡ interfaces =
+        let next : described_after interfaces n ≡ interfaces =
         ap (λ b. if b then interfaces ++ n.interface ∷ [] else interfaces) is in
         let known = numbered.0 is in
         let text = packets_bytes-known order (length interfaces) n rest is in
         let behind = packets_bytes order (length interfaces) rest in
         let size = ap length text ∙ length-append (packet_part order n) behind in
-        ap (λ t. first_in (reached interfaces (Some first)) (blocks.items_from (Some order) tail file offset t)) text
+        ap (λ t. first_in (reached interfaces (Some first)) (blocks.block_items_from (Some order) tail file offset t))
+        text
         ∙ first_in-packet order tail file offset (reached interfaces (Some first)) n behind known
         (omega (
           arith,

@@ -3,13 +3,13 @@ use Rattle.std.proofs.Common.{◌≡◌, List, [], ◌∷◌, refl, sym, ap, ◌
 use Rattle.std.specs.Prelude.{map}
 use Rattle.std.specs.List.{AllZip, AllByRecursion}
 use Rattle.cap_time.specs.declared.stamps.Stamp.{Stamp}
-use Rattle.cap_merge.specs.Run.{Clocked, opened, merged}
+use Rattle.cap_merge.specs.Run.{Clocked, opened_track, merged}
 use Rattle.cap_merge.specs.inner.Lists.{map-twice}
 use Rattle.cap_merge.proofs.Rounds.{map_track, map_clocked, merged-mapped}
 
 -- the items of some files, merged
 abbrev pub merge_of : {A : Type 0} → (A → Option Stamp) → List (List A) → List A
-merge_of time files = map (λ x. x.item) (merged time (map opened files))
+merge_of time files = map (λ x. x.item) (merged time (map opened_track files))
 
 -- Two items that are alike.
 record Twin {A : Type 0} (P : A → A → Type 0) : Type 0 where
@@ -41,17 +41,17 @@ module _ {A : Type 0} (P : A → A → Type 0) (time : A → Option Stamp) (same
   twin_files fs gs h = absurd h
 
   files-one : (fs gs : List (List A)) (h : AllZip (AllZip P) fs gs)
-      → map (map_track (λ t. t.one)) (map opened (twin_files fs gs h)) ≡ map opened fs
+      → map (map_track (λ t. t.one)) (map opened_track (twin_files fs gs h)) ≡ map opened_track fs
   unfolding twin_files
   files-one [] [] h = refl
-  files-one (f ∷ fs) (g ∷ gs) h = λ i. opened (twins-one f g h.0 i) ∷ files-one fs gs h.1 i
+  files-one (f ∷ fs) (g ∷ gs) h = λ i. opened_track (twins-one f g h.0 i) ∷ files-one fs gs h.1 i
   files-one fs gs h = absurd h
 
   files-other : (fs gs : List (List A)) (h : AllZip (AllZip P) fs gs)
-      → map (map_track (λ t. t.other)) (map opened (twin_files fs gs h)) ≡ map opened gs
+      → map (map_track (λ t. t.other)) (map opened_track (twin_files fs gs h)) ≡ map opened_track gs
   unfolding twin_files
   files-other [] [] h = refl
-  files-other (f ∷ fs) (g ∷ gs) h = λ i. opened (twins-other f g h.0 i) ∷ files-other fs gs h.1 i
+  files-other (f ∷ fs) (g ∷ gs) h = λ i. opened_track (twins-other f g h.0 i) ∷ files-other fs gs h.1 i
   files-other fs gs h = absurd h
 
   all-alike : (ts : List (Clocked (Twin P))) → AllZip P (map (λ x. x.item.one) ts) (map (λ x. x.item.other) ts)
@@ -59,22 +59,22 @@ module _ {A : Type 0} (P : A → A → Type 0) (time : A → Option Stamp) (same
   all-alike (t ∷ ts) = (t.item.alike, all-alike ts)
 
   merge-one : (fs gs : List (List A)) (h : AllZip (AllZip P) fs gs)
-      → map (λ x. x.item.one) (merged (λ t. time t.one) (map opened (twin_files fs gs h))) ≡ merge_of time fs
+      → map (λ x. x.item.one) (merged (λ t. time t.one) (map opened_track (twin_files fs gs h))) ≡ merge_of time fs
   merge-one fs gs h =
       sym (map-twice (λ x. x.item) (map_clocked (λ t. t.one))
-      (merged (λ t. time t.one) (map opened (twin_files fs gs h))))
+      (merged (λ t. time t.one) (map opened_track (twin_files fs gs h))))
       ∙ ap (map (λ x. x.item))
-      (sym (merged-mapped (λ t. time t.one) time (λ t. t.one) (λ t. refl) (map opened (twin_files fs gs h)))
+      (sym (merged-mapped (λ t. time t.one) time (λ t. t.one) (λ t. refl) (map opened_track (twin_files fs gs h)))
       ∙ ap (merged time) (files-one fs gs h))
 
   merge-other : (fs gs : List (List A)) (h : AllZip (AllZip P) fs gs)
-      → map (λ x. x.item.other) (merged (λ t. time t.one) (map opened (twin_files fs gs h))) ≡ merge_of time gs
+      → map (λ x. x.item.other) (merged (λ t. time t.one) (map opened_track (twin_files fs gs h))) ≡ merge_of time gs
   merge-other fs gs h =
       sym (map-twice (λ x. x.item) (map_clocked (λ t. t.other))
-      (merged (λ t. time t.one) (map opened (twin_files fs gs h))))
+      (merged (λ t. time t.one) (map opened_track (twin_files fs gs h))))
       ∙ ap (map (λ x. x.item))
       (sym (merged-mapped (λ t. time t.one) time (λ t. t.other) (λ t. same t.one t.other t.alike)
-      (map opened (twin_files fs gs h)))
+      (map opened_track (twin_files fs gs h)))
       ∙ ap (merged time) (files-other fs gs h))
 
   -- Files that are alike, merged, give lists that are alike.
@@ -82,8 +82,8 @@ module _ {A : Type 0} (P : A → A → Type 0) (time : A → Option Stamp) (same
   merge-alike fs gs h =
       subst (λ (xs : List A). AllZip P xs (merge_of time gs)) (merge-one fs gs h)
       (subst (λ (ys : List A). AllZip P (map (λ x. x.item.one)
-      (merged (λ t. time t.one) (map opened (twin_files fs gs h)))) ys) (merge-other fs gs h)
-      (all-alike (merged (λ t. time t.one) (map opened (twin_files fs gs h)))))
+      (merged (λ t. time t.one) (map opened_track (twin_files fs gs h)))) ys) (merge-other fs gs h)
+      (all-alike (merged (λ t. time t.one) (map opened_track (twin_files fs gs h)))))
 
 -- ---- what is true of all items stays true of them merged
 

@@ -16,7 +16,7 @@ use Rattle.cap_source.specs.declared.contents.Described.{Described}
 use Rattle.cap_source.specs.declared.contents.Packet.{Packet}
 use Rattle.cap_time.specs.declared.resolutions.Interface.{Interface}
 use Rattle.cap_write.specs.Numbering.{Numbered}
-use Rattle.cap_laws.specs.again.Laws.{Fits}
+use Rattle.cap_laws.specs.again.Laws.{NumbersFit}
 
 -- A packet with these fields is one that is read: within the limit, and within its body.
 fitting-whole : (p : Packet) (size : ℕ) → p.captured ≤ 262144 → p.place + p.captured ≤ size → fitting p size ≡ Ok p
@@ -48,7 +48,7 @@ timed_in-fields interfaces order body k units captured original i known u c o fe
 
 -- the packet of a written packet block
 pub timed_in-written : (interfaces : List Interface) (order : Order) (n : Numbered)
-    → slice_get interfaces n.number ≡ Some n.interface → n.number < 2 ^ 32 → Fits n
+    → slice_get interfaces n.number ≡ Some n.interface → n.number < 2 ^ 32 → NumbersFit n
     → timed_in interfaces (number order 4 (packet_body order n.number n.units n.original n.frame)) order
     (packet_body order n.number n.units n.original n.frame)
     ≡ Ok (packet_of n.number n.interface n.units (length n.frame) n.original)
@@ -81,7 +81,7 @@ content_in-interface interfaces order i few link snaplen fits =
     (is_named-written order i link snaplen)
 
 pub content_in-packet : (interfaces : List Interface) (order : Order) (n : Numbered)
-    → slice_get interfaces n.number ≡ Some n.interface → n.number < 2 ^ 32 → Fits n
+    → slice_get interfaces n.number ≡ Some n.interface → n.number < 2 ^ 32 → NumbersFit n
     → content_in interfaces enhanced_kind order (packet_body order n.number n.units n.original n.frame)
     ≡ Ok (contents.Packet (packet_of n.number n.interface n.units (length n.frame) n.original))
 unfolding content_in

@@ -8,13 +8,14 @@ use Rattle.cap_blocks.proofs.Parts.{length-section_body}
 use Rattle.cap_blocks.specs.Grammar.{section_kind, section_body, section_bytes, interface_bytes, block_bytes}
 use Rattle.cap_blocks.specs.inner.Laws.{block_of}
 use Rattle.cap_blocks.specs.Split as blocks
-use Rattle.cap_blocks.specs.Split.{is_section, Piece}
+use Rattle.cap_blocks.specs.Split.{is_section, BlockPiece}
 use Rattle.cap_bytes.proofs.Spelling.{number-append, length-bytes_of}
 use Rattle.cap_bytes.specs.Number.{number, bytes_of}
 use Rattle.cap_bytes.specs.declared.faults.Tail.{Tail}
 use Rattle.cap_bytes.specs.declared.numbers.Order.{Order}
 use Rattle.cap_bytes.specs.declared.numbers.Order.TheVariants.{Big}
-use Rattle.cap_source.specs.Items.{fresh, is_pcapng, items_in, first_in, items_from, file_items, first_from, file_first}
+use Rattle.cap_source.specs.Items.{fresh, is_pcapng, items_of_blocks, first_in, items_from, file_items, first_from}
+use Rattle.cap_source.specs.Items.{file_first}
 use Rattle.cap_source.specs.Items.{interface_of, unless_refused}
 use Rattle.cap_pcap.specs.Split as records
 use Rattle.cap_source.specs.declared.contents.Content.TheVariants as contents
@@ -26,7 +27,7 @@ use Rattle.std.specs.Int.{w64}
 use Rattle.cap_laws.proofs.again.Again.{reached, items_in-given, first_in-given, items_in-interface, first_in-interface}
 use Rattle.cap_laws.proofs.again.Again.{items_in-written, first_in-written}
 use Rattle.cap_laws.proofs.again.Back.{content_in-section}
-use Rattle.cap_laws.specs.again.Laws.{AllFit, IsNumbered, all_described, read_items}
+use Rattle.cap_laws.specs.again.Laws.{AllFit, AreNumbered, all_described, read_items}
 
 kind_front : (order : Order) → number Big 4 (bytes_of order 4 section_kind) ≡ section_kind
 unfolding number bytes_of
@@ -50,43 +51,44 @@ is_pcapng-text order rest = grind (arith, nat_tests, length-append, length-secti
 
 -- after a section header nothing is described
 behind_section : (order : Order) (tail : Tail) (file : ℕ) (rest : List ℕ)
-    → items_in file fresh (blocks.items_from None tail file 0 (section_bytes order ++ rest))
-    ≡ items_in file (reached [] None) (blocks.items_from (Some order) tail file (0 + length (section_bytes order)) rest)
+    → items_of_blocks file fresh (blocks.block_items_from None tail file 0 (section_bytes order ++ rest))
+    ≡ items_of_blocks file (reached [] None) (blocks.block_items_from (Some order) tail file (0
+    + length (section_bytes order)) rest)
 behind_section order tail file rest =
-    let piece : Piece = record { order = order; kind = section_kind; body = section_body order } in
-    ap (items_in file fresh) ((section_again-law None order).items tail file 0 rest
+    let piece : BlockPiece = record { order = order; kind = section_kind; body = section_body order } in
+    ap (items_of_blocks file fresh) ((section_again-law None order).items tail file 0 rest
     (omega (arith, length-section_bytes order)))
     ∙ items_in-given file fresh (block_of 0 piece) (section_body order)
-    (blocks.items_from (Some order) tail file (0 + length (section_bytes order)) rest) (Ok contents.Section)
+    (blocks.block_items_from (Some order) tail file (0 + length (section_bytes order)) rest) (Ok contents.Section)
     (content_in-section [] order (section_body order))
 
 pub items-behind_section : (order : Order) (tail : Tail) (file : ℕ) (rest : List ℕ)
     → file_items tail file (section_bytes order ++ rest)
-    ≡ items_in file (reached [] None) (blocks.items_from (Some order) tail file 28 rest)
+    ≡ items_of_blocks file (reached [] None) (blocks.block_items_from (Some order) tail file 28 rest)
 unfolding items_from
 items-behind_section order tail file rest = search
-    (items_in, fresh, is_pcapng-text, behind_section, reached, length-section_bytes)
+    (items_of_blocks, fresh, is_pcapng-text, behind_section, reached, length-section_bytes)
 
 pub first-behind_section : (order : Order) (tail : Tail) (file : ℕ) (rest : List ℕ)
     → file_first tail file (section_bytes order ++ rest)
-    ≡ first_in (reached [] None) (blocks.items_from (Some order) tail file 28 rest)
+    ≡ first_in (reached [] None) (blocks.block_items_from (Some order) tail file 28 rest)
 unfolding first_from
 first-behind_section order tail file rest =
     let bytes = section_bytes order ++ rest in
-    let piece : Piece = record { order = order; kind = section_kind; body = section_body order } in
-    ap (λ b. if b then first_in fresh (blocks.items_from None tail file 0 bytes)
-    else unless_refused (records.header_fault 0 bytes) (interface_of (records.header_at bytes)))
+    let piece : BlockPiece = record { order = order; kind = section_kind; body = section_body order } in
+    ap (λ b. if b then first_in fresh (blocks.block_items_from None tail file 0 bytes)
+    else unless_refused (records.pcap_header_fault 0 bytes) (interface_of (records.header_at bytes)))
     (is_pcapng-text order rest)
     ∙ (ap (first_in fresh) ((section_again-law None order).items tail file 0 rest
     (omega (arith, length-section_bytes order)))
     ∙ (first_in-given fresh (block_of 0 piece) (section_body order)
-    (blocks.items_from (Some order) tail file (0 + length (section_bytes order)) rest) (Ok contents.Section)
+    (blocks.block_items_from (Some order) tail file (0 + length (section_bytes order)) rest) (Ok contents.Section)
     (content_in-section [] order (section_body order))
-    ∙ ap (λ n. first_in (reached [] None) (blocks.items_from (Some order) tail file n rest))
+    ∙ ap (λ n. first_in (reached [] None) (blocks.block_items_from (Some order) tail file n rest))
     (omega (arith, length-section_bytes order))))
 
 -- A merged file is read again: its packets are those that are written.
-pub merged-again : (order : Order) (tail : Tail) (file : ℕ) (ns : List Numbered) → IsNumbered [] ns → AllFit ns
+pub merged-again : (order : Order) (tail : Tail) (file : ℕ) (ns : List Numbered) → AreNumbered [] ns → AllFit ns
     → length (all_described [] ns) ≤ 1024
     → length (section_bytes order ++ packets_bytes order 0 ns) ≤ 2 ^ 40
     → file_items tail file (section_bytes order ++ packets_bytes order 0 ns) ≡ read_items order file 28 0 ns
@@ -96,7 +98,7 @@ merged-again order tail file ns numbered fit few limit =
 -- A file that is written after its first interface is read again, and so is that interface.
 pub pcapng-again : (order : Order) (tail : Tail) (file : ℕ) (i : Interface) (ns : List Numbered) → i.link < 2 ^ 16
     → i.snaplen < 2 ^ 32 → FitsSigned w64 i.offset
-    → IsNumbered (i ∷ []) ns → AllFit ns → length (all_described (i ∷ []) ns) ≤ 1024
+    → AreNumbered (i ∷ []) ns → AllFit ns → length (all_described (i ∷ []) ns) ≤ 1024
     → length (front_bytes order (Some i) ++ packets_bytes order 1 ns) ≤ 2 ^ 40
     → (file_items tail file (front_bytes order (Some i) ++ packets_bytes order 1 ns)
     ≡ read_items order file (28 + length (interface_bytes order i)) 1 ns)

@@ -19,7 +19,8 @@ use Rattle.cap_source.specs.Contents.{content_in}
 use Rattle.cap_source.specs.Feed.{Item, packet, refused}
 use Rattle.cap_source.specs.inner.Fields.{FitsInterface}
 use Rattle.cap_source.specs.Items.{Progress, fresh, behind, first_or, first_in, first_from, unless_item, unless_refused}
-use Rattle.cap_source.specs.Items.{items_at, items_in, items_from, is_pcapng, pcap_items, interface_of, file_items}
+use Rattle.cap_source.specs.Items.{items_at_block, items_of_blocks, items_from, is_pcapng, pcap_items, interface_of}
+use Rattle.cap_source.specs.Items.{file_items}
 use Rattle.cap_source.specs.Items.{file_first}
 use Rattle.cap_source.specs.declared.contents.Content.{Content}
 use Rattle.cap_source.specs.declared.contents.Packet.{Packet}
@@ -67,17 +68,18 @@ block-known : (file : ℕ) (i : Interface) (progress : Progress) (block : Block)
     → IfOk content (OfContent IsAny (HasNumber progress.interfaces)) → KnowsFirst progress → progress.first ≡ Some i
     → (KnowsFirst (behind progress content) → (behind progress content).first ≡ Some i
     → AllByRecursion (IsFirst i) items)
-    → AllByRecursion (IsFirst i) (items_at file progress block body content items)
+    → AllByRecursion (IsFirst i) (items_at_block file progress block body content items)
 block-known file i progress block body content items of knows is rest = grind (arith, knows-behind, own_interface)
 
 -- after the first interface
-blocks-known : (file : ℕ) (i : Interface) (progress : Progress) (items : List (pieces.Item Block)) → KnowsFirst progress
+blocks-known : (file : ℕ) (i : Interface) (progress : Progress) (items : List (pieces.PieceItem Block))
+    → KnowsFirst progress
     → progress.first ≡ Some i
-    → AllByRecursion (IsFirst i) (items_in file progress items)
-unfolding items_in
+    → AllByRecursion (IsFirst i) (items_of_blocks file progress items)
+unfolding items_of_blocks
 blocks-known file i progress (pieces.given block body ∷ rest) knows is =
     let content = content_in progress.interfaces block.kind block.order body in
-    block-known file i progress block body content (items_in file (behind progress content) rest)
+    block-known file i progress block body content (items_of_blocks file (behind progress content) rest)
     (content-of progress.interfaces block.kind block.order body) knows is
     (λ knows is. blocks-known file i (behind progress content) rest knows is)
 blocks-known file i progress items knows is = grind arith
@@ -89,26 +91,27 @@ block-first : (file : ℕ) (i : Interface) (progress : Progress) (block : Block)
     → (KnowsFirst (behind progress content) → first ≡ Some i → AllByRecursion (IsFirst i) items)
     → (KnowsFirst (behind progress content) → (behind progress content).first ≡ Some i
     → AllByRecursion (IsFirst i) items)
-    → AllByRecursion (IsFirst i) (items_at file progress block body content items)
+    → AllByRecursion (IsFirst i) (items_at_block file progress block body content items)
 block-first file i progress block body content first items of knows is later known =
     grind (arith, knows-behind, own_interface)
 
 -- before it
-blocks-first : (file : ℕ) (i : Interface) (progress : Progress) (items : List (pieces.Item Block)) → KnowsFirst progress
+blocks-first : (file : ℕ) (i : Interface) (progress : Progress) (items : List (pieces.PieceItem Block))
+    → KnowsFirst progress
     → first_in progress items ≡ Some i
-    → AllByRecursion (IsFirst i) (items_in file progress items)
-unfolding items_in first_in
+    → AllByRecursion (IsFirst i) (items_of_blocks file progress items)
+unfolding items_of_blocks first_in
 blocks-first file i progress (pieces.given block body ∷ rest) knows is =
     let content = content_in progress.interfaces block.kind block.order body in
     block-first file i progress block body content (first_in (behind progress content) rest)
-    (items_in file (behind progress content) rest)
+    (items_of_blocks file (behind progress content) rest)
     (content-of progress.interfaces block.kind block.order body) knows is
     (λ knows is. blocks-first file i (behind progress content) rest knows is)
     (λ knows is. blocks-known file i (behind progress content) rest knows is)
 blocks-first file i progress items knows is = grind arith
 
 -- a pcap file has one interface
-records-first : (file : ℕ) (i : Interface) (items : List (pieces.Item Record))
+records-first : (file : ℕ) (i : Interface) (items : List (pieces.PieceItem Record))
     → AllByRecursion (IsFirst i) (pcap_items file i items)
 unfolding pcap_items
 records-first file i (pieces.given r frame ∷ rest) = (λ zero. refl, records-first file i rest)
@@ -124,7 +127,7 @@ block-first_fits : (progress : Progress) (content : Result Content Rule) (first 
     → IfSome (unless_item content progress.first first) FitsInterface
 block-first_fits progress content first of all fits later = grind (arith, one_more)
 
-blocks-first_fits : (progress : Progress) (items : List (pieces.Item Block))
+blocks-first_fits : (progress : Progress) (items : List (pieces.PieceItem Block))
     → AllByRecursion FitsInterface progress.interfaces → IfSome progress.first FitsInterface
     → AllByRecursion IsOfBytes items → IfSome (first_in progress items) FitsInterface
 unfolding first_in
@@ -142,12 +145,12 @@ pub record IsFirstOf (items : List Item) (i : Interface) : Type 0 where
   pub fits : FitsInterface i
   pub packets : AllByRecursion (IsFirst i) items
 
-of_blocks : (file : ℕ) (i : Interface) (items : List (pieces.Item Block)) → AllByRecursion IsOfBytes items
+of_blocks : (file : ℕ) (i : Interface) (items : List (pieces.PieceItem Block)) → AllByRecursion IsOfBytes items
     → first_in fresh items ≡ Some i
-    → IsFirstOf (items_in file fresh items) i
+    → IsFirstOf (items_of_blocks file fresh items) i
 of_blocks file i items are is = grind (arith, blocks-first_fits, blocks-first, blocks-first_fits fresh items tt tt are)
 
-of_records : (file : ℕ) (i own : Interface) (fault : Option Rule) (items : List (pieces.Item Record))
+of_records : (file : ℕ) (i own : Interface) (fault : Option Rule) (items : List (pieces.PieceItem Record))
     → FitsInterface own → unless_refused fault own ≡ Some i
     → IsFirstOf (pcap_items file own items) i
 of_records file i own (Some rule) items fits is = cc
@@ -162,15 +165,15 @@ of_records file i own None items fits is =
 pub first-of : (tail : Tail) (file : ℕ) (bytes : List ℕ) (i : Interface) → AreBytes bytes
     → file_first tail file bytes ≡ Some i
     → IsFirstOf (file_items tail file bytes) i
-unfolding items_from first_from pieces.items_in
+unfolding items_from first_from pieces.piece_items
 first-of tail file bytes i are is = by (is_pcapng bytes) is
   where
     by : (pcapng : Bool)
-        → (if pcapng then first_in fresh (blocks.items_from None tail file 0 bytes)
-        else unless_refused (records.header_fault 0 bytes) (interface_of (records.header_at bytes))) ≡ Some i
-        → IsFirstOf (if pcapng then items_in file fresh (blocks.items_from None tail file 0 bytes)
-        else pcap_items file (interface_of (records.header_at bytes)) (records.file_items tail file 0 bytes)) i
-    by true is = of_blocks file i (blocks.items_from None tail file 0 bytes)
+        → (if pcapng then first_in fresh (blocks.block_items_from None tail file 0 bytes)
+        else unless_refused (records.pcap_header_fault 0 bytes) (interface_of (records.header_at bytes))) ≡ Some i
+        → IsFirstOf (if pcapng then items_of_blocks file fresh (blocks.block_items_from None tail file 0 bytes)
+        else pcap_items file (interface_of (records.header_at bytes)) (records.pcap_file_items tail file 0 bytes)) i
+    by true is = of_blocks file i (blocks.block_items_from None tail file 0 bytes)
         (blocks-bytes (suc (length bytes)) None tail file 0 bytes are) is
     by false is = search (of_records, header-fits)
 
@@ -180,7 +183,7 @@ some-none : {A : Type 0} (a : A) → Some a ≡ None → ⊥
 some-none a e = cc
 
 -- if none stands before the next item or the end, none was read before
-none-before : (progress : Progress) (items : List (pieces.Item Block)) → first_in progress items ≡ None
+none-before : (progress : Progress) (items : List (pieces.PieceItem Block)) → first_in progress items ≡ None
     → progress.first ≡ None
 unfolding first_in
 none-before progress (pieces.given block body ∷ rest) none =
@@ -200,30 +203,30 @@ block-unwritten : (file : ℕ) (progress : Progress) (block : Block) (body : Lis
     → unless_item content progress.first first ≡ None
     → (first ≡ None → (behind progress content).first ≡ None)
     → ((behind progress content).interfaces ≡ [] → first ≡ None → numbered [] items ≡ [])
-    → numbered [] (items_at file progress block body content items) ≡ []
+    → numbered [] (items_at_block file progress block body content items) ≡ []
 unfolding numbered
 block-unwritten file progress block body content first items of empty none before rest = grind arith
 
-blocks-unwritten : (file : ℕ) (progress : Progress) (items : List (pieces.Item Block)) → progress.interfaces ≡ []
+blocks-unwritten : (file : ℕ) (progress : Progress) (items : List (pieces.PieceItem Block)) → progress.interfaces ≡ []
     → first_in progress items ≡ None
-    → numbered [] (items_in file progress items) ≡ []
-unfolding numbered items_in first_in
+    → numbered [] (items_of_blocks file progress items) ≡ []
+unfolding numbered items_of_blocks first_in
 blocks-unwritten file progress (pieces.given block body ∷ rest) empty none =
     let content = content_in progress.interfaces block.kind block.order body in
     block-unwritten file progress block body content (first_in (behind progress content) rest)
-    (items_in file (behind progress content) rest)
+    (items_of_blocks file (behind progress content) rest)
     (content-of progress.interfaces block.kind block.order body) empty none
     (λ none. none-before (behind progress content) rest none)
     (λ empty none. blocks-unwritten file (behind progress content) rest empty none)
 blocks-unwritten file progress items empty none = grind arith
 
 records-unwritten : (tail : Tail) (file : ℕ) (bytes : List ℕ) (own : Interface)
-    → unless_refused (records.header_fault 0 bytes) own ≡ None
-    → numbered [] (pcap_items file own (records.file_items tail file 0 bytes)) ≡ []
-unfolding numbered pcap_items records.file_items
+    → unless_refused (records.pcap_header_fault 0 bytes) own ≡ None
+    → numbered [] (pcap_items file own (records.pcap_file_items tail file 0 bytes)) ≡ []
+unfolding numbered pcap_items records.pcap_file_items
 records-unwritten tail file bytes own none = grind arith
 
 pub first-none : (tail : Tail) (file : ℕ) (bytes : List ℕ) → file_first tail file bytes ≡ None
     → numbered [] (file_items tail file bytes) ≡ []
 unfolding items_from first_from
-first-none tail file bytes none = grind (arith, fresh, items_in, blocks-unwritten, records-unwritten)
+first-none tail file bytes none = grind (arith, fresh, items_of_blocks, blocks-unwritten, records-unwritten)

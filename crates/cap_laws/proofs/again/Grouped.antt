@@ -12,13 +12,13 @@ use Rattle.cap_source.specs.Feed.{Item, packet, refused}
 use Rattle.cap_source.specs.declared.packets.Meta.{Meta}
 use Rattle.cap_write.specs.Numbering.{Origin, Numbered, with_origin, is_full, write_fault, numbered_of, numbered_or}
 use Rattle.cap_write.specs.Numbering.{numbered, refusal_or, refusal_in}
-use Rattle.cap_merge.specs.Run.{Clocked, opened, merged, through_first}
+use Rattle.cap_merge.specs.Run.{Clocked, opened_track, merged, through_first}
 use Rattle.cap_merge.specs.Parts.{item_time, is_refusal}
 use Rattle.cap_merge.proofs.Rounds.{files_in}
 use Rattle.cap_merge.proofs.Rounds as merged_rounds
 use Rattle.cap_merge.proofs.RunLaws as run_laws
-use Rattle.cap_laws.specs.again.Rounds.{in_file, numbered_files, run_of, merged_packets, IsItemOf, IsMergeOf}
-use Rattle.cap_laws.specs.again.Rounds.{FileRoundsLaw, RoundsLaw, file_of, ClockLaw}
+use Rattle.cap_laws.specs.again.Rounds.{in_file, numbered_files, run_of_packets, merged_packets, IsItemOf, IsMergeOf}
+use Rattle.cap_laws.specs.again.Rounds.{FileRoundsLaw, RoundsLaw, file_of_packets, ClockLaw}
 use Rattle.cap_laws.proofs.again.Renaming.{IsOneToOne, Renamed, numbered-renamed, refusal-renamed}
 use Rattle.cap_laws.proofs.again.UsedOrigins.{all_origins, number-given, number-kept, GroupOrigins, IsOfGroup}
 use Rattle.cap_laws.proofs.again.UsedOrigins.{IsOfGroups, groups-apart}
@@ -46,16 +46,16 @@ unfolding refusal_in
 refusal_through ns (packet m f ∷ xs) = ap (refusal_or (write_fault ns m) m) (refusal_through (with_origin ns m) xs)
 refusal_through ns xs = cc
 
-run_is : (files : List (List Item)) → run_of files
+run_is : (files : List (List Item)) → run_of_packets files
     ≡ through_first is_refusal (merge_of item_time (numbered_files 1 files))
-unfolding run_of
-run_is files = through_items (merged item_time (map opened (numbered_files 1 files)))
+unfolding run_of_packets
+run_is files = through_items (merged item_time (map opened_track (numbered_files 1 files)))
 
 packets_are : (files : List (List Item)) → merged_packets files
     ≡ numbered [] (merge_of item_time (numbered_files 1 files))
 packets_are files = ap (numbered []) (run_is files) ∙ numbered_through [] (merge_of item_time (numbered_files 1 files))
 
-refusal_is : (files : List (List Item)) → refusal_in [] (run_of files)
+refusal_is : (files : List (List Item)) → refusal_in [] (run_of_packets files)
     ≡ refusal_in [] (merge_of item_time (numbered_files 1 files))
 refusal_is files = ap (refusal_in []) (run_is files) ∙ refusal_through [] (merge_of item_time (numbered_files 1 files))
 
@@ -101,7 +101,7 @@ packets_moved m files =
 no_rule : (o : Option Refusal) → option_map (λ f. f.rule) o ≡ None → o ≡ None
 no_rule o e = grind arith
 
-accepted_moved : (m : ℕ) (files : List (List Item)) → refusal_in [] (run_of files) ≡ None
+accepted_moved : (m : ℕ) (files : List (List Item)) → refusal_in [] (run_of_packets files) ≡ None
     → refusal_in [] (merge_of item_time (numbered_files m files)) ≡ None
 accepted_moved m files e =
     no_rule (refusal_in [] (merge_of item_time (numbered_files m files)))
@@ -253,7 +253,7 @@ file_rounds-law groups files h =
     )
 
 -- what a merge writes, as the items of a file, is what it writes
-made : (ns : List Numbered) → AllZip IsItemOf ns (file_of ns)
+made : (ns : List Numbered) → AllZip IsItemOf ns (file_of_packets ns)
 made [] = tt
 made (n ∷ ns) = (
   record {
@@ -267,10 +267,10 @@ made (n ∷ ns) = (
   made ns,
 )
 
-all_made : (groups : List (List (List Item))) → AllByRecursion (λ g. refusal_in [] (run_of g) ≡ None) groups
-    → AllZip IsMergeOf groups (map (λ g. file_of (merged_packets g)) groups)
+all_made : (groups : List (List (List Item))) → AllByRecursion (λ g. refusal_in [] (run_of_packets g) ≡ None) groups
+    → AllZip IsMergeOf groups (map (λ g. file_of_packets (merged_packets g)) groups)
 all_made [] h = tt
 all_made (g ∷ gs) h = (record { accepted = h.0; packets = made (merged_packets g) }, all_made gs h.1)
 
 pub rounds-law : RoundsLaw
-rounds-law groups h = file_rounds-law groups (map (λ g. file_of (merged_packets g)) groups) (all_made groups h)
+rounds-law groups h = file_rounds-law groups (map (λ g. file_of_packets (merged_packets g)) groups) (all_made groups h)

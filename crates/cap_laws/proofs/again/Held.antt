@@ -10,7 +10,7 @@ use Rattle.cap_pcap.proofs.Again.{record_again-law}
 use Rattle.cap_pcap.proofs.Items.{items_from-none}
 use Rattle.cap_pcap.proofs.Splitting.{record_read-law, length-spelled}
 use Rattle.cap_pcap.specs.Grammar.{Packet, SpellsRecord, record_bytes}
-use Rattle.cap_pcap.specs.Split.{items_with, items_from}
+use Rattle.cap_pcap.specs.Split.{record_items_with, record_items_from}
 use Rattle.cap_pcap.specs.declared.headers.PcapHeader.{PcapHeader}
 use Rattle.cap_bytes.specs.declared.stops.Stop.TheVariants as stops
 use Rattle.cap_source.proofs.Fields.{AllHeld}
@@ -49,20 +49,20 @@ spelled-again order unit p seconds original frame =
 -- The packets of a written text whose seconds fit are read again.
 pub records-again : (h : PcapHeader) (tail : Tail) (file offset : ℕ) (ps : List Packet) → AllHeld ps
     → offset + length (records_form h.order h.unit (early h.unit ps)) ≤ 2 ^ 40
-    → items_from h tail file offset (records_form h.order h.unit (early h.unit ps))
-    ≡ items_with offset (early h.unit ps) stops.End
+    → record_items_from h tail file offset (records_form h.order h.unit (early h.unit ps))
+    ≡ record_items_with offset (early h.unit ps) stops.End
 records-again h tail file offset [] held limit = items_from-none h tail file offset
 records-again h tail file offset (p ∷ ps) held limit =
     by (fits h.unit p) refl (λ offset limit. records-again h tail file offset ps held.3 limit) limit
   where
     by : (b : Bool) → fits h.unit p ≡ b
         → ((offset : ℕ) → offset + length (records_form h.order h.unit (early h.unit ps)) ≤ 2 ^ 40
-        → items_from h tail file offset (records_form h.order h.unit (early h.unit ps))
-        ≡ items_with offset (early h.unit ps) stops.End)
+        → record_items_from h tail file offset (records_form h.order h.unit (early h.unit ps))
+        ≡ record_items_with offset (early h.unit ps) stops.End)
         → offset + length (records_form h.order h.unit (if fits h.unit p then p ∷ early h.unit ps else [])) ≤ 2 ^ 40
-        → items_from h tail file offset (records_form h.order h.unit
+        → record_items_from h tail file offset (records_form h.order h.unit
         (if fits h.unit p then p ∷ early h.unit ps else []))
-        ≡ items_with offset (if fits h.unit p then p ∷ early h.unit ps else []) stops.End
+        ≡ record_items_with offset (if fits h.unit p then p ∷ early h.unit ps else []) stops.End
     by b is later few = grind (
       arith,
       records_form,

@@ -15,7 +15,8 @@ use Rattle.cap_pcap.specs.declared.records.Record.{Record}
 use Rattle.cap_source.proofs.Saying.{OfContent, content-holds}
 use Rattle.cap_source.specs.Contents.{content_in}
 use Rattle.cap_source.specs.Feed.{Item}
-use Rattle.cap_source.specs.Items.{Progress, fresh, behind, items_at, items_in, items_from, is_pcapng, pcap_items}
+use Rattle.cap_source.specs.Items.{Progress, fresh, behind, items_at_block, items_of_blocks, items_from, is_pcapng}
+use Rattle.cap_source.specs.Items.{pcap_items}
 use Rattle.cap_source.specs.Items.{interface_of}
 use Rattle.cap_source.specs.declared.contents.Content.{Content}
 use Rattle.cap_source.specs.declared.contents.Content.TheVariants as contents
@@ -46,7 +47,7 @@ added (Ok (contents.Packet p)) later = later
 added (Ok contents.Other) later = later
 added (Err rule) later = []
 
-abbrev future : Progress → List (pieces.Item Block) → List Interface
+abbrev future : Progress → List (pieces.PieceItem Block) → List Interface
 future progress [] = []
 future progress (pieces.stopped stop ∷ rest) = []
 future progress (pieces.given block body ∷ rest) =
@@ -68,24 +69,24 @@ block-alike : (file : ℕ) (all past : List Interface) (progress : Progress) (bl
     → (past ++ progress.interfaces) ++ added content later ≡ all
     → ((past : List Interface) → length past ≡ (behind progress content).base
     → (past ++ (behind progress content).interfaces) ++ later ≡ all → AllAlike file (nth all) items)
-    → AllAlike file (nth all) (items_at file progress block body content items)
+    → AllAlike file (nth all) (items_at_block file progress block body content items)
 block-alike file all past progress block body content later items of base whole rest =
     grind (arith, length-append, append-nil, append_assoc, nth-of)
 
-blocks-alike : (file : ℕ) (all past : List Interface) (progress : Progress) (items : List (pieces.Item Block))
+blocks-alike : (file : ℕ) (all past : List Interface) (progress : Progress) (items : List (pieces.PieceItem Block))
     → length past ≡ progress.base
     → (past ++ progress.interfaces) ++ future progress items ≡ all
-    → AllAlike file (nth all) (items_in file progress items)
-unfolding items_in
+    → AllAlike file (nth all) (items_of_blocks file progress items)
+unfolding items_of_blocks
 blocks-alike file all past progress (pieces.given block body ∷ rest) base whole =
     let content = content_in progress.interfaces block.kind block.order body in
     block-alike file all past progress block body content (future (behind progress content) rest)
-    (items_in file (behind progress content) rest)
+    (items_of_blocks file (behind progress content) rest)
     (content-of progress.interfaces block.kind block.order body) base whole
     (λ past base whole. blocks-alike file all past (behind progress content) rest base whole)
 blocks-alike file all past progress items base whole = grind arith
 
-records-alike : (file : ℕ) (i : Interface) (items : List (pieces.Item Record))
+records-alike : (file : ℕ) (i : Interface) (items : List (pieces.PieceItem Record))
     → AllAlike file (λ k. i) (pcap_items file i items)
 unfolding pcap_items
 records-alike file i (pieces.given r frame ∷ rest) = (refl, refl, records-alike file i rest)
@@ -97,12 +98,12 @@ one_interface-law tail file bytes = by (is_pcapng bytes)
   where
     by : (pcapng : Bool)
         → (given : ℕ → Interface) × AllAlike file given
-        (if pcapng then items_in file fresh (blocks.items_from None tail file 0 bytes)
-        else pcap_items file (interface_of (records.header_at bytes)) (records.file_items tail file 0 bytes))
+        (if pcapng then items_of_blocks file fresh (blocks.block_items_from None tail file 0 bytes)
+        else pcap_items file (interface_of (records.header_at bytes)) (records.pcap_file_items tail file 0 bytes))
     by true =
-        let items = blocks.items_from None tail file 0 bytes in
+        let items = blocks.block_items_from None tail file 0 bytes in
         (nth (future fresh items), blocks-alike file (future fresh items) [] fresh items refl refl)
     by false = (
       (λ k. interface_of (records.header_at bytes)),
-      records-alike file (interface_of (records.header_at bytes)) (records.file_items tail file 0 bytes),
+      records-alike file (interface_of (records.header_at bytes)) (records.pcap_file_items tail file 0 bytes),
     )

@@ -11,7 +11,7 @@ use Rattle.cap_time.specs.declared.resolutions.Interface.{Interface}
 use Rattle.cap_write.proofs.Places.{position_or_len-none, position_or_len-some}
 use Rattle.cap_write.specs.Numbering.{Origin, origin_of, is_origin, is_used, number_of, with_origin, is_full}
 use Rattle.cap_write.specs.Numbering.{write_fault, numbered_of, numbered_or, numbered}
-use Rattle.cap_laws.specs.again.Laws.{AllFit, AllHave, IsNumbered, described, all_described}
+use Rattle.cap_laws.specs.again.Laws.{AllFit, AllHave, AreNumbered, described_after, all_described}
 
 both : (x y : Bool) → (x && y) ≡ true → (x ≡ true) × (y ≡ true)
 both x y h = grind arith
@@ -42,7 +42,8 @@ number-next origins meta used = eq-eqb (number_of origins meta) (length origins)
 
 described-given : (given : Origin → Interface) (origins : List Origin) (meta : Meta) (frame : List ℕ)
     → meta.interface ≡ given (origin_of meta)
-    → described (given_all given origins) (numbered_of origins meta frame) ≡ given_all given (with_origin origins meta)
+    → described_after (given_all given origins) (numbered_of origins meta frame)
+    ≡ given_all given (with_origin origins meta)
 described-given given origins meta frame interface =
     grind (arith, length-given, position_or_len-some, ne_eqb, number-next, given_all-push)
 
@@ -55,14 +56,14 @@ known-given given origins meta interface other =
 
 -- packets are numbered after the interfaces of the origins that were used
 pub IsNumbered-given : (given : Origin → Interface) (origins : List Origin) (items : List Item) → AllHave given items
-    → IsNumbered (given_all given origins) (numbered origins items)
+    → AreNumbered (given_all given origins) (numbered origins items)
 unfolding numbered
 IsNumbered-given given origins (packet meta frame ∷ items) have =
     by (write_fault origins meta) (IsNumbered-given given (with_origin origins meta) items have.1)
   where
-    by : (fault : Option Rule) → IsNumbered (given_all given (with_origin origins meta))
+    by : (fault : Option Rule) → AreNumbered (given_all given (with_origin origins meta))
         (numbered (with_origin origins meta) items)
-        → IsNumbered (given_all given origins) (numbered_or fault (numbered_of origins meta frame)
+        → AreNumbered (given_all given origins) (numbered_or fault (numbered_of origins meta frame)
         (numbered (with_origin origins meta) items))
     by (Some rule) later = tt
     by None later = search (known-given, described-given)

@@ -4,7 +4,7 @@ use Rattle.std.specs.List.{AllByRecursion}
 use Rattle.cap_blocks.specs.Split.{AreBytes}
 use Rattle.cap_bytes.specs.declared.faults.Tail.{Tail}
 use Rattle.cap_merge.specs.Parts.{item_time, is_refusal}
-use Rattle.cap_merge.specs.Run.{Clocked, opened, merged, through_first}
+use Rattle.cap_merge.specs.Run.{Clocked, opened_track, merged, through_first}
 use Rattle.cap_source.proofs.Fields.{fields_fit-law}
 use Rattle.cap_source.proofs.Frames.{frames_fit-law}
 use Rattle.cap_source.specs.Feed.{Item, packet, refused}
@@ -90,7 +90,7 @@ run-has tail files are =
     let given = given_from tail 1 files in
     let lists = items_of_files tail 1 files in
     let ends : Clocked Item → Bool = λ x. is_refusal x.item in
-    let all = merged item_time (map opened lists) in
+    let all = merged item_time (map opened_track lists) in
     all_have 1 given (run_of_files tail files) (front (IsOfFile 1 given) ends all
     (merge-all (IsOfFile 1 given) item_time lists (of_all tail 1 files are)))
 
@@ -101,7 +101,7 @@ merge-law order tail tail_again file_again files are limit =
     let lists = items_of_files tail 1 files in
     let items = run_of_files tail files in
     let ends : Clocked Item → Bool = λ x. is_refusal x.item in
-    let all = merged item_time (map opened lists) in
+    let all = merged item_time (map opened_track lists) in
     let law = merged_again-law order tail_again file_again given items (run-has tail files are) limit in
     let frames = front HasFrame ends all (merge-all HasFrame item_time lists (all_frames tail 1 files)) in
     (law.0 ∙ numbered-measured [] items frames, law.1, law.2, law.3)

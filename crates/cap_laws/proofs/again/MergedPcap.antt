@@ -21,7 +21,7 @@ use Rattle.cap_write.proofs.Records.{fault_by}
 use Rattle.cap_write.specs.Numbering.{Numbered, Origin, numbered, numbered_of, numbered_or, refusal_in, refusal_or}
 use Rattle.cap_write.specs.Numbering.{with_origin, write_fault}
 use Rattle.cap_write.specs.Pcap.{bare_refusal, fraction_of, header_of, packet_record, pcap_bytes, pcap_refusal}
-use Rattle.cap_write.specs.Pcap.{record_fault, records_bytes, records_refusal, time_bytes, time_in}
+use Rattle.cap_write.specs.Pcap.{written_record_fault, records_bytes, records_refusal, time_bytes, whole_time_in}
 use Rattle.cap_write.specs.PcapRun.{leading, run_bytes, run_refusal}
 use Rattle.cap_write.specs.Texts.{merged_bytes, packet_part, packets_bytes, text_or}
 use Rattle.cap_laws.proofs.again.Again.{first_in-interface, first_in-packet, packets_bytes-new, reached}
@@ -29,7 +29,7 @@ use Rattle.cap_laws.proofs.again.Back.{unnamed}
 use Rattle.cap_laws.proofs.again.Files.{first-behind_section, length-section_bytes}
 use Rattle.cap_laws.proofs.again.MergedFiles.{given_from, merge-law, run-has}
 use Rattle.cap_laws.proofs.again.PcapngAgain.{first-section}
-use Rattle.cap_laws.specs.again.Laws.{AllHave, Fits, meta_again}
+use Rattle.cap_laws.specs.again.Laws.{AllHave, NumbersFit, meta_again}
 use Rattle.cap_laws.specs.again.Rounds.{MergedPcap, rule_of}
 
 some-none : {A : Type 0} (a : A) → Some a ≡ None → ⊥
@@ -40,7 +40,7 @@ some-none a e = cc
 abbrev numbered_text : Order → Interface → List Numbered → List ℕ
 numbered_text order first [] = []
 numbered_text order first (n ∷ ns) =
-    text_or (record_fault first (meta_again 0 0 n))
+    text_or (written_record_fault first (meta_again 0 0 n))
     (packet_record order first (meta_again 0 0 n) n.frame ++ numbered_text order first ns)
 
 abbrev rule_or : Option Rule → Option Rule → Option Rule
@@ -49,7 +49,7 @@ rule_or None rest = rest
 
 abbrev numbered_rule : Interface → List Numbered → Option Rule
 numbered_rule first [] = None
-numbered_rule first (n ∷ ns) = rule_or (record_fault first (meta_again 0 0 n)) (numbered_rule first ns)
+numbered_rule first (n ∷ ns) = rule_or (written_record_fault first (meta_again 0 0 n)) (numbered_rule first ns)
 
 -- a packet that isn't refused, and those after it
 record Goes (origins : List Origin) (meta : Meta) (items : List Item) : Type 0 where
@@ -87,8 +87,8 @@ never origins refusal items none = absurd (some-none refusal none)
 
 fault-is : (first : Interface) (origins : List Origin) (meta : Meta) (frame : List ℕ)
     → meta.units ≡ Some (unwrap_or meta.units 0)
-    → record_fault first meta ≡ record_fault first (meta_again 0 0 (numbered_of origins meta frame))
-unfolding record_fault
+    → written_record_fault first meta ≡ written_record_fault first (meta_again 0 0 (numbered_of origins meta frame))
+unfolding written_record_fault
 fault-is first origins meta frame timed =
     ap (λ units. fault_by units (meta.interface.link == first.link) (fraction_of first) meta.interface) timed
 
@@ -97,7 +97,7 @@ record-is : (order : Order) (first : Interface) (origins : List Origin) (meta : 
     → packet_record order first meta frame ≡ packet_record order first
     (meta_again 0 0 (numbered_of origins meta frame)) frame
 record-is order first origins meta frame timed =
-    ap (λ units. time_bytes order (time_in (fraction_of first) meta.interface units) meta.original frame) timed
+    ap (λ units. time_bytes order (whole_time_in (fraction_of first) meta.interface units) meta.original frame) timed
 
 numbered-more : (origins : List Origin) (meta : Meta) (frame : List ℕ) (items : List Item)
     → write_fault origins meta ≡ None
@@ -109,7 +109,7 @@ numbered-more origins meta frame items none = ap
 
 rule-more : (first : Interface) (meta : Meta) (frame : List ℕ) (items : List Item)
     → rule_of (records_refusal first (packet meta frame ∷ items))
-    ≡ rule_or (record_fault first meta) (rule_of (records_refusal first items))
+    ≡ rule_or (written_record_fault first meta) (rule_of (records_refusal first items))
 unfolding records_refusal
 rule-more first meta frame items = grind arith
 
@@ -141,7 +141,8 @@ records-rule first origins (packet meta frame ∷ items) none =
 
 -- ---- the first interface of a merged file
 
-first-merged : (order : Order) (tail : Tail) (file : ℕ) (n : Numbered) (ns : List Numbered) → n.number ≡ 0 → Fits n
+first-merged : (order : Order) (tail : Tail) (file : ℕ) (n : Numbered) (ns : List Numbered) → n.number ≡ 0
+    → NumbersFit n
     → length (section_bytes order ++ packets_bytes order 0 (n ∷ ns)) ≤ 2 ^ 40
     → file_first tail file (section_bytes order ++ packets_bytes order 0 (n ∷ ns)) ≡ Some n.interface
 first-merged order tail file n ns zero fits limit =
@@ -155,7 +156,7 @@ first-merged order tail file n ns zero fits limit =
     let parts = length-append (interface_bytes order i) rest in
     let last = length-append (packet_part order n) behind in
     first-behind_section order tail file (packets_bytes order 0 (n ∷ ns))
-    ∙ (ap (λ t. first_in (reached [] None) (blocks.items_from (Some order) tail file 28 t)) text
+    ∙ (ap (λ t. first_in (reached [] None) (blocks.block_items_from (Some order) tail file 28 t)) text
     ∙ (first_in-interface order tail file 28 (reached [] None) i rest (omega arith) fits.link fits.snaplen fits.offset
     (omega (arith, limit, size, whole, parts, length-section_bytes order))
     ∙ first_in-packet order tail file (28 + length (interface_bytes order i))

@@ -16,11 +16,12 @@ use Rattle.cap_source.specs.declared.packets.Meta.{Meta}
 use Rattle.cap_time.specs.Unit.{in_second}
 use Rattle.cap_time.specs.declared.stamps.Unit.{Unit as Fraction}
 use Rattle.cap_write.specs.Numbering.{refusal_at, refusal_or}
-use Rattle.cap_write.specs.Pcap.{record_fault, packet_record, records_bytes, records_refusal}
+use Rattle.cap_write.specs.Pcap.{written_record_fault, packet_record, records_bytes, records_refusal}
 use Rattle.cap_write.specs.Texts.{interface_part, packet_part, count_after, text_or}
 use Rattle.cap_laws.proofs.again.Packed.{number_one, number_all, keep_all}
 use Rattle.cap_laws.proofs.again.Trips.{units_of-unit, fraction_of-header, whole_time-header, in_range-pos}
-use Rattle.cap_laws.specs.again.Laws.{kept, record_form, records_form, is_late, timely, late_in, read_items, meta_again}
+use Rattle.cap_laws.specs.again.Laws.{kept_packets, record_form, records_form, is_late, timely, late_in, read_items}
+use Rattle.cap_laws.specs.again.Laws.{meta_again}
 
 -- whether the seconds of a time fit
 abbrev pub fits : Fraction → Packet → Bool
@@ -33,8 +34,8 @@ early unit (p ∷ ps) = if fits unit p then p ∷ early unit ps else []
 
 -- what refuses a packet that was read again, and what is written for it
 fault-read : (h : PcapHeader) (meta : Meta) (p : Packet) → meta.interface ≡ interface_of h → meta.units ≡ Some p.units
-    → record_fault (interface_of h) meta ≡ (if fits h.unit p then None else Some TimeRange)
-unfolding record_fault
+    → written_record_fault (interface_of h) meta ≡ (if fits h.unit p then None else Some TimeRange)
+unfolding written_record_fault
 fault-read h meta p interface units = grind (arith, eq-eqb, fraction_of-header, whole_time-header, in_range-pos)
 
 line-read : (order : Order) (h : PcapHeader) (meta : Meta) (p : Packet) → meta.interface ≡ interface_of h
@@ -102,9 +103,9 @@ records_refusal-read h order file offset count (p ∷ ps) =
 
 -- the packets before the first that is late
 pub timely-packets : (h : PcapHeader) (file offset : ℕ) (ps : List Packet) (stop : Stop)
-    → kept (timely (pcap_items file (interface_of h) (records.items_with offset ps stop)))
+    → kept_packets (timely (pcap_items file (interface_of h) (records.record_items_with offset ps stop)))
     ≡ keep_all (interface_of h) (early h.unit ps)
-unfolding timely pcap_items kept
+unfolding timely pcap_items kept_packets
 timely-packets h file offset (p ∷ ps) stop = grind
-    (arith, timely-packets h file (offset + packet_size p) ps stop, timely, kept, is_late-header)
+    (arith, timely-packets h file (offset + packet_size p) ps stop, timely, kept_packets, is_late-header)
 timely-packets h file offset ps stop = grind arith

@@ -11,7 +11,7 @@ use Rattle.cap_time.specs.declared.resolutions.Interface.{Interface}
 use Rattle.cap_source.specs.Feed.{refusal_of}
 use Rattle.cap_write.specs.Numbering.{Origin, Numbered, numbered, refusal_in, write_fault}
 use Rattle.cap_write.specs.Texts.{interface_part, packet_part, count_after}
-use Rattle.cap_laws.specs.again.Laws.{Kept, kept, read_items, IsNumbered, all_described}
+use Rattle.cap_laws.specs.again.Laws.{Kept, kept_packets, read_items, AreNumbered, all_described}
 
 -- the packets of a pcap file as they are numbered after its one interface, and as they are kept
 abbrev pub number_one : Interface → Packet → Numbered
@@ -53,35 +53,35 @@ stop_refusal (stops.Refused refusal) = Some refusal
 
 -- what is written of them is all
 pub numbered-packets : (file : ℕ) (i : Interface) (offset : ℕ) (ps : List Packet) (stop : Stop)
-    → numbered (one_origin file) (pcap_items file i (records.items_with offset ps stop)) ≡ number_all i ps
+    → numbered (one_origin file) (pcap_items file i (records.record_items_with offset ps stop)) ≡ number_all i ps
 unfolding numbered pcap_items write_fault
 numbered-packets file i offset (p ∷ ps) stop = grind (arith, numbered-packets file i (offset + packet_size p) ps stop)
 numbered-packets file i offset ps stop = grind arith
 
 -- and nothing is refused but what ended them
 pub refusal-packets : (file : ℕ) (i : Interface) (offset : ℕ) (ps : List Packet) (stop : Stop)
-    → refusal_in (one_origin file) (pcap_items file i (records.items_with offset ps stop)) ≡ stop_refusal stop
+    → refusal_in (one_origin file) (pcap_items file i (records.record_items_with offset ps stop)) ≡ stop_refusal stop
 unfolding refusal_in pcap_items write_fault
 refusal-packets file i offset (p ∷ ps) stop = grind (arith, refusal-packets file i (offset + packet_size p) ps stop)
 refusal-packets file i offset ps stop = grind arith
 
 pub refusal_of-packets : (file : ℕ) (i : Interface) (offset : ℕ) (ps : List Packet) (stop : Stop)
-    → refusal_of (pcap_items file i (records.items_with offset ps stop)) ≡ stop_refusal stop
+    → refusal_of (pcap_items file i (records.record_items_with offset ps stop)) ≡ stop_refusal stop
 unfolding refusal_of pcap_items
 refusal_of-packets file i offset (p ∷ ps) stop = refusal_of-packets file i (offset + packet_size p) ps stop
 refusal_of-packets file i offset ps stop = grind arith
 
 pub kept-packets : (file : ℕ) (i : Interface) (offset : ℕ) (ps : List Packet) (stop : Stop)
-    → kept (pcap_items file i (records.items_with offset ps stop)) ≡ keep_all i ps
-unfolding kept pcap_items
+    → kept_packets (pcap_items file i (records.record_items_with offset ps stop)) ≡ keep_all i ps
+unfolding kept_packets pcap_items
 kept-packets file i offset (p ∷ ps) stop = ap (λ l. keep_one i p ∷ l)
     (kept-packets file i (offset + packet_size p) ps stop)
 kept-packets file i offset ps stop = grind arith
 
 -- and as they are read again
 pub kept-read : (order : Order) (file offset count : ℕ) (i : Interface) (ps : List Packet)
-    → kept (read_items order file offset count (number_all i ps)) ≡ keep_all i ps
-unfolding kept read_items
+    → kept_packets (read_items order file offset count (number_all i ps)) ≡ keep_all i ps
+unfolding kept_packets read_items
 kept-read order file offset count i [] = refl
 kept-read order file offset count i (p ∷ ps) =
     grind (
@@ -91,7 +91,7 @@ kept-read order file offset count i (p ∷ ps) =
     )
 
 -- they are numbered after their interface
-pub IsNumbered-packets : (i : Interface) (ps : List Packet) → IsNumbered (i ∷ []) (number_all i ps)
+pub IsNumbered-packets : (i : Interface) (ps : List Packet) → AreNumbered (i ∷ []) (number_all i ps)
 IsNumbered-packets i [] = tt
 IsNumbered-packets i (p ∷ ps) = ((λ is. refl), IsNumbered-packets i ps)
 

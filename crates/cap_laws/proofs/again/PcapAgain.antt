@@ -10,7 +10,7 @@ use Rattle.cap_bytes.specs.declared.faults.Tail.{Tail}
 use Rattle.cap_bytes.specs.declared.numbers.Order.{Order}
 use Rattle.cap_time.specs.Clock.{clock_cmp}
 use Rattle.cap_pcap.specs.Grammar.{Packet, packet_size, header_bytes, record_bytes}
-use Rattle.cap_pcap.specs.Split.{items_with, record_of}
+use Rattle.cap_pcap.specs.Split.{record_items_with, record_of}
 use Rattle.cap_pcap.specs.declared.headers.PcapHeader.{PcapHeader}
 use Rattle.cap_bytes.specs.declared.stops.Stop.TheVariants as stops
 use Rattle.cap_pcap.specs.Split as records
@@ -22,7 +22,7 @@ use Rattle.cap_source.specs.declared.packets.Meta.{Meta}
 use Rattle.cap_time.proofs.WholeUnits.{whole_of_pair, in_second_positive}
 use Rattle.cap_time.specs.Stamp.{stamp_cmp, stamp_in, time_of}
 use Rattle.cap_time.specs.Resolution.{units_of}
-use Rattle.cap_time.specs.Time.{Time, time_at, time_cmp, IsWhole, IsNeverWhole}
+use Rattle.cap_time.specs.Time.{Time, time_at, time_cmp, IsWholeTime, IsNeverWhole}
 use Rattle.cap_time.proofs.PrintedForm.{time_at-stamped}
 use Rattle.cap_time.proofs.StampForms.{time_of-stamp_in}
 use Rattle.std.proofs.lemmas.Int.{ints}
@@ -31,7 +31,8 @@ use Rattle.cap_time.specs.declared.resolutions.Interface.{Interface}
 use Rattle.cap_time.specs.declared.stamps.Stamp.{Stamp}
 use Rattle.cap_time.specs.declared.stamps.Unit.{Unit as Fraction}
 use Rattle.cap_write.proofs.Records.{fault_by}
-use Rattle.cap_write.specs.Pcap.{fraction_of, header_of, whole_time, time_fault, record_fault, time_in, written_time}
+use Rattle.cap_write.specs.Pcap.{fraction_of, header_of, whole_time, time_fault, written_record_fault, whole_time_in}
+use Rattle.cap_write.specs.Pcap.{written_time}
 use Rattle.cap_write.specs.Pcap.{time_bytes, packet_record, records_bytes, records_refusal, bare_refusal, pcap_bytes}
 use Rattle.cap_write.specs.Pcap.{pcap_refusal}
 use Rattle.cap_write.specs.Texts.{text_or}
@@ -70,23 +71,23 @@ timed_by first meta (Some units) true is link none =
     record { units = units; is = is; link = grind (arith, link); seconds = t.0; rest = t.1; time = t.2; few = t.3 }
 timed_by first meta units same is link none = grind arith
 
-timed : (first : Interface) (meta : Meta) → record_fault first meta ≡ None → IsTimed first meta
-unfolding record_fault
+timed : (first : Interface) (meta : Meta) → written_record_fault first meta ≡ None → IsTimed first meta
+unfolding written_record_fault
 timed first meta none = timed_by first meta meta.units (meta.interface.link == first.link) refl refl none
 
 -- what is known of such a time
 whole : (first : Interface) (meta : Meta) (t : IsTimed first meta)
-    → IsWhole (in_second (fraction_of first)) (time_of (stamp_in t.units meta.interface)) (pos t.seconds) t.rest
+    → IsWholeTime (in_second (fraction_of first)) (time_of (stamp_in t.units meta.interface)) (pos t.seconds) t.rest
 whole first meta t =
     let d = in_second (fraction_of first) in
     let a = stamp_in t.units meta.interface in
     subst (λ (w : Option (ℤ × ℕ)). MatchOption w (IsNeverWhole d (time_of a))
-    (λ w. IsWhole d (time_of a) w.0 w.1)) t.time
+    (λ w. IsWholeTime d (time_of a) w.0 w.1)) t.time
     (whole_of_pair d a (in_second_positive (fraction_of first)))
 
 -- it is the time of that many units
 same_time : (unit : Fraction) (h : PcapHeader) → h.unit ≡ unit → (a : Stamp) (s n : ℕ)
-    → IsWhole (in_second unit) (time_of a) (pos s) n
+    → IsWholeTime (in_second unit) (time_of a) (pos s) n
     → stamp_cmp a (stamp_in (s * in_second unit + n) (interface_of h)) ≡ Equal
 unfolding stamp_cmp
 same_time unit h is a s n w =
@@ -123,7 +124,7 @@ forms_of first (refused refusal ∷ items) = []
 
 written_is : (first : Interface) (meta : Meta) (t : IsTimed first meta)
     → written_time first meta ≡ Some (pos t.seconds, t.rest)
-written_is first meta t = ap (time_in (fraction_of first) meta.interface) t.is ∙ t.time
+written_is first meta t = ap (whole_time_in (fraction_of first) meta.interface) t.is ∙ t.time
 
 units_are : (first : Interface) (meta : Meta) (t : IsTimed first meta)
     → units_in (fraction_of first) (written_time first meta) ≡ t.seconds * in_second (fraction_of first) + t.rest
@@ -144,7 +145,7 @@ line_is order first meta frame t =
 
 -- a packet that isn't refused, and those after it
 record Goes (first : Interface) (meta : Meta) (items : List Item) : Type 0 where
-  unrefused : record_fault first meta ≡ None
+  unrefused : written_record_fault first meta ≡ None
   rest : records_refusal first items ≡ None
 
 goes : (first : Interface) (meta : Meta) (frame : List ℕ) (items : List Item)
@@ -215,7 +216,7 @@ same_packet order first file offset meta frame t captured =
 same_packets : (order : Order) (first : Interface) (file offset : ℕ) (items : List Item) → AllByRecursion ItemFits items
     → records_refusal first items ≡ None
     → AllZip SamePackets items (pcap_items file (interface_of (header_of order first))
-    (items_with offset (forms_of first items) stops.End))
+    (record_items_with offset (forms_of first items) stops.End))
 unfolding pcap_items
 same_packets order first file offset [] fit none = tt
 same_packets order first file offset (refused refusal ∷ items) fit none = never_refused first refusal items none
@@ -227,7 +228,7 @@ same_packets order first file offset (packet meta frame ∷ items) fit none =
 
 -- nothing has no interface
 no_bytes : (tail : Tail) (file : ℕ) → file_first tail file [] ≡ None
-unfolding first_from records.header_fault
+unfolding first_from records.pcap_header_fault
 no_bytes tail file = refl
 
 pub pcap_again-law : PcapAgain

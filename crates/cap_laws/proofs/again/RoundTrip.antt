@@ -14,7 +14,7 @@ use Rattle.cap_bytes.specs.declared.numbers.Order.{Order}
 use Rattle.cap_bytes.specs.declared.numbers.Order.TheVariants.{Big, Little}
 use Rattle.cap_pcap.proofs.Splitting.{every_split-law, split_items-law}
 use Rattle.cap_pcap.specs.Split as records
-use Rattle.cap_pcap.specs.Split.{items_with}
+use Rattle.cap_pcap.specs.Split.{record_items_with}
 use Rattle.cap_bytes.specs.declared.stops.Stop.{Stop}
 use Rattle.cap_bytes.specs.declared.stops.Stop.TheVariants as stops
 use Rattle.cap_pcap.proofs.Again.{flips_bytes, header_at-text, header_again-law}
@@ -39,7 +39,7 @@ use Rattle.cap_laws.proofs.again.Packed.{number_one, number_all, stop_refusal, n
 use Rattle.cap_laws.proofs.again.Packed.{refusal_of-packets, kept-packets, kept-read, IsNumbered-packets}
 use Rattle.cap_laws.proofs.again.Packed.{all_described-packets}
 use Rattle.cap_laws.proofs.again.Trips.{fraction_of-header}
-use Rattle.cap_laws.specs.again.Laws.{kept, timely, late_in, read_items, record_form, records_form, AllWritten}
+use Rattle.cap_laws.specs.again.Laws.{kept_packets, timely, late_in, read_items, record_form, records_form, AllWritten}
 use Rattle.cap_laws.specs.again.Laws.{RoundTrip, SameBytes}
 
 -- a written pcap header is no section header
@@ -65,7 +65,7 @@ is_pcapng-header header rest snaplen link = grind
 pub record Accepted (tail : Tail) (file : ℕ) (bytes : List ℕ) (header : PcapHeader) : Type 0 where
   pub packets : List Packet
   pub stop : Stop
-  pub items : file_items tail file bytes ≡ pcap_items file (interface_of header) (items_with 24 packets stop)
+  pub items : file_items tail file bytes ≡ pcap_items file (interface_of header) (record_items_with 24 packets stop)
   pub first : file_first tail file bytes ≡ Some (interface_of header)
   pub unrefused : stop_refusal stop ≡ None
   pub held : AllHeld packets
@@ -74,12 +74,12 @@ pub record Accepted (tail : Tail) (file : ℕ) (bytes : List ℕ) (header : Pcap
 
 pcap_only : (tail : Tail) (file : ℕ) (bytes : List ℕ) → is_pcapng bytes ≡ false
     → file_items tail file bytes ≡ pcap_items file (interface_of (records.header_at bytes))
-    (records.file_items tail file 0 bytes)
+    (records.pcap_file_items tail file 0 bytes)
 unfolding items_from
 pcap_only tail file bytes is = rw is refl
 
 first_only : (tail : Tail) (file : ℕ) (bytes : List ℕ) → is_pcapng bytes ≡ false
-    → file_first tail file bytes ≡ unless_refused (records.header_fault 0 bytes)
+    → file_first tail file bytes ≡ unless_refused (records.pcap_header_fault 0 bytes)
     (interface_of (records.header_at bytes))
 unfolding first_from
 first_only tail file bytes is = rw is refl
@@ -91,17 +91,17 @@ pub first-header : (tail : Tail) (file : ℕ) (header : PcapHeader) (rest : List
 first-header tail file header rest snaplen link = grind (arith, header_at-text, first_only, is_pcapng-header)
 
 refused_header : (tail : Tail) (file : ℕ) (bytes : List ℕ) (i : Interface) (rule : Rule)
-    → records.header_fault 0 bytes ≡ Some rule
-    → refusal_of (pcap_items file i (records.file_items tail file 0 bytes)) ≡ None → ⊥
-unfolding records.file_items pcap_items refusal_of
+    → records.pcap_header_fault 0 bytes ≡ Some rule
+    → refusal_of (pcap_items file i (records.pcap_file_items tail file 0 bytes)) ≡ None → ⊥
+unfolding records.pcap_file_items pcap_items refusal_of
 refused_header tail file bytes i rule is none = cc
 
 pub accepted : (tail : Tail) (file : ℕ) (bytes : List ℕ) → AreBytes bytes → is_pcapng bytes ≡ false
     → refusal_of (file_items tail file bytes) ≡ None
     → Accepted tail file bytes (records.header_at bytes)
-accepted tail file bytes are plain none = by (records.header_fault 0 bytes) refl
+accepted tail file bytes are plain none = by (records.pcap_header_fault 0 bytes) refl
   where
-    by : (fault : Option Rule) → records.header_fault 0 bytes ≡ fault
+    by : (fault : Option Rule) → records.pcap_header_fault 0 bytes ≡ fault
         → Accepted tail file bytes (records.header_at bytes)
     by (Some rule) is = grind (arith, refused_header, pcap_only)
     by None is =
@@ -184,13 +184,13 @@ out_items : (back : Order) (h : PcapHeader) (tail : Tail) (file : ℕ) (ps : Lis
     → h.link < 2 ^ 16 → AllHeld ps
     → 24 + length (records_form back h.unit (early h.unit ps)) ≤ 2 ^ 40
     → file_items tail file (header_bytes (header_with back h) ++ records_form back h.unit (early h.unit ps))
-    ≡ pcap_items file (interface_of h) (items_with 24 (early h.unit ps) stops.End)
+    ≡ pcap_items file (interface_of h) (record_items_with 24 (early h.unit ps) stops.End)
 out_items back h tail file ps snaplen link held limit =
     let header = header_with back h in
     let rest = records_form back h.unit (early h.unit ps) in
     let out = header_bytes header ++ rest in
     pcap_only tail file out (is_pcapng-header header rest snaplen link)
-    ∙ (ap (λ x. pcap_items file (interface_of x) (records.file_items tail file 0 out))
+    ∙ (ap (λ x. pcap_items file (interface_of x) (records.pcap_file_items tail file 0 out))
     (header_at-text header rest snaplen link).1
     ∙ ap (pcap_items file (interface_of h))
     ((header_again-law header snaplen link).1 tail file rest ∙ records-again header tail file 24 ps held limit))
@@ -257,16 +257,16 @@ round_trip-law bytes tail file are plain none order back tail_again tail_last fi
     ∙ out_items back h tail_last file_last ps a.snaplen a.link a.held b.short in (
       (written_once order tail file bytes h a).refusal,
       b.first ∙ sym a.first,
-      ap kept b.read ∙ (kept-read order file_again place 1 i ps
-          ∙ sym (ap kept a.items ∙ kept-packets file i 24 ps a.stop)),
+      ap kept_packets b.read ∙ (kept-read order file_again place 1 i ps
+          ∙ sym (ap kept_packets a.items ∙ kept-packets file i 24 ps a.stop)),
       ap (λ f. pcap_refusal file_again f (file_items tail_again file_again text)) b.first
           ∙ (ap (records_refusal i) b.read ∙ (records_refusal-read h order file_again place 1 ps
           ∙ sym (ap late_in b.read))),
       ap (file_first tail_last file_last) b.out
           ∙ (first-header tail_last file_last (header_with back h)
           (records_form back h.unit (early h.unit ps)) a.snaplen a.link ∙ sym a.first),
-      ap kept last ∙ (kept-packets file_last i 24 (early h.unit ps) stops.End
-          ∙ sym (ap (λ l. kept (timely l)) a.items ∙ timely-packets h file 24 ps a.stop)),
+      ap kept_packets last ∙ (kept-packets file_last i 24 (early h.unit ps) stops.End
+          ∙ sym (ap (λ l. kept_packets (timely l)) a.items ∙ timely-packets h file 24 ps a.stop)),
       ap refusal_of last ∙ refusal_of-packets file_last i 24 (early h.unit ps) stops.End,
     )
 
@@ -275,7 +275,7 @@ pub items-written : (tail : Tail) (file : ℕ) (h : PcapHeader) (ps : List Packe
     → AllWritten h.unit ps
     → length (header_bytes h ++ records_form h.order h.unit ps) ≤ 2 ^ 40
     → file_items tail file (header_bytes h ++ records_form h.order h.unit ps)
-    ≡ pcap_items file (interface_of h) (items_with 24 ps stops.End)
+    ≡ pcap_items file (interface_of h) (record_items_with 24 ps stops.End)
 items-written tail file h ps snaplen link w limit =
     grind (arith, records_form, early-written, header_again-law, length-append, out_items, held-written)
 

@@ -28,7 +28,7 @@ use Rattle.cap_write.specs.Texts.{interface_part, packet_part, count_after, firs
 use Rattle.cap_write.specs.Texts.{merged_bytes}
 
 -- The fields of a packet and of its interface fit in their widths, and that many bytes may be captured.
-pub record Fits (n : Numbered) : Type 0 where
+pub record NumbersFit (n : Numbered) : Type 0 where
   pub link : n.interface.link < 2 ^ 16
   pub snaplen : n.interface.snaplen < 2 ^ 32
   pub offset : FitsSigned w64 n.interface.offset
@@ -61,26 +61,26 @@ read_items order file offset count (n ∷ rest) =
     ∷ read_items order file (place + length (packet_part order n)) (count_after count n) rest
 
 -- the interfaces that are described after a packet
-abbrev pub described : List Interface → Numbered → List Interface
-described interfaces n = if n.number == length interfaces then interfaces ++ n.interface ∷ [] else interfaces
+abbrev pub described_after : List Interface → Numbered → List Interface
+described_after interfaces n = if n.number == length interfaces then interfaces ++ n.interface ∷ [] else interfaces
 
 -- The packets are numbered after those interfaces: each has the next number, or that of an interface that
 -- stands there.
-abbrev pub IsNumbered : List Interface → List Numbered → Type 0
-IsNumbered interfaces [] = ⊤
-IsNumbered interfaces (n ∷ rest) =
+abbrev pub AreNumbered : List Interface → List Numbered → Type 0
+AreNumbered interfaces [] = ⊤
+AreNumbered interfaces (n ∷ rest) =
     ((n.number == length interfaces) ≡ false → slice_get interfaces n.number ≡ Some n.interface)
-    × IsNumbered (described interfaces n) rest
+    × AreNumbered (described_after interfaces n) rest
 
 -- how many are described after them all
 abbrev pub all_described : List Interface → List Numbered → List Interface
 all_described interfaces [] = interfaces
-all_described interfaces (n ∷ rest) = all_described (described interfaces n) rest
+all_described interfaces (n ∷ rest) = all_described (described_after interfaces n) rest
 
 -- the fields of all packets fit
 abbrev pub AllFit : List Numbered → Type 0
 AllFit [] = ⊤
-AllFit (n ∷ rest) = Fits n × AllFit rest
+AllFit (n ∷ rest) = NumbersFit n × AllFit rest
 
 -- What a written file keeps of a packet: its interface, its time in the interface's units, how many bytes
 -- were captured, how many it had, and the captured bytes.
@@ -102,10 +102,10 @@ kept_of meta frame =
     }
 
 -- the same of the packets of a list
-unfoldable pub kept : List Item → List Kept
-kept [] = []
-kept (packet meta frame ∷ items) = kept_of meta frame ∷ kept items
-kept (refused refusal ∷ items) = []
+unfoldable pub kept_packets : List Item → List Kept
+kept_packets [] = []
+kept_packets (packet meta frame ∷ items) = kept_of meta frame ∷ kept_packets items
+kept_packets (refused refusal ∷ items) = []
 
 -- A time is too late for a pcap file if it is 2^32 seconds or more.
 abbrev pub is_late : Interface → Option ℕ → Bool
@@ -141,10 +141,10 @@ RoundTrip =
     length text ≤ 2 ^ 40
     → (pcapng_refusal file first items ≡ None)
     × (first_again ≡ first)
-    × (kept read ≡ kept items)
+    × (kept_packets read ≡ kept_packets items)
     × (pcap_refusal file_again first_again read ≡ late_in read)
     × (file_first tail_last file_last out ≡ first)
-    × (kept (file_items tail_last file_last out) ≡ kept (timely items))
+    × (kept_packets (file_items tail_last file_last out) ≡ kept_packets (timely items))
     × (refusal_of (file_items tail_last file_last out) ≡ None))
 
 -- A packet in the form in which it is written as pcap: its whole seconds, and the units of that fraction
@@ -176,7 +176,7 @@ SameBytes =
 -- An interface for each origin, which the packets of a list have, and the fields of which fit, as theirs do.
 pub record HasFields (given : Origin → Interface) (meta : Meta) (bytes : List ℕ) : Type 0 where
   pub interface : meta.interface ≡ given (origin_of meta)
-  pub fits : Fits (numbered_of [] meta bytes)
+  pub fits : NumbersFit (numbered_of [] meta bytes)
 
 abbrev pub AllHave : (Origin → Interface) → List Item → Type 0
 AllHave given [] = ⊤

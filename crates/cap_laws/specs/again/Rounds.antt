@@ -19,7 +19,7 @@ use Rattle.cap_write.specs.Pcap.{pcap_bytes, pcap_refusal}
 use Rattle.cap_write.specs.PcapRun.{run_bytes, run_refusal}
 use Rattle.cap_write.specs.Texts.{merged_bytes, merged_refusal}
 use Rattle.cap_merge.specs.Files.{run_of_files, run_of_lists}
-use Rattle.cap_merge.specs.Run.{Clocked, opened, run}
+use Rattle.cap_merge.specs.Run.{Clocked, opened_track, run}
 use Rattle.cap_merge.specs.Parts.{item_time, is_refusal}
 use Rattle.cap_laws.specs.again.Laws.{instances, numbers}
 
@@ -68,7 +68,7 @@ MergedPcap =
 abbrev pub ClockLaw : Type 0
 ClockLaw =
     (files : List (List Item)) (before after : List (Clocked Item)) (x : Clocked Item)
-    → run item_time is_refusal (map opened files) ≡ before ++ (x ∷ after)
+    → run item_time is_refusal (map opened_track files) ≡ before ++ (x ∷ after)
     → clock_cmp (greatest (map (λ y. item_time y.item) (before ++ (x ∷ [])))) x.clock ≡ Equal
 
 -- ---- the law of rounds
@@ -84,18 +84,18 @@ numbered_files file [] = []
 numbered_files file (items ∷ files) = map (in_file file) items ∷ numbered_files (suc file) files
 
 -- the items of the run of some files, which are numbered from 1 by their places
-unfoldable pub run_of : List (List Item) → List Item
-run_of files = run_of_lists (numbered_files 1 files)
+unfoldable pub run_of_packets : List (List Item) → List Item
+run_of_packets files = run_of_lists (numbered_files 1 files)
 
 -- the packets that a merge of some files writes, and the rule that refuses the one after them, if one does
 abbrev pub merged_packets : List (List Item) → List Numbered
-merged_packets files = numbered [] (run_of files)
+merged_packets files = numbered [] (run_of_packets files)
 
 abbrev pub merged_rule : List (List Item) → Option Rule
-merged_rule files = option_map (λ refusal. refusal.rule) (refusal_in [] (run_of files))
+merged_rule files = option_map (λ refusal. refusal.rule) (refusal_in [] (run_of_packets files))
 
 -- A packet of a file is a written one: the number of its interface is the interface's instance in the file.
-pub record IsPacketOf (n : Numbered) (meta : Meta) (bytes : List ℕ) : Type 0 where
+pub record IsWrittenPacket (n : Numbered) (meta : Meta) (bytes : List ℕ) : Type 0 where
   pub instance : meta.instance ≡ n.number
   pub interface : meta.interface ≡ n.interface
   pub units : meta.units ≡ Some n.units
@@ -104,12 +104,12 @@ pub record IsPacketOf (n : Numbered) (meta : Meta) (bytes : List ℕ) : Type 0 w
   pub frame : bytes ≡ n.frame
 
 abbrev pub IsItemOf : Numbered → Item → Type 0
-IsItemOf n (packet meta frame) = IsPacketOf n meta frame
+IsItemOf n (packet meta frame) = IsWrittenPacket n meta frame
 IsItemOf n (refused refusal) = ⊥
 
 -- A file holds what a merge of some files writes, if nothing is refused.
 pub record IsMergeOf (files : List (List Item)) (items : List Item) : Type 0 where
-  pub accepted : refusal_in [] (run_of files) ≡ None
+  pub accepted : refusal_in [] (run_of_packets files) ≡ None
   pub packets : AllZip IsItemOf (merged_packets files) items
 
 -- Files are split, in their order, into neighbouring groups, and each group is merged. Then the merge of files that
@@ -122,8 +122,8 @@ FileRoundsLaw =
 
 -- Some written packets as the items of a file, in which their numbers are the instances; where their blocks begin isn't
 -- told.
-abbrev pub item_of : Numbered → Item
-item_of n =
+abbrev pub packet_item : Numbered → Item
+packet_item n =
     packet (record {
       file = 1;
       offset = 0;
@@ -136,14 +136,14 @@ item_of n =
       original = n.original;
     }) n.frame
 
-abbrev pub file_of : List Numbered → List Item
-file_of packets = map item_of packets
+abbrev pub file_of_packets : List Numbered → List Item
+file_of_packets packets = map packet_item packets
 
 -- The run of what the groups' merges write, each as a file, has the packets of the run of all files.
 abbrev pub RoundsLaw : Type 0
 RoundsLaw =
-    (groups : List (List (List Item))) → AllByRecursion (λ group. refusal_in [] (run_of group) ≡ None) groups
-    → (merged_packets (map (λ group. file_of (merged_packets group)) groups)
+    (groups : List (List (List Item))) → AllByRecursion (λ group. refusal_in [] (run_of_packets group) ≡ None) groups
+    → (merged_packets (map (λ group. file_of_packets (merged_packets group)) groups)
     ≡ merged_packets (flat_map (λ group. group) groups))
-    × (merged_rule (map (λ group. file_of (merged_packets group)) groups)
+    × (merged_rule (map (λ group. file_of_packets (merged_packets group)) groups)
     ≡ merged_rule (flat_map (λ group. group) groups))

@@ -15,13 +15,13 @@ use Rattle.cap_merge.specs.inner.First.{has_next}
 use Rattle.cap_merge.specs.Parts.{Part, item_time, head_time, known_time, is_refusal, tracks, run_of}
 use Rattle.cap_merge.specs.inner.MergedList.{merged-next, merged-none, passed}
 use Rattle.cap_merge.specs.inner.Leading.{Split}
-use Rattle.cap_merge.specs.inner.Sound.{IsSound}
+use Rattle.cap_merge.specs.inner.Sound.{IsSoundPart}
 
 later_stays : (a b : Option Stamp) → is_lt (clock_cmp a b) ≡ false → later a b ≡ a
 later_stays a b e = rw e refl
 
 -- A part of which something is known: its items begin with it.
-pub leads_known : (p : Part) (h : Head) → IsSound p → IsFeed p.feed → p.lane.head ≡ Some h → IsTrue p.feed.told
+pub leads_known : (p : Part) (h : Head) → IsSoundPart p → IsFeed p.feed → p.lane.head ≡ Some h → IsTrue p.feed.told
     → Leads (Some h) p.feed.frame p.feed.items
 leads_known p h s f e t =
     let known : p.feed.known ≡ Some h =
@@ -29,7 +29,7 @@ leads_known p h s f e t =
     subst (λ (w : Option Head). Leads w p.feed.frame p.feed.items) known (f.leads t)
 
 -- and the clock that was reached is the next item's
-pub reached_known : (p : Part) (h : Head) → IsSound p → p.lane.head ≡ Some h
+pub reached_known : (p : Part) (h : Head) → IsSoundPart p → p.lane.head ≡ Some h
     → later p.lane.clock (head_time h) ≡ p.lane.clock
 reached_known p h s e = later_stays p.lane.clock (head_time h)
     (subst (λ (w : Option Head). is_lt (clock_cmp p.lane.clock (known_time w)) ≡ false) e s.reached)
@@ -39,19 +39,20 @@ clock_ahead : (Holds : Option Stamp → Type 0) (h : Head) (clock : Option Stamp
     → HeadClock item_time Holds clock items
 clock_ahead Holds h clock frame items l e f = grind arith
 
-ahead_by : (Holds : Option Stamp → Type 0) (p : Part) (h : Option Head) → p.lane.head ≡ h → is_some h ≡ true → IsSound p
+ahead_by : (Holds : Option Stamp → Type 0) (p : Part) (h : Option Head) → p.lane.head ≡ h → is_some h ≡ true
+    → IsSoundPart p
     → IsFeed p.feed → IsTrue p.feed.told
     → (has_next p.lane.head ≡ true → Holds p.lane.clock) → HeadClock item_time Holds p.lane.clock p.feed.items
 ahead_by Holds p h e k s f t g = grind (arith, clock_ahead, leads_known, reached_known)
 
 -- a part of which all is known and told
-pub record IsReady (p : Part) : Type 0 where
-  pub sound : IsSound p
+pub record IsReadyPart (p : Part) : Type 0 where
+  pub sound : IsSoundPart p
   pub lawful : IsFeed p.feed
   pub told : IsTrue p.feed.told
   pub known : is_some p.lane.head ≡ true
 
-ahead_all : (Holds : Option Stamp → Type 0) (ps : List Part) → AllByRecursion IsReady ps
+ahead_all : (Holds : Option Stamp → Type 0) (ps : List Part) → AllByRecursion IsReadyPart ps
     → AllByRecursion (λ p. has_next p.lane.head ≡ true → Holds p.lane.clock) ps
     → AllByRecursion (λ t. HeadClock item_time Holds t.clock t.items) (tracks ps)
 ahead_all Holds [] r f = tt
@@ -75,19 +76,19 @@ run-next time before after clock x xs h = ap (through_first (λ y. is_refusal y.
     (merged-next time before after clock x xs h)
 
 -- The run begins with the next item of the part that comes first, with the clock that the part has reached.
-pub run-first : (ps : List Part) (first : Part) (x : Item) → AllByRecursion IsReady ps → (s : Split ps first)
+pub run-first : (ps : List Part) (first : Part) (x : Item) → AllByRecursion IsReadyPart ps → (s : Split ps first)
     → first.feed.items ≡ x ∷ drop 1 first.feed.items → later first.lane.clock (item_time x) ≡ first.lane.clock
     → run_of ps ≡ record { clock = first.lane.clock; item = x }
     ∷ cond (is_refusal x) [] (run_behind s.before first s.after)
 unfolding run_of run_behind
 run-first ps first x r s begins clock_is =
-    let ready = subst (λ (xs : List Part). AllByRecursion IsReady xs) s.whole r in
-    let back = all-back IsReady s.before (first ∷ s.after) ready in
+    let ready = subst (λ (xs : List Part). AllByRecursion IsReadyPart xs) s.whole r in
+    let back = all-back IsReadyPart s.before (first ∷ s.after) ready in
     let is_first : IsFirst item_time (tracks s.before) (later first.lane.clock (item_time x)) (tracks s.after) =
     subst (λ (w : Option Stamp). IsFirst item_time (tracks s.before) w (tracks s.after)) (sym clock_is)
     (record {
       below = ahead_all (λ h. clock_cmp first.lane.clock h ≡ Less) s.before
-          (all-front IsReady s.before (first ∷ s.after) ready) s.below;
+          (all-front IsReadyPart s.before (first ∷ s.after) ready) s.below;
       not_above = ahead_all (λ h. is_gt (clock_cmp first.lane.clock h) ≡ false) s.after back.1 s.not_above;
     }) in
     ap (λ xs. run item_time is_refusal (tracks xs)) s.whole
@@ -101,15 +102,15 @@ run-first ps first x r s begins clock_is =
     (tracks s.before ++ (record { clock = clock_is i; items = drop 1 first.feed.items } ∷ tracks s.after))))
 
 -- if no item comes next, the run is empty
-ended_items : (p : Part) (h : Option Head) → p.lane.head ≡ h → IsReady p → has_next h ≡ false → p.feed.items ≡ []
+ended_items : (p : Part) (h : Option Head) → p.lane.head ≡ h → IsReadyPart p → has_next h ≡ false → p.feed.items ≡ []
 ended_items p h e r n = grind (arith, leads_known)
 
-ended_all : (ps : List Part) → AllByRecursion IsReady ps → AllByRecursion (λ p. has_next p.lane.head ≡ false) ps
+ended_all : (ps : List Part) → AllByRecursion IsReadyPart ps → AllByRecursion (λ p. has_next p.lane.head ≡ false) ps
     → AllByRecursion (λ t. t.items ≡ []) (tracks ps)
 ended_all [] r f = tt
 ended_all (p ∷ ps) r f = (ended_items p p.lane.head refl r.0 f.0, ended_all ps r.1 f.1)
 
-pub run-none : (ps : List Part) → AllByRecursion IsReady ps → AllByRecursion (λ p. has_next p.lane.head ≡ false) ps
+pub run-none : (ps : List Part) → AllByRecursion IsReadyPart ps → AllByRecursion (λ p. has_next p.lane.head ≡ false) ps
     → run_of ps ≡ []
 unfolding run_of
 run-none ps r f = ap (through_first (λ y. is_refusal y.item)) (merged-none item_time (tracks ps) (ended_all ps r f))

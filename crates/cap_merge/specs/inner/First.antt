@@ -14,11 +14,11 @@ use Rattle.cap_merge.specs.declared.lanes.Lane.{Lane}
 use Rattle.cap_time.specs.Clock.{clock_cmp}
 
 -- what a lane says of what its feed knows to come next
-abbrev pub coming_of : Option Head → Option Coming
-coming_of None = None
-coming_of (Some (heads.Packet meta)) = Some Packet
-coming_of (Some (heads.Refused refusal)) = Some (Refused refusal)
-coming_of (Some heads.End) = Some End
+abbrev pub head_coming : Option Head → Option Coming
+head_coming None = None
+head_coming (Some (heads.Packet meta)) = Some Packet
+head_coming (Some (heads.Refused refusal)) = Some (Refused refusal)
+head_coming (Some heads.End) = Some End
 
 -- an item is known to come next, by what a lane says
 abbrev pub has_item : Option Coming → Bool
@@ -29,7 +29,7 @@ has_item (Some End) = false
 
 -- an item is known to come next
 abbrev pub has_next : Option Head → Bool
-has_next head = has_item (coming_of head)
+has_next head = has_item (head_coming head)
 
 -- a lane of which nothing is known
 abbrev pub fresh_lane : Lane

@@ -11,16 +11,17 @@ use Rattle.cap_source.specs.declared.packets.Meta.{Meta}
 use Rattle.cap_source.specs.Feed.{Item, packet, refused, Leads, IsFeed, IsPacketOf, IfPacket, IsRefusedOf, HasFile}
 use Rattle.cap_merge.specs.inner.Lists.{all-back, all-each, any-back, any-front}
 use Rattle.cap_merge.specs.inner.First.{has_next}
-use Rattle.cap_merge.specs.Parts.{Part, has_file, is_known, head_by, known_of, frame_by, first_of, run_of, broken_of}
-use Rattle.cap_merge.specs.Parts.{places_of, most_of, left_of, feed_of}
+use Rattle.cap_merge.specs.Parts.{Part, has_file, are_known, part_head, known_of, frame_by, first_part, run_of}
+use Rattle.cap_merge.specs.Parts.{broken_of}
+use Rattle.cap_merge.specs.Parts.{places_of, most_of, left_of, merged_feed}
 use Rattle.cap_merge.specs.inner.Leading.{Split, IsFirstOf, first_is}
-use Rattle.cap_merge.specs.inner.Sound.{IsSound, AreFrom}
-use Rattle.cap_merge.specs.inner.Coming.{IsReady, leads_known, reached_known, run-first, run-none, run_behind}
+use Rattle.cap_merge.specs.inner.Sound.{IsSoundPart, AreFrom}
+use Rattle.cap_merge.specs.inner.Coming.{IsReadyPart, leads_known, reached_known, run-first, run-none, run_behind}
 
 -- all parts are ready if all are sound, lawful, told and known
-pub ready_all : (ps : List Part) → AllByRecursion IsSound ps → AllByRecursion (λ p. IsFeed p.feed) ps
+pub ready_all : (ps : List Part) → AllByRecursion IsSoundPart ps → AllByRecursion (λ p. IsFeed p.feed) ps
     → AllByRecursion (λ p. p.feed.told ≡ true) ps → AllByRecursion (λ p. is_some p.lane.head ≡ true) ps
-    → AllByRecursion IsReady ps
+    → AllByRecursion IsReadyPart ps
 ready_all [] s f t k = tt
 ready_all (p ∷ ps) s f t k =
     (record { sound = s.0; lawful = f.0; told = t.0; known = k.0 }, ready_all ps s.1 f.1 t.1 k.1)
@@ -34,11 +35,11 @@ leads_packet : (meta : Meta) (frame : List ℕ) (items : List Item) (x : Item) (
 leads_packet meta frame items x rest e f = e ∙ (λ i. f i ∷ rest) ∙ sym (λ i. packet meta frame ∷ drop 1 (e i))
 
 -- what the first part's next item is, and what the run is then
-leads_by : (ps : List Part) (q : Part) (h : Option Head) → q.lane.head ≡ h → AllByRecursion IsReady ps → Split ps q
+leads_by : (ps : List Part) (q : Part) (h : Option Head) → q.lane.head ≡ h → AllByRecursion IsReadyPart ps → Split ps q
     → Leads h q.feed.frame (map (λ y. y.item) (run_of ps))
 leads_by ps q None e r s = tt
 leads_by ps q (Some (heads.Packet meta)) e r s =
-    let ready = at_first IsReady ps q r s in
+    let ready = at_first IsReadyPart ps q r s in
     let leads = leads_known q (heads.Packet meta) ready.sound ready.lawful e ready.told in
     let first = run-first ps q (packet meta q.feed.frame) r s leads
     (reached_known q (heads.Packet meta) ready.sound e) in
@@ -46,24 +47,24 @@ leads_by ps q (Some (heads.Packet meta)) e r s =
     (map (λ y. y.item) (run_behind s.before q s.after))
     (ap (map (λ y. y.item)) first) refl
 leads_by ps q (Some (heads.Refused refusal)) e r s =
-    let ready = at_first IsReady ps q r s in
+    let ready = at_first IsReadyPart ps q r s in
     let leads = leads_known q (heads.Refused refusal) ready.sound ready.lawful e ready.told in
     ap (map (λ y. y.item))
     (run-first ps q (refused refusal) r s (leads ∙ sym (λ i. refused refusal ∷ drop 1 (leads i)))
     (reached_known q (heads.Refused refusal) ready.sound e))
 leads_by ps q (Some heads.End) e r s = absurd (true≢false (sym s.next ∙ ap has_next e))
 
-leads_first : (ps : List Part) (o : Option Part) → IsFirstOf ps o → AllByRecursion IsReady ps
-    → Leads (head_by o) (frame_by o) (map (λ y. y.item) (run_of ps))
+leads_first : (ps : List Part) (o : Option Part) → IsFirstOf ps o → AllByRecursion IsReadyPart ps
+    → Leads (part_head o) (frame_by o) (map (λ y. y.item) (run_of ps))
 leads_first ps None n r = ap (map (λ y. y.item)) (run-none ps r n)
 leads_first ps (Some q) s r = leads_by ps q q.lane.head refl r s
 
-leads_if : (ps : List Part) (b : Bool) → is_known ps ≡ b → AllByRecursion IsSound ps
+leads_if : (ps : List Part) (b : Bool) → are_known ps ≡ b → AllByRecursion IsSoundPart ps
     → AllByRecursion (λ p. IsFeed p.feed) ps
     → list_all (λ p. p.feed.told) ps ≡ true
-    → Leads (cond b (head_by (first_of ps)) None) (frame_by (first_of ps)) (map (λ y. y.item) (run_of ps))
+    → Leads (cond b (part_head (first_part ps)) None) (frame_by (first_part ps)) (map (λ y. y.item) (run_of ps))
 leads_if ps true e s f t =
-    leads_first ps (first_of ps) (first_is ps)
+    leads_first ps (first_part ps) (first_is ps)
     (ready_all ps s f (all-each (λ p. p.feed.told) ps t) (all-each (λ p. is_some p.lane.head) ps e))
 leads_if ps false e s f t = tt
 
@@ -144,17 +145,17 @@ interface_counts [] f = tt
 interface_counts (p ∷ ps) f = (f.0.interfaces, interface_counts ps f.1)
 
 -- what is true of the packet that comes next of a part
-pub packet_known : (q : Part) (meta : Meta) → IsSound q → IsFeed q.feed → q.lane.head ≡ Some (heads.Packet meta)
+pub packet_known : (q : Part) (meta : Meta) → IsSoundPart q → IsFeed q.feed → q.lane.head ≡ Some (heads.Packet meta)
     → IsPacketOf q.feed meta
 packet_known q meta s f e =
     let known : q.feed.known ≡ Some (heads.Packet meta) =
     subst (λ (w : Option Head). IfSome w (λ head. q.feed.known ≡ Some head)) e s.agrees in
     subst (λ (w : Option Head). IfPacket w (λ m. IsPacketOf q.feed m)) known f.packet
 
-packet_by : (ps : List Part) (q : Part) (h : Option Head) → q.lane.head ≡ h → first_of ps ≡ Some q → AreFrom 1 ps
-    → Split ps q → IsSound q → IsFeed q.feed
-    → IfPacket h (λ meta. IsPacketOf (feed_of ps) meta)
-unfolding feed_of
+packet_by : (ps : List Part) (q : Part) (h : Option Head) → q.lane.head ≡ h → first_part ps ≡ Some q → AreFrom 1 ps
+    → Split ps q → IsSoundPart q → IsFeed q.feed
+    → IfPacket h (λ meta. IsPacketOf (merged_feed ps) meta)
+unfolding merged_feed
 packet_by ps q (Some (heads.Packet meta)) e o a s k f =
     let own = packet_known q meta k f e in
     record {
@@ -167,21 +168,22 @@ packet_by ps q (Some (heads.Packet meta)) e o a s k f =
     }
 packet_by ps q h e o a s k f = grind arith
 
-packet_first : (ps : List Part) (o : Option Part) → first_of ps ≡ o → IsFirstOf ps o → AreFrom 1 ps
-    → AllByRecursion IsSound ps → AllByRecursion (λ p. IsFeed p.feed) ps
-    → IfPacket (head_by o) (λ meta. IsPacketOf (feed_of ps) meta)
+packet_first : (ps : List Part) (o : Option Part) → first_part ps ≡ o → IsFirstOf ps o → AreFrom 1 ps
+    → AllByRecursion IsSoundPart ps → AllByRecursion (λ p. IsFeed p.feed) ps
+    → IfPacket (part_head o) (λ meta. IsPacketOf (merged_feed ps) meta)
 packet_first ps None e n a s f = tt
 packet_first ps (Some q) e split a s f =
-    packet_by ps q q.lane.head refl e a split (at_first IsSound ps q s split)
+    packet_by ps q q.lane.head refl e a split (at_first IsSoundPart ps q s split)
     (at_first (λ p. IsFeed p.feed) ps q f split)
 
-packet_if : (ps : List Part) (b : Bool) → AreFrom 1 ps → AllByRecursion IsSound ps
+packet_if : (ps : List Part) (b : Bool) → AreFrom 1 ps → AllByRecursion IsSoundPart ps
     → AllByRecursion (λ p. IsFeed p.feed) ps
-    → IfPacket (cond b (head_by (first_of ps)) None) (λ meta. IsPacketOf (feed_of ps) meta)
-packet_if ps true a s f = packet_first ps (first_of ps) refl (first_is ps) a s f
+    → IfPacket (cond b (part_head (first_part ps)) None) (λ meta. IsPacketOf (merged_feed ps) meta)
+packet_if ps true a s f = packet_first ps (first_part ps) refl (first_is ps) a s f
 packet_if ps false a s f = tt
 
-refusal_by : (ps : List Part) (q : Part) (h : Option Head) → q.lane.head ≡ h → Split ps q → IsSound q → IsFeed q.feed
+refusal_by : (ps : List Part) (q : Part) (h : Option Head) → q.lane.head ≡ h → Split ps q → IsSoundPart q
+    → IsFeed q.feed
     → IsRefusedOf (flat_map (λ p. p.feed.files) ps) h
 refusal_by ps q (Some (heads.Refused refusal)) e s k f =
     let known : q.feed.known ≡ Some (heads.Refused refusal) =
@@ -189,19 +191,19 @@ refusal_by ps q (Some (heads.Refused refusal)) e s k f =
     has_file-first ps q refusal.file s (subst (λ (w : Option Head). IsRefusedOf q.feed.files w) known f.refusal)
 refusal_by ps q h e s k f = grind arith
 
-refusal_first : (ps : List Part) (o : Option Part) → IsFirstOf ps o → AllByRecursion IsSound ps
+refusal_first : (ps : List Part) (o : Option Part) → IsFirstOf ps o → AllByRecursion IsSoundPart ps
     → AllByRecursion (λ p. IsFeed p.feed) ps
-    → IsRefusedOf (flat_map (λ p. p.feed.files) ps) (head_by o)
+    → IsRefusedOf (flat_map (λ p. p.feed.files) ps) (part_head o)
 refusal_first ps None n s f = tt
-refusal_first ps (Some q) split s f = refusal_by ps q q.lane.head refl split (at_first IsSound ps q s split)
+refusal_first ps (Some q) split s f = refusal_by ps q q.lane.head refl split (at_first IsSoundPart ps q s split)
     (at_first (λ p. IsFeed p.feed) ps q f split)
 
-refusal_if : (ps : List Part) (b : Bool) → AllByRecursion IsSound ps → AllByRecursion (λ p. IsFeed p.feed) ps
-    → IsRefusedOf (flat_map (λ p. p.feed.files) ps) (cond b (head_by (first_of ps)) None)
-refusal_if ps true s f = refusal_first ps (first_of ps) (first_is ps) s f
+refusal_if : (ps : List Part) (b : Bool) → AllByRecursion IsSoundPart ps → AllByRecursion (λ p. IsFeed p.feed) ps
+    → IsRefusedOf (flat_map (λ p. p.feed.files) ps) (cond b (part_head (first_part ps)) None)
+refusal_if ps true s f = refusal_first ps (first_part ps) (first_is ps) s f
 refusal_if ps false s f = tt
 
-pub whole_known : (ps : List Part) → is_known ps ≡ true → broken_of ps ≡ None
+pub whole_known : (ps : List Part) → are_known ps ≡ true → broken_of ps ≡ None
 unfolding broken_of
 whole_known [] k = refl
 whole_known (p ∷ ps) k = grind (arith, whole_known ps)
@@ -209,20 +211,21 @@ whole_known (p ∷ ps) k = grind (arith, whole_known ps)
 where_some : (h : Option Head) (P : Type 0) → P → IfSome h (λ head. P)
 where_some h P is = grind arith
 
-whole_if : (ps : List Part) (b : Bool) → is_known ps ≡ b
-    → IfSome (cond b (head_by (first_of ps)) None) (λ head. broken_of ps ≡ None)
+whole_if : (ps : List Part) (b : Bool) → are_known ps ≡ b
+    → IfSome (cond b (part_head (first_part ps)) None) (λ head. broken_of ps ≡ None)
 whole_if ps b e = grind (arith, whole_known)
 
 -- The feeds as one are a lawful feed.
-pub merged-lawful : (ps : List Part) → AreFrom 1 ps → AllByRecursion IsSound ps → AllByRecursion (λ p. IsFeed p.feed) ps
-    → IsFeed (feed_of ps)
-unfolding feed_of known_of
+pub merged-lawful : (ps : List Part) → AreFrom 1 ps → AllByRecursion IsSoundPart ps
+    → AllByRecursion (λ p. IsFeed p.feed) ps
+    → IsFeed (merged_feed ps)
+unfolding merged_feed known_of
 merged-lawful ps a s f =
     record {
-      leads = λ t. leads_if ps (is_known ps) refl s f t;
-      packet = packet_if ps (is_known ps) a s f;
-      refusal = refusal_if ps (is_known ps) s f;
-      whole = whole_if ps (is_known ps) refl;
+      leads = λ t. leads_if ps (are_known ps) refl s f t;
+      packet = packet_if ps (are_known ps) a s f;
+      refusal = refusal_if ps (are_known ps) s f;
+      whole = whole_if ps (are_known ps) refl;
       most = left_most ps f;
       window = most_by (λ p. p.feed.held.window) 524288 ps (windows ps f);
       interfaces = most_by (λ p. p.feed.held.interfaces) 1024 ps (interface_counts ps f);

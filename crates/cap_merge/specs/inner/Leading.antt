@@ -13,7 +13,7 @@ use Rattle.std.proofs.Math.Seq.{drop-cons}
 use Rattle.cap_time.specs.declared.stamps.Stamp.{Stamp}
 use Rattle.cap_time.specs.Clock.{clock_cmp}
 use Rattle.cap_merge.specs.inner.First.{Turn, has_next, no_turn, turn_at, sooner_place, first_among, first_place}
-use Rattle.cap_merge.specs.Parts.{Part, turn, turns, first_of}
+use Rattle.cap_merge.specs.Parts.{Part, turn, turns, first_part}
 use Rattle.cap_merge.specs.inner.Clocks.{clock_total, AtMost, not_below, below-at_most, is_less}
 
 -- The clock is below that of the item that comes next, if one does.
@@ -30,7 +30,7 @@ pub record Split (ps : List Part) (first : Part) : Type 0 where
   pub after : List Part
   pub whole : ps ≡ before ++ (first ∷ after)
   pub place : first_place (turns ps) ≡ Some (length before)
-  pub is_first : first_of ps ≡ Some first
+  pub is_first : first_part ps ≡ Some first
   pub next : has_next first.lane.head ≡ true
   pub below : AllByRecursion (λ p. IsBelow first.lane.clock (turn p)) before
   pub not_above : AllByRecursion (λ p. IsNotAbove first.lane.clock (turn p)) after
@@ -123,7 +123,7 @@ each_turn P (p ∷ ps) f = (f 0 (omega arith), each_turn P ps (λ k h. f (suc k)
 
 split_at : (d : Part) (ps : List Part) (place : ℕ) → first_place (turns ps) ≡ Some place
     → Leads (turns ps) (length (turns ps)) place → Split ps (get_or ps place d)
-unfolding first_of
+unfolding first_part
 split_at d ps place e s =
     let within : place < length ps = omega (arith, s.within, length-map ps turn) in
     let turn_is : turn_at (turns ps) place ≡ turn (get_or ps place d) = get_or-map turn ps place d no_turn within in
@@ -153,6 +153,6 @@ first_by (p ∷ ps) (Some place) e s =
     (split_at p (p ∷ ps) place e s)
 
 -- The part at the place comes first; if there is no place, no item comes next.
-pub first_is : (ps : List Part) → IsFirstOf ps (first_of ps)
-unfolding first_of
+pub first_is : (ps : List Part) → IsFirstOf ps (first_part ps)
+unfolding first_part
 first_is ps = first_by ps (first_place (turns ps)) refl (among_is (turns ps) (length (turns ps)))

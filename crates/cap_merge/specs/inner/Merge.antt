@@ -4,50 +4,50 @@ use Rattle.std.specs.Prelude.{Result, Ok, Err, is_ok}
 use Rattle.cap_bytes.specs.declared.faults.Fault.{Fault}
 use Rattle.cap_bytes.specs.declared.faults.Fault.TheVariants.{Refused, Read, Write, Memory}
 use Rattle.cap_source.specs.declared.feeds.Head.{Head}
-use Rattle.cap_source.specs.Feed.{Keeps, SameItems, Knows, GivesHead, KeepsItems, Passes, IsPacket}
+use Rattle.cap_source.specs.Feed.{FeedKeeps, SameItems, Knows, GivesHead, KeepsItems, FeedPasses, IsPacket}
 use Rattle.cap_merge.specs.declared.lanes.Coming.TheVariants as comings
 use Rattle.cap_merge.specs.declared.lanes.Lane.{Lane}
 use Rattle.cap_time.specs.Clock.{later}
-use Rattle.cap_merge.specs.inner.First.{coming_of}
-use Rattle.cap_merge.specs.Parts.{Part, LaneState, head_time, is_bounded, passed_lane, feed_of}
+use Rattle.cap_merge.specs.inner.First.{head_coming}
+use Rattle.cap_merge.specs.Parts.{Part, LaneState, head_time, is_bounded, passed_lane, merged_feed}
 
 -- What a lane does with a fault of its feed: a refusal is what comes next, another fault is answered.
-abbrev pub Answers : {T : Type 0} → Lane → Fault → Result T Fault → Lane → Type 0
-Answers old (Refused refusal) result new = (is_ok result ≡ true)
+abbrev pub LaneAnswers : {T : Type 0} → Lane → Fault → Result T Fault → Lane → Type 0
+LaneAnswers old (Refused refusal) result new = (is_ok result ≡ true)
     × (new ≡ record { clock = old.clock; next = Some (comings.Refused refusal) })
-Answers old (Read file offset) result new = (result ≡ Err (Read file offset)) × (new ≡ old)
-Answers old Write result new = (result ≡ Err Write) × (new ≡ old)
-Answers old Memory result new = (result ≡ Err Memory) × (new ≡ old)
+LaneAnswers old (Read file offset) result new = (result ≡ Err (Read file offset)) × (new ≡ old)
+LaneAnswers old Write result new = (result ≡ Err Write) × (new ≡ old)
+LaneAnswers old Memory result new = (result ≡ Err Memory) × (new ≡ old)
 
 -- what is known of a feed that has told what comes next
 abbrev pub learned : LaneState → Head → LaneState
 learned lane head = record { clock = later lane.clock (head_time head); head = Some head }
 
 -- What comes next of a feed is asked for, and is known then.
-pub record Learns (p : Part) (head : Head) (q : Part) : Type 0 where
+pub record LaneLearns (p : Part) (head : Head) (q : Part) : Type 0 where
   pub lane : q.lane ≡ learned p.lane head
   pub bounded : is_bounded p.lane.clock ≡ true → is_bounded q.lane.clock ≡ true
   pub knows : Knows p.feed head q.feed
-  pub keeps : Keeps p.feed q.feed
+  pub keeps : FeedKeeps p.feed q.feed
   pub items : IsTrue p.feed.told → SameItems p.feed q.feed
 
 -- A feed whose next is known stays as it is, another is asked.
 abbrev pub LearnsBy : Option Head → Part → Part → Type 0
-LearnsBy None p q = (head : Head) × Learns p head q
+LearnsBy None p q = (head : Head) × LaneLearns p head q
 LearnsBy (Some head) p q = q ≡ p
 
 -- A feed can't tell what comes next.
-pub record Stops (p : Part) (fault : Fault) (q : Part) : Type 0 where
+pub record LaneStops (p : Part) (fault : Fault) (q : Part) : Type 0 where
   pub unknown : p.lane.head ≡ None
   pub lane : q.lane ≡ p.lane
   pub gives : GivesHead p.feed (Err fault) q.feed
-  pub keeps : Keeps p.feed q.feed
+  pub keeps : FeedKeeps p.feed q.feed
   pub items : IsTrue p.feed.told → KeepsItems p.feed (Err fault) q.feed
 
 -- what asking one feed does
 abbrev pub Asks : {T : Type 0} → Part → Result T Fault → Part → Type 0
 Asks p (Ok x) q = LearnsBy p.lane.head p q
-Asks p (Err fault) q = Stops p fault q
+Asks p (Err fault) q = LaneStops p fault q
 
 -- All feeds are asked.
 abbrev pub LearnsAll : List Part → List Part → Type 0
@@ -60,7 +60,7 @@ LearnsAll (p ∷ ps) (q ∷ qs) = LearnsBy p.lane.head p q × LearnsAll ps qs
 abbrev pub StopsAt : Fault → List Part → List Part → Type 0
 StopsAt fault [] qs = ⊥
 StopsAt fault (p ∷ ps) [] = ⊥
-StopsAt fault (p ∷ ps) (q ∷ qs) = (Stops p fault q × (qs ≡ ps)) ⊎ (LearnsBy p.lane.head p q × StopsAt fault ps qs)
+StopsAt fault (p ∷ ps) (q ∷ qs) = (LaneStops p fault q × (qs ≡ ps)) ⊎ (LearnsBy p.lane.head p q × StopsAt fault ps qs)
 
 -- what asking all feeds in turn does
 abbrev pub AsksAll : {T : Type 0} → List Part → Result T Fault → List Part → Type 0
@@ -80,14 +80,14 @@ pub record Peeked (p q : Part) : Type 0 where
   pub unknown : p.lane.head ≡ None
   pub lane : q.lane ≡ p.lane
   pub feed : (q.feed ≡ p.feed) ⊎ ((head : Head) × Knows p.feed head q.feed)
-  pub keeps : Keeps p.feed q.feed
+  pub keeps : FeedKeeps p.feed q.feed
   pub items : IsTrue p.feed.told → SameItems p.feed q.feed
 
 -- What asking one feed does whether it has a packet at hand: if so the packet is known, and if not nothing more is
 -- noted.
-abbrev pub Shows : Part → Bool → Part → Type 0
-Shows p true q = LearnsBy p.lane.head p q
-Shows p false q = (q ≡ p) ⊎ Peeked p q
+abbrev pub LaneShows : Part → Bool → Part → Type 0
+LaneShows p true q = LearnsBy p.lane.head p q
+LaneShows p false q = (q ≡ p) ⊎ Peeked p q
 
 -- A feed at a place has no packet at hand; the others stay as they are.
 abbrev pub PeeksAt : List Part → ℕ → List Part → Type 0
@@ -103,9 +103,9 @@ ShowsAt ps place false qs = PeeksAt ps place qs
 
 -- What comes next is what such a call answers, unless a device failed or a growth was refused.
 abbrev pub TellsNext : Option Head → Result Bool Fault → Type 0
-TellsNext head (Ok true) = coming_of head ≡ Some comings.Packet
-TellsNext head (Ok false) = coming_of head ≡ Some comings.End
-TellsNext head (Err (Refused refusal)) = coming_of head ≡ Some (comings.Refused refusal)
+TellsNext head (Ok true) = head_coming head ≡ Some comings.Packet
+TellsNext head (Ok false) = head_coming head ≡ Some comings.End
+TellsNext head (Err (Refused refusal)) = head_coming head ≡ Some (comings.Refused refusal)
 TellsNext head (Err (Read file offset)) = ⊤
 TellsNext head (Err Write) = ⊤
 TellsNext head (Err Memory) = ⊤
@@ -113,14 +113,14 @@ TellsNext head (Err Memory) = ⊤
 -- Whether the packet that comes first is at hand: if so all feeds were asked, and if not, asking all of them does what
 -- it would have done before.
 abbrev pub ShowsFirst : List Part → Bool → List Part → Type 0
-ShowsFirst ps true qs = LearnsAll ps qs × TellsNext (feed_of qs).known (Ok true)
+ShowsFirst ps true qs = LearnsAll ps qs × TellsNext (merged_feed qs).known (Ok true)
 ShowsFirst ps false qs = (result : Result Bool Fault) (rs : List Part) → LooksAll qs result rs → LooksAll ps result rs
 
 -- The packet of a part is passed: its feed drops it, and nothing more is known.
 pub record PassesPart (p q : Part) : Type 0 where
   pub lane : q.lane ≡ passed_lane p.lane
-  pub passes : Passes p.feed q.feed
-  pub keeps : Keeps p.feed q.feed
+  pub passes : FeedPasses p.feed q.feed
+  pub keeps : FeedKeeps p.feed q.feed
 
 -- What the feed of the part at a place knows to come next is a packet.
 abbrev pub IsPacketAt : List Part → ℕ → Type 0

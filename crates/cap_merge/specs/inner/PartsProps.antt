@@ -4,12 +4,12 @@ use Rattle.std.specs.Coded.{Coded-set, coded_ℕ, coded_list, coded_option, code
 use Rattle.cap_merge.specs.contracts.lanes.Coming as coming
 use Rattle.cap_merge.specs.declared.lanes.Lane.{Lane}
 use Rattle.cap_source.specs.Feed.{Feed}
-use Rattle.cap_merge.specs.Parts.{Part, IsNumbered, Agrees, HasReached, AreBounded, OthersKnown}
+use Rattle.cap_merge.specs.Parts.{Part, AreNumberedFeeds, LanesAgree, HasReached, AreBounded, OthersKnown}
 
-pub IsNumbered-prop : (feeds : List Feed) → IsProp (IsNumbered feeds)
-IsNumbered-prop feeds = Coded-set (coded_list (coded_list coded_ℕ)) _ _
+pub AreNumberedFeeds-prop : (feeds : List Feed) → IsProp (AreNumberedFeeds feeds)
+AreNumberedFeeds-prop feeds = Coded-set (coded_list (coded_list coded_ℕ)) _ _
 
-pub Agrees-prop : (lanes : List Lane) (feeds : List Feed) → IsProp (Agrees lanes feeds)
+pub Agrees-prop : (lanes : List Lane) (feeds : List Feed) → IsProp (LanesAgree lanes feeds)
 Agrees-prop lanes feeds = Coded-set (coded_list (coded_option (coming.the_row).coded)) _ _
 
 pub HasReached-prop : (ps : List Part) → IsProp (HasReached ps)

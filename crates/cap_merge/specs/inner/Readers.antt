@@ -3,17 +3,17 @@ use Rattle.std.specs.Prelude.{◌≡◌, ℕ, ◌+◌, Bool, List, [], ◌∷◌
 use Rattle.std.specs.List.{list_all, range_with_len}
 use Rattle.cap_bytes.specs.declared.faults.Tail.{Tail}
 use Rattle.cap_merge.specs.Files.{clocked_run, endings_of_files}
-use Rattle.cap_merge.specs.Parts.{Part, feed_of, run_of}
+use Rattle.cap_merge.specs.Parts.{Part, merged_feed, run_of}
 use Rattle.cap_source.specs.Feed.{Feed}
 use Rattle.cap_source.specs.Items.{file_items, file_ending}
 
 -- A reader: whether it tells its bytes, whether it can fail, and the bytes.
-pub record Reader : Type 0 where
+pub record ReaderFacts : Type 0 where
   pub told : Bool
   pub can_fail : Bool
   pub bytes : List ℕ
 
-abbrev pub reader_of : {R : Type 0} → (R → Bool) → (R → Bool) → (R → List ℕ) → R → Reader
+abbrev pub reader_of : {R : Type 0} → (R → Bool) → (R → Bool) → (R → List ℕ) → R → ReaderFacts
 reader_of tells can_fail coming source = record {
   told = tells source;
   can_fail = can_fail source;
@@ -22,7 +22,7 @@ reader_of tells can_fail coming source = record {
 }
 
 -- Nothing was asked of a feed: it is of the file of that number with those bytes.
-pub record IsUnread (tail : Tail) (file : ℕ) (reader : Reader) (feed : Feed) : Type 0 where
+pub record IsUnread (tail : Tail) (file : ℕ) (reader : ReaderFacts) (feed : Feed) : Type 0 where
   pub files : feed.files ≡ file ∷ []
   pub told : feed.told ≡ reader.told
   pub items : feed.items ≡ file_items tail file reader.bytes
@@ -31,7 +31,7 @@ pub record IsUnread (tail : Tail) (file : ℕ) (reader : Reader) (feed : Feed) :
   pub can_fail : feed.can_fail file ≡ reader.can_fail
 
 -- the same of each of some feeds, from that number on
-abbrev pub AreUnread : Tail → ℕ → List Reader → List Feed → Type 0
+abbrev pub AreUnread : Tail → ℕ → List ReaderFacts → List Feed → Type 0
 AreUnread tail file [] [] = ⊤
 AreUnread tail file [] (feed ∷ feeds) = ⊥
 AreUnread tail file (reader ∷ readers) [] = ⊥
@@ -40,11 +40,12 @@ AreUnread tail file (reader ∷ readers) (feed ∷ feeds) = IsUnread tail file r
 
 -- The files of some readers as one feed, of which nothing was asked: its run and how its files end are those of
 -- the readers' bytes.
-pub record IsUnreadRun (tail : Tail) (readers : List Reader) (ps : List Part) : Type 0 where
-  pub files : (feed_of ps).files ≡ range_with_len 1 (length readers)
-  pub told : (feed_of ps).told ≡ list_all (λ r. r.told) readers
+pub record IsUnreadRun (tail : Tail) (readers : List ReaderFacts) (ps : List Part) : Type 0 where
+  pub files : (merged_feed ps).files ≡ range_with_len 1 (length readers)
+  pub told : (merged_feed ps).told ≡ list_all (λ r. r.told) readers
   pub run : run_of ps ≡ clocked_run tail (map (λ r. r.bytes) readers)
-  pub endings : (file : ℕ) → (feed_of ps).endings file ≡ endings_of_files tail (map (λ r. r.bytes) readers) file
-  pub known : (feed_of ps).known ≡ None
-  pub broken : (feed_of ps).broken ≡ None
-  pub can_fail : (place : ℕ) → (feed_of ps).can_fail (1 + place) ≡ get_or (map (λ r. r.can_fail) readers) place false
+  pub endings : (file : ℕ) → (merged_feed ps).endings file ≡ endings_of_files tail (map (λ r. r.bytes) readers) file
+  pub known : (merged_feed ps).known ≡ None
+  pub broken : (merged_feed ps).broken ≡ None
+  pub can_fail : (place : ℕ) → (merged_feed ps).can_fail (1
+      + place) ≡ get_or (map (λ r. r.can_fail) readers) place false

@@ -10,10 +10,10 @@ use Rattle.cap_source.specs.Feed.{Feed, IsFeed}
 use Rattle.cap_merge.specs.inner.Lists.{all-each, each-all}
 use Rattle.cap_merge.specs.declared.lanes.Lane.{Lane}
 use Rattle.cap_time.specs.Clock.{clock_cmp}
-use Rattle.cap_merge.specs.Parts.{Part, part, parts, IsNumbered, HasReached, known_time}
+use Rattle.cap_merge.specs.Parts.{Part, part, parts, AreNumberedFeeds, HasReached, known_time}
 
 -- What is known of a part is what its feed knows, and its clock was reached.
-pub record IsSound (p : Part) : Type 0 where
+pub record IsSoundPart (p : Part) : Type 0 where
   pub agrees : IfSome p.lane.head (λ head. p.feed.known ≡ Some head)
   pub reached : is_lt (clock_cmp p.lane.clock (known_time p.lane.head)) ≡ false
 
@@ -25,7 +25,7 @@ agreed b k = grind arith
 
 sound_each : (ls : List Lane) (fs : List Feed)
     → AllByRecursion (λ p. not (is_lt (clock_cmp p.lane.clock (known_time p.lane.head))) ≡ true) (parts ls fs)
-    → AllByRecursion IsSound (parts ls fs)
+    → AllByRecursion IsSoundPart (parts ls fs)
 sound_each [] fs r = tt
 sound_each (l ∷ ls) [] r = tt
 sound_each (l ∷ ls) (f ∷ fs) r = (
@@ -38,17 +38,17 @@ sound_each (l ∷ ls) (f ∷ fs) r = (
 
 -- lanes with their feeds are sound
 pub sound-parts : {F : Type 0} (f : F → Feed) (ls : List Lane) (fs : List F) → HasReached (parts ls (map f fs))
-    → AllByRecursion IsSound (parts ls (map f fs))
+    → AllByRecursion IsSoundPart (parts ls (map f fs))
 sound-parts f ls fs r =
     sound_each ls (map f fs) (all-each (λ p. not (is_lt (clock_cmp p.lane.clock (known_time p.lane.head))))
     (parts ls (map f fs)) r)
 
-reached_each : (ps : List Part) → AllByRecursion IsSound ps
+reached_each : (ps : List Part) → AllByRecursion IsSoundPart ps
     → AllByRecursion (λ p. not (is_lt (clock_cmp p.lane.clock (known_time p.lane.head))) ≡ true) ps
 reached_each [] f = tt
 reached_each (p ∷ ps) f = (ap not f.0.reached, reached_each ps f.1)
 
-pub each-reached : (ps : List Part) → AllByRecursion IsSound ps → HasReached ps
+pub each-reached : (ps : List Part) → AllByRecursion IsSoundPart ps → HasReached ps
 each-reached ps f = each-all (λ p. not (is_lt (clock_cmp p.lane.clock (known_time p.lane.head)))) ps (reached_each ps f)
 
 -- the files of the parts are numbered from there on
@@ -68,7 +68,7 @@ are_from f n (y ∷ ls) (x ∷ xs) l e =
     (first, subst (λ (k : ℕ). AreFrom k (parts ls (map f xs))) next (are_from f (n + 1) ls xs (omega arith) rest))
 
 pub numbered-from : {F : Type 0} (f : F → Feed) (ls : List Lane) (fs : List F) → length ls ≡ length fs
-    → IsNumbered (map f fs) → AreFrom 1 (parts ls (map f fs))
+    → AreNumberedFeeds (map f fs) → AreFrom 1 (parts ls (map f fs))
 numbered-from f ls fs l e = are_from f 1 ls fs l (e
     ∙ ap (λ n. map (λ k. k ∷ []) (range_with_len 1 n)) (length-map fs f))
 

@@ -9,34 +9,36 @@ use Rattle.cap_bytes.specs.declared.faults.Fault.{Fault}
 use Rattle.cap_source.specs.Feed.{Feed}
 use Rattle.cap_source.specs.declared.feeds.Head.{Head}
 use Rattle.cap_source.specs.declared.feeds.Head.TheVariants as heads
-use Rattle.cap_source.specs.inner.FileState.{feed_of as file_feed, first_by}
+use Rattle.cap_source.specs.inner.FileState.{file_feed, first_by}
 use Rattle.cap_source.specs.inner.Reached.{progress_of}
-use Rattle.cap_source.specs.inner.Readers.{state_of}
+use Rattle.cap_source.specs.inner.Readers.{reader_file_state}
 use Rattle.cap_source.specs.declared.captures.Capture.{Capture}
 
 -- the file as a feed
-abbrev pub feed_of : {R : Type 0} {source : Source.Ghosts R} {device : Device.Ghosts R} → Capture R source device → Feed
-feed_of capture = file_feed (state_of capture.reader (progress_of capture.reached)) capture.next
+abbrev pub capture_feed : {R : Type 0} {source : Source.Ghosts R} {device : Device.Ghosts R} → Capture R source device
+    → Feed
+capture_feed capture = file_feed (reader_file_state capture.reader (progress_of capture.reached)) capture.next
 
 -- its first interface, if it stands before what comes next or the end: of instance 0
-abbrev pub first_of : {R : Type 0} {source : Source.Ghosts R} {device : Device.Ghosts R} → Capture R source device
+abbrev pub capture_first : {R : Type 0} {source : Source.Ghosts R} {device : Device.Ghosts R} → Capture R source device
     → Option Interface
-first_of capture = first_by capture.next (state_of capture.reader (progress_of capture.reached))
+capture_first capture = first_by capture.next (reader_file_state capture.reader (progress_of capture.reached))
 
 -- its number, which is the one of the feed's files
-abbrev pub number_of : {R : Type 0} {source : Source.Ghosts R} {device : Device.Ghosts R} → Capture R source device → ℕ
-number_of capture = (state_of capture.reader (progress_of capture.reached)).file
+abbrev pub capture_number : {R : Type 0} {source : Source.Ghosts R} {device : Device.Ghosts R}
+    → Capture R source device → ℕ
+capture_number capture = (reader_file_state capture.reader (progress_of capture.reached)).file
 
 -- how far it was read
 abbrev pub position_of : {R : Type 0} {source : Source.Ghosts R} {device : Device.Ghosts R}
     → Capture R source device → Position
 position_of capture =
     record {
-      offset = (state_of capture.reader (progress_of capture.reached)).offset;
-      read = (state_of capture.reader (progress_of capture.reached)).read;
-      most = (state_of capture.reader (progress_of capture.reached)).most;
-      told = (state_of capture.reader (progress_of capture.reached)).told;
-      broken = (state_of capture.reader (progress_of capture.reached)).broken;
+      offset = (reader_file_state capture.reader (progress_of capture.reached)).offset;
+      read = (reader_file_state capture.reader (progress_of capture.reached)).read;
+      most = (reader_file_state capture.reader (progress_of capture.reached)).most;
+      told = (reader_file_state capture.reader (progress_of capture.reached)).told;
+      broken = (reader_file_state capture.reader (progress_of capture.reached)).broken;
     }
 
 -- of which nothing was read

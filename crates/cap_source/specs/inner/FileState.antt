@@ -2,8 +2,8 @@
 use Rattle.std.specs.Prelude.{◌≡◌, ◌+◌, ◌-◌, ◌^◌, ◌≤◌, ◌<◌, ℕ, List, [], ◌∷◌, length, take, drop, Bool, true, false}
 use Rattle.std.specs.Prelude.{not, IsTrue, Option, Some, None, IfSome, IfNone, Result, Ok, Err, ⊤, ◌⊎◌, is_some}
 use Rattle.cap_bytes.specs.inner.Reach.{ReachesTo}
-use Rattle.cap_bytes.specs.inner.Reader.{State}
-use Rattle.cap_bytes.specs.inner.Window.{State as WindowState}
+use Rattle.cap_bytes.specs.inner.Reader.{ReaderState}
+use Rattle.cap_bytes.specs.inner.Window.{WindowState}
 use Rattle.cap_bytes.specs.inner.Window as windows
 use Rattle.cap_bytes.specs.declared.faults.Fault.{Fault}
 use Rattle.cap_bytes.specs.declared.faults.Fault.TheVariants.{Refused, Read, Write, Memory}
@@ -21,9 +21,9 @@ use Rattle.cap_blocks.specs.declared.blocks.Block.{Block}
 use Rattle.cap_source.specs.declared.contents.Content.{Content}
 use Rattle.cap_source.specs.declared.packets.Meta.{Meta}
 use Rattle.cap_source.specs.declared.contents.Content.TheVariants as contents
-use Rattle.cap_source.specs.Items.{Progress, meta_in, ending_with, items_in, ending_in, first_in, interface_of}
+use Rattle.cap_source.specs.Items.{Progress, meta_in, ending_with, items_of_blocks, ending_in, first_in, interface_of}
 use Rattle.cap_source.specs.Items.{pcap_items, pcap_ending, unless_refused, items_from, ending_from, first_from}
-use Rattle.cap_source.specs.inner.Reached.{counted}
+use Rattle.cap_source.specs.inner.Reached.{counted_blocks}
 use Rattle.cap_source.specs.declared.feeds.FileEnd.{FileEnd}
 use Rattle.cap_source.specs.declared.feeds.Head.{Head}
 use Rattle.cap_source.specs.declared.feeds.Head.TheVariants as heads
@@ -35,7 +35,7 @@ use Rattle.cap_source.specs.declared.readers.Next.TheVariants as nexts
 -- file was read. The next record or block begins at `offset` or later. The file was read up to `read`, and its device
 -- gives `most` bytes at a time at most, if it tells that. `lent` is what the reader lends of the one that was given
 -- last. `stops` says that the reader has come to an end. `broken` is where the header, the record or the block begins
--- in which a read failed, once one has. `counted` blocks were counted.
+-- in which a read failed, once one has. `counted_blocks` blocks were counted.
 pub record FileState : Type 0 where
   pub file : ℕ
   pub told : Bool
@@ -75,7 +75,7 @@ unread_state window tail progress =
       can_fail = window.can_fail;
       held = window.held;
       interfaces = length progress.interfaces;
-      counted = counted progress;
+      counted = counted_blocks progress;
     }
 
 -- the header of a pcap file: the one that was read, or that of the bytes to come
@@ -86,12 +86,12 @@ header_or None bytes = records.header_at bytes
 -- its interface, unless its header is refused
 abbrev pub first_unless : Option Stop → ℕ → List ℕ → Option Interface
 first_unless (Some stop) offset bytes = None
-first_unless None offset bytes = unless_refused (records.header_fault offset bytes)
+first_unless None offset bytes = unless_refused (records.pcap_header_fault offset bytes)
     (interface_of (records.header_at bytes))
 
-abbrev pub first_of : Option PcapHeader → Option Stop → ℕ → List ℕ → Option Interface
-first_of (Some header) stop offset bytes = Some (interface_of header)
-first_of None stop offset bytes = first_unless stop offset bytes
+abbrev pub first_in_pcap : Option PcapHeader → Option Stop → ℕ → List ℕ → Option Interface
+first_in_pcap (Some header) stop offset bytes = Some (interface_of header)
+first_in_pcap None stop offset bytes = first_unless stop offset bytes
 
 -- its interface as far as the file was read
 abbrev pub noted_by : Option PcapHeader → Option Interface
@@ -99,14 +99,15 @@ noted_by None = None
 noted_by (Some header) = Some (interface_of header)
 
 -- a pcap file
-abbrev pub pcap_state : State PcapHeader → Progress → FileState
+abbrev pub pcap_state : ReaderState PcapHeader → Progress → FileState
 pcap_state reader progress =
     record {
       file = reader.file;
       told = reader.told;
-      items = pcap_items reader.file (interface_of (header_or reader.known reader.coming)) (pcaps.items_of reader);
-      ending = pcap_ending (pcaps.items_of reader);
-      first = first_of reader.known reader.stop reader.offset reader.coming;
+      items = pcap_items reader.file (interface_of (header_or reader.known reader.coming))
+          (pcaps.records_to_come reader);
+      ending = pcap_ending (pcaps.records_to_come reader);
+      first = first_in_pcap reader.known reader.stop reader.offset reader.coming;
       noted = noted_by reader.known;
       offset = reader.offset;
       read = reader.read;
@@ -118,18 +119,18 @@ pcap_state reader progress =
       can_fail = reader.can_fail;
       held = reader.held;
       interfaces = length progress.interfaces;
-      counted = counted progress;
+      counted = counted_blocks progress;
     }
 
 -- a pcapng file
-abbrev pub pcapng_state : State Order → Progress → FileState
+abbrev pub pcapng_state : ReaderState Order → Progress → FileState
 pcapng_state reader progress =
     record {
       file = reader.file;
       told = reader.told;
-      items = items_in reader.file progress (blocks.items_of reader);
-      ending = ending_in progress (blocks.items_of reader);
-      first = first_in progress (blocks.items_of reader);
+      items = items_of_blocks reader.file progress (blocks.blocks_to_come reader);
+      ending = ending_in progress (blocks.blocks_to_come reader);
+      first = first_in progress (blocks.blocks_to_come reader);
       noted = progress.first;
       offset = reader.offset;
       read = reader.read;
@@ -141,7 +142,7 @@ pcapng_state reader progress =
       can_fail = reader.can_fail;
       held = reader.held;
       interfaces = length progress.interfaces;
-      counted = counted progress;
+      counted = counted_blocks progress;
     }
 
 -- what every answer keeps of a file
@@ -169,8 +170,8 @@ IfTaken (Some (nexts.Refused refusal ending)) P = ⊤
 IfTaken (Some (nexts.End ending)) P = ⊤
 
 -- The same of a file of which something was to come: that takes 4 bytes at least.
-abbrev pub Takes : FileState → FileState → Type 0
-Takes old new = (old.offset + 4 ≤ new.offset) × ReadsTo old new
+abbrev pub FileTakes : FileState → FileState → Type 0
+FileTakes old new = (old.offset + 4 ≤ new.offset) × ReadsTo old new
 
 -- what is to come of a file is the same
 pub record SameRest (old new : FileState) : Type 0 where
@@ -179,15 +180,15 @@ pub record SameRest (old new : FileState) : Type 0 where
   pub first : new.first ≡ old.first
 
 -- where the captured bytes of a packet end in what is lent, and how long that is, each counted from 1
-abbrev pub end_of : Option Next → ℕ
-end_of None = 0
-end_of (Some (nexts.Packet meta place)) = place + meta.captured + 1
-end_of (Some (nexts.Refused refusal ending)) = 0
-end_of (Some (nexts.End ending)) = 0
+abbrev pub lent_end : Option Next → ℕ
+lent_end None = 0
+lent_end (Some (nexts.Packet meta place)) = place + meta.captured + 1
+lent_end (Some (nexts.Refused refusal ending)) = 0
+lent_end (Some (nexts.End ending)) = 0
 
-abbrev pub size_of : Option (List ℕ) → ℕ
-size_of None = 0
-size_of (Some bytes) = length bytes + 1
+abbrev pub lent_length : Option (List ℕ) → ℕ
+lent_length None = 0
+lent_length (Some bytes) = length bytes + 1
 
 -- where the captured bytes of a packet begin in what is lent
 abbrev pub start_of : Option Next → ℕ
@@ -211,29 +212,29 @@ behind_of (Some (nexts.Refused refusal ending)) = 0
 behind_of (Some (nexts.End ending)) = 0
 
 -- where the next record or block begins, or that of a packet that comes next
-abbrev pub place_of : Option Next → ℕ → ℕ
-place_of None offset = offset
-place_of (Some (nexts.Packet meta place)) offset = meta.offset
-place_of (Some (nexts.Refused refusal ending)) offset = offset
-place_of (Some (nexts.End ending)) offset = offset
+abbrev pub place_of_next : Option Next → ℕ → ℕ
+place_of_next None offset = offset
+place_of_next (Some (nexts.Packet meta place)) offset = meta.offset
+place_of_next (Some (nexts.Refused refusal ending)) offset = offset
+place_of_next (Some (nexts.End ending)) offset = offset
 
 -- the file that is named by what comes next
-abbrev pub file_of : Option Next → ℕ → ℕ
-file_of None file = file
-file_of (Some (nexts.Packet meta place)) file = meta.file
-file_of (Some (nexts.Refused refusal ending)) file = refusal.file
-file_of (Some (nexts.End ending)) file = file
+abbrev pub next_file : Option Next → ℕ → ℕ
+next_file None file = file
+next_file (Some (nexts.Packet meta place)) file = meta.file
+next_file (Some (nexts.Refused refusal ending)) file = refusal.file
+next_file (Some (nexts.End ending)) file = file
 
 -- the captured bytes of a packet
 abbrev pub part_of : Option (List ℕ) → ℕ → ℕ → List ℕ
 part_of None place captured = []
 part_of (Some bytes) place captured = take captured (drop place bytes)
 
-abbrev pub frame_of : Option Next → Option (List ℕ) → List ℕ
-frame_of None lent = []
-frame_of (Some (nexts.Packet meta place)) lent = part_of lent place meta.captured
-frame_of (Some (nexts.Refused refusal ending)) lent = []
-frame_of (Some (nexts.End ending)) lent = []
+abbrev pub next_frame : Option Next → Option (List ℕ) → List ℕ
+next_frame None lent = []
+next_frame (Some (nexts.Packet meta place)) lent = part_of lent place meta.captured
+next_frame (Some (nexts.Refused refusal ending)) lent = []
+next_frame (Some (nexts.End ending)) lent = []
 
 -- the reader has not come to an end, unless that is known
 abbrev pub is_free : Option Next → Bool → Bool
@@ -243,23 +244,23 @@ is_free (Some (nexts.Refused refusal ending)) stops = true
 is_free (Some (nexts.End ending)) stops = true
 
 -- no read has failed, if it is known what comes next
-abbrev pub is_whole : Option Next → Option ℕ → Bool
-is_whole None broken = true
-is_whole (Some next) broken = not (is_some broken)
+abbrev pub is_unbroken : Option Next → Option ℕ → Bool
+is_unbroken None broken = true
+is_unbroken (Some next) broken = not (is_some broken)
 
 -- what is always true of what comes next of a file
 pub record IsNext (next : Option Next) (state : FileState) : Type 0 where
-  pub file : file_of next state.file ≡ state.file
-  pub lent : end_of next ≤ size_of state.lent
+  pub file : next_file next state.file ≡ state.file
+  pub lent : lent_end next ≤ lent_length state.lent
   pub captured : captured_of next ≤ 262144
   pub behind : behind_of next ≤ state.offset
 
 -- the items to come, by what comes next
-abbrev pub items_by : Option Next → List ℕ → List Item → List Item
-items_by None frame rest = rest
-items_by (Some (nexts.Packet meta place)) frame rest = packet meta frame ∷ rest
-items_by (Some (nexts.Refused refusal ending)) frame rest = refused refusal ∷ []
-items_by (Some (nexts.End ending)) frame rest = []
+abbrev pub items_from_next : Option Next → List ℕ → List Item → List Item
+items_from_next None frame rest = rest
+items_from_next (Some (nexts.Packet meta place)) frame rest = packet meta frame ∷ rest
+items_from_next (Some (nexts.Refused refusal ending)) frame rest = refused refusal ∷ []
+items_from_next (Some (nexts.End ending)) frame rest = []
 
 -- how the file ends
 abbrev pub ending_by : Option Next → FileEnd → FileEnd
@@ -278,9 +279,9 @@ head_of (nexts.Packet meta place) = heads.Packet meta
 head_of (nexts.Refused refusal ending) = heads.Refused refusal
 head_of (nexts.End ending) = heads.End
 
-abbrev pub head_by : Option Next → Option Head
-head_by None = None
-head_by (Some next) = Some (head_of next)
+abbrev pub next_head : Option Next → Option Head
+next_head None = None
+next_head (Some next) = Some (head_of next)
 
 -- the fault of a read that failed in what begins there
 abbrev pub break_at : ℕ → Option ℕ → Option Fault
@@ -300,40 +301,40 @@ is_packet (Some (nexts.Refused refusal ending)) = false
 is_packet (Some (nexts.End ending)) = false
 
 -- the file, of which that comes next if it is known, as a feed
-abbrev pub feed_of : FileState → Option Next → Feed
-feed_of state next =
+abbrev pub file_feed : FileState → Option Next → Feed
+file_feed state next =
     record {
       files = state.file ∷ [];
       told = state.told;
-      items = items_by next (frame_of next state.lent) state.items;
+      items = items_from_next next (next_frame next state.lent) state.items;
       endings = λ file. ending_by next state.ending;
-      known = head_by next;
-      frame = frame_of next state.lent;
+      known = next_head next;
+      frame = next_frame next state.lent;
       broken = break_at state.file state.broken;
-      places = λ file. place_of next (offset_at state.broken state.offset);
-      left = 2 ^ 40 - place_of next state.offset;
+      places = λ file. place_of_next next (offset_at state.broken state.offset);
+      left = 2 ^ 40 - place_of_next next state.offset;
       can_fail = λ file. state.can_fail;
       held = record { window = state.held; interfaces = state.interfaces; failed = state.failed };
     }
 
 -- No read has failed of a file, and none does.
-pub record Goes (old new : FileState) : Type 0 where
+pub record FileGoes (old new : FileState) : Type 0 where
   pub before : old.broken ≡ None
   pub after : new.broken ≡ None
   pub failed : new.failed ≡ old.failed
 
 -- What comes next of a file is learned.
-pub record Learns (old : FileState) (next : Next) (new : FileState) : Type 0 where
+pub record FileLearns (old : FileState) (next : Next) (new : FileState) : Type 0 where
   pub is : IsNext (Some next) new
-  pub place : old.offset ≤ place_of (Some next) new.offset
+  pub place : old.offset ≤ place_of_next (Some next) new.offset
   pub free : IsTrue (is_free (Some next) new.stops)
-  pub goes : Goes old new
-  pub items : IsTrue old.told → items_by (Some next) (frame_of (Some next) new.lent) new.items ≡ old.items
+  pub goes : FileGoes old new
+  pub items : IsTrue old.told → items_from_next (Some next) (next_frame (Some next) new.lent) new.items ≡ old.items
   pub ending : IsTrue old.told → ending_by (Some next) new.ending ≡ old.ending
   pub first : IsTrue old.told → new.noted ≡ old.first
 
 -- A read of it fails in this call, or failed in an earlier one: then the offset is the same.
-pub record Fails (old : FileState) (file offset : ℕ) (new : FileState) : Type 0 where
+pub record FileFails (old : FileState) (file offset : ℕ) (new : FileState) : Type 0 where
   pub stops : new.stops ≡ false
   pub file_is : file ≡ old.file
   pub again : IfSome old.broken (λ first. offset ≡ first)
@@ -343,40 +344,40 @@ pub record Fails (old : FileState) (file offset : ℕ) (new : FileState) : Type 
   pub can_fail : IsTrue old.can_fail
 
 -- Nothing is learned, and what is to come is the same.
-pub record Waits (old new : FileState) : Type 0 where
+pub record FileWaits (old new : FileState) : Type 0 where
   pub stops : new.stops ≡ false
   pub broken : new.broken ≡ old.broken
   pub failed : new.failed ≡ old.failed
   pub rest : IsTrue old.told → SameRest old new
 
 -- what a look at what comes next answers, and what is known of that after it
-abbrev pub Answers : {A : Type 0} → FileState → Result A Fault → Option Next → FileState → Type 0
-Answers old (Ok x) after new = (next : Next) × (after ≡ Some next) × Learns old next new
-Answers old (Err (Refused refusal)) after new = ⊥
-Answers old (Err (Read file offset)) after new = (after ≡ None) × Fails old file offset new
-Answers old (Err Write) after new = ⊥
-Answers old (Err Memory) after new = (after ≡ None) × Waits old new × (old.broken ≡ None)
+abbrev pub FileAnswers : {A : Type 0} → FileState → Result A Fault → Option Next → FileState → Type 0
+FileAnswers old (Ok x) after new = (next : Next) × (after ≡ Some next) × FileLearns old next new
+FileAnswers old (Err (Refused refusal)) after new = ⊥
+FileAnswers old (Err (Read file offset)) after new = (after ≡ None) × FileFails old file offset new
+FileAnswers old (Err Write) after new = ⊥
+FileAnswers old (Err Memory) after new = (after ≡ None) × FileWaits old new × (old.broken ≡ None)
 
 -- what a look at what is shown already answers: whether it was enough
 abbrev pub TakesShown : FileState → Bool → Option Next → FileState → Type 0
-TakesShown old true after new = (next : Next) × (after ≡ Some next) × Learns old next new
+TakesShown old true after new = (next : Next) × (after ≡ Some next) × FileLearns old next new
 TakesShown old false after new = ⊤
 
 -- the same of a look at one block, after which a pcapng file may go on
 pub record GoesOn (old new : FileState) : Type 0 where
-  pub waits : Waits old new
+  pub waits : FileWaits old new
   pub further : old.offset < new.offset
 
 abbrev pub StepsTo : FileState → Option Next → FileState → Type 0
-StepsTo old (Some next) new = Learns old next new
+StepsTo old (Some next) new = FileLearns old next new
 StepsTo old None new = GoesOn old new
 
-abbrev pub Steps : {A : Type 0} → FileState → Result A Fault → Option Next → FileState → Type 0
-Steps old (Ok x) after new = StepsTo old after new
-Steps old (Err (Refused refusal)) after new = ⊥
-Steps old (Err (Read file offset)) after new = (after ≡ None) × Fails old file offset new
-Steps old (Err Write) after new = ⊥
-Steps old (Err Memory) after new = (after ≡ None) × Waits old new × (old.broken ≡ None)
+abbrev pub FileSteps : {A : Type 0} → FileState → Result A Fault → Option Next → FileState → Type 0
+FileSteps old (Ok x) after new = StepsTo old after new
+FileSteps old (Err (Refused refusal)) after new = ⊥
+FileSteps old (Err (Read file offset)) after new = (after ≡ None) × FileFails old file offset new
+FileSteps old (Err Write) after new = ⊥
+FileSteps old (Err Memory) after new = (after ≡ None) × FileWaits old new × (old.broken ≡ None)
 
 -- what comes next if a block says that, if anything does
 abbrev pub next_at : ℕ → Progress → Block → Result Content Rule → Option Next
@@ -388,10 +389,10 @@ next_at file progress block (Err rule) =
     Some (nexts.Refused (record { file = file; offset = block.offset; rule = rule }) (ending_with progress false))
 
 -- what is always true of a file and of what comes next of it, if that is known
-pub record IsSound (state : FileState) (next : Option Next) : Type 0 where
+pub record IsSoundFile (state : FileState) (next : Option Next) : Type 0 where
   pub is : IsNext next state
   pub free : IsTrue (is_free next state.stops)
-  pub whole : IsTrue (is_whole next state.broken)
+  pub whole : IsTrue (is_unbroken next state.broken)
   pub limit : state.offset ≤ 2 ^ 40
   pub held : state.held ≤ 524288
   pub interfaces : state.interfaces ≤ 1024
@@ -399,16 +400,17 @@ pub record IsSound (state : FileState) (next : Option Next) : Type 0 where
 
 -- What is learned, or was known before.
 abbrev pub LearnsOr : FileState → Option Next → Next → FileState → Type 0
-LearnsOr old None next new = Learns old next new
+LearnsOr old None next new = FileLearns old next new
 LearnsOr old (Some known) next new = (next ≡ known) × (new ≡ old)
 
 -- what asking for what comes next answers
 abbrev pub LearnsNext : {A : Type 0} → FileState → Option Next → Result A Fault → FileState → Option Next → Type 0
 LearnsNext old known (Ok x) new after = (next : Next) × (after ≡ Some next) × LearnsOr old known next new
 LearnsNext old known (Err (Refused refusal)) new after = ⊥
-LearnsNext old known (Err (Read file offset)) new after = (known ≡ None) × (after ≡ None) × Fails old file offset new
+LearnsNext old known (Err (Read file offset)) new after = (known ≡ None) × (after ≡ None)
+    × FileFails old file offset new
 LearnsNext old known (Err Write) new after = ⊥
-LearnsNext old known (Err Memory) new after = (known ≡ None) × (after ≡ None) × Waits old new × (old.broken ≡ None)
+LearnsNext old known (Err Memory) new after = (known ≡ None) × (after ≡ None) × FileWaits old new × (old.broken ≡ None)
 
 -- what asking whether a packet is shown answers
 abbrev pub ShowsNext : FileState → Option Next → Bool → FileState → Option Next → Type 0

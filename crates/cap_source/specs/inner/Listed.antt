@@ -12,8 +12,8 @@ use Rattle.cap_source.specs.declared.packets.Meta.{Meta}
 use Rattle.cap_time.specs.declared.resolutions.Interface.{Interface}
 
 -- what is told of the packet at that place of a list
-abbrev pub meta_at : ℕ → Interface → ℕ → ℕ → Meta
-meta_at file interface place units =
+abbrev pub listed_meta : ℕ → Interface → ℕ → ℕ → Meta
+listed_meta file interface place units =
     record {
       file = file;
       offset = place;
@@ -28,14 +28,14 @@ meta_at file interface place units =
 
 -- what comes next there, by the times to come
 abbrev pub head_at : ℕ → Interface → Option Rule → ℕ → List ℕ → Head
-head_at file interface end place (units ∷ later) = heads.Packet (meta_at file interface place units)
+head_at file interface end place (units ∷ later) = heads.Packet (listed_meta file interface place units)
 head_at file interface None place [] = heads.End
 head_at file interface (Some rule) place [] = heads.Refused (record { file = file; offset = place; rule = rule })
 
 -- the items from there on
 abbrev pub listed_items : ℕ → Interface → Option Rule → ℕ → List ℕ → List Item
 listed_items file interface end place (units ∷ later) =
-    packet (meta_at file interface place units) [] ∷ listed_items file interface end (place + 1) later
+    packet (listed_meta file interface place units) [] ∷ listed_items file interface end (place + 1) later
 listed_items file interface None place [] = []
 listed_items file interface (Some rule) place [] = refused (record { file = file; offset = place; rule = rule }) ∷ []
 

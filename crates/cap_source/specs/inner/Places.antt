@@ -3,13 +3,14 @@ use Rattle.std.specs.Prelude.{◌≡◌, ◌==◌, ◌&&◌, ◌+◌, ℕ, not, 
 use Rattle.std.specs.Prelude.{slice_get, Option}
 use Rattle.std.specs.List.{filter, count_by, before_last, after_last}
 use Rattle.cap_bytes.specs.Items as pieces
-use Rattle.cap_blocks.specs.Grammar.{section_kind, interface_kind, is_known}
+use Rattle.cap_blocks.specs.Grammar.{section_kind, interface_kind, is_known_kind}
 use Rattle.cap_blocks.specs.OptionList.{options_of}
 use Rattle.cap_blocks.specs.declared.blocks.Block.{Block}
 use Rattle.cap_source.specs.Feed.{Item}
 use Rattle.cap_source.specs.declared.feeds.FileEnd.{FileEnd}
 use Rattle.cap_source.specs.Contents.{content_in}
-use Rattle.cap_source.specs.Items.{Progress, fresh, items_at, items_in, items_of_stop, ending_with, ending_in, is_cut}
+use Rattle.cap_source.specs.Items.{Progress, fresh, items_at_block, items_of_blocks, items_of_stop, ending_with}
+use Rattle.cap_source.specs.Items.{ending_in, is_cut}
 use Rattle.cap_source.specs.Items.{unless_faulty, first_in, unless_item}
 use Rattle.cap_source.specs.TimeBases.{interface_at, is_named}
 use Rattle.cap_time.specs.declared.resolutions.Interface.{Interface}
@@ -26,7 +27,7 @@ is_interface b = b.0.kind == interface_kind
 
 -- a block that is skipped: its kind is none of those that are known
 abbrev pub is_other : Standing → Bool
-is_other b = not (is_known b.0.kind)
+is_other b = not (is_known_kind b.0.kind)
 
 -- the interface that an interface block tells of, by its own body
 abbrev pub told : Standing → Interface
@@ -55,22 +56,22 @@ known_behind before =
 
 -- The items of a file's rest, how it ends, and its first interface, by what is known at each block behind all those
 -- before it.
-unfoldable pub items_behind : ℕ → List Standing → List (pieces.Item Block) → List Item
+unfoldable pub items_behind : ℕ → List Standing → List (pieces.PieceItem Block) → List Item
 items_behind file before [] = []
 items_behind file before (pieces.stopped stop ∷ rest) = items_of_stop stop
 items_behind file before (pieces.given block body ∷ rest) =
-    items_at file (known_behind before) block body
+    items_at_block file (known_behind before) block body
     (content_in (known_behind before).interfaces block.kind block.order body)
     (items_behind file (before ++ (block, body) ∷ []) rest)
 
-unfoldable pub ending_behind : List Standing → List (pieces.Item Block) → FileEnd
+unfoldable pub ending_behind : List Standing → List (pieces.PieceItem Block) → FileEnd
 ending_behind before [] = ending_with (known_behind before) false
 ending_behind before (pieces.stopped stop ∷ rest) = ending_with (known_behind before) (is_cut stop)
 ending_behind before (pieces.given block body ∷ rest) =
     unless_faulty (content_in (known_behind before).interfaces block.kind block.order body)
     (ending_with (known_behind before) false) (ending_behind (before ++ (block, body) ∷ []) rest)
 
-unfoldable pub first_behind : List Standing → List (pieces.Item Block) → Option Interface
+unfoldable pub first_behind : List Standing → List (pieces.PieceItem Block) → Option Interface
 first_behind before [] = (known_behind before).first
 first_behind before (pieces.stopped stop ∷ rest) = (known_behind before).first
 first_behind before (pieces.given block body ∷ rest) =
@@ -79,15 +80,16 @@ first_behind before (pieces.given block body ∷ rest) =
 
 -- The items of every file are those by places, however many blocks it has and whatever ends them,
 abbrev pub ItemsByPlaces : Type 0
-ItemsByPlaces = (file : ℕ) (items : List (pieces.Item Block)) → items_in file fresh items ≡ items_behind file [] items
+ItemsByPlaces = (file : ℕ) (items : List (pieces.PieceItem Block))
+    → items_of_blocks file fresh items ≡ items_behind file [] items
 
 -- so is how it ends,
 abbrev pub EndingByPlaces : Type 0
-EndingByPlaces = (items : List (pieces.Item Block)) → ending_in fresh items ≡ ending_behind [] items
+EndingByPlaces = (items : List (pieces.PieceItem Block)) → ending_in fresh items ≡ ending_behind [] items
 
 -- and so is its first interface.
 abbrev pub FirstByPlaces : Type 0
-FirstByPlaces = (items : List (pieces.Item Block)) → first_in fresh items ≡ first_behind [] items
+FirstByPlaces = (items : List (pieces.PieceItem Block)) → first_in fresh items ≡ first_behind [] items
 
 -- An interface's number in the file: behind any blocks, the interfaces that are known end with the last one of all.
 abbrev pub NumbersByPlaces : Type 0

@@ -14,8 +14,8 @@ progress_of reached =
     }
 
 -- how many blocks of the file are counted in it, those of interfaces with a name twice
-abbrev pub counted : Progress → ℕ
-counted progress = progress.base + length progress.interfaces + progress.skipped + progress.named
+abbrev pub counted_blocks : Progress → ℕ
+counted_blocks progress = progress.base + length progress.interfaces + progress.skipped + progress.named
 
 -- whether there is room for an interface, once a read has failed
 abbrev pub has_room : Option ℕ → Reached → Bool

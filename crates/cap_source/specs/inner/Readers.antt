@@ -1,15 +1,15 @@
 -- A reader of either format as a file to come.
 use Rattle.std.specs.Prelude.{◌≡◌, ◌<◌, ℕ, Bool, true, false, IsTrue, List, [], Option, None, Result, Ok, Err, is_some}
 use Rattle.std.specs.Prelude.{⊤}
-use Rattle.cap_bytes.specs.inner.Window.{State as WindowState, Shows, Breaks, coming}
+use Rattle.cap_bytes.specs.inner.Window.{WindowState, WindowShows, WindowBreaks, coming}
 use Rattle.cap_bytes.specs.declared.faults.Fault.{Fault}
 use Rattle.cap_bytes.specs.declared.faults.Fault.TheVariants.{Refused, Read, Write, Memory}
-use Rattle.cap_bytes.specs.inner.Reader.{opened}
+use Rattle.cap_bytes.specs.inner.Reader.{opened_reader}
 use Rattle.cap_source.specs.Items.{is_pcapng}
 use Rattle.cap_source.specs.declared.packets.Format.{Format}
 use Rattle.cap_source.specs.declared.packets.Format.TheVariants.{Pcap, Pcapng}
 use Rattle.cap_source.specs.Items.{Progress, ending_with}
-use Rattle.cap_source.specs.inner.FileState.{FileState, Fails, Waits, unread_state, pcap_state, pcapng_state}
+use Rattle.cap_source.specs.inner.FileState.{FileState, FileFails, FileWaits, unread_state, pcap_state, pcapng_state}
 use Rattle.cap_source.specs.inner.Reached.{has_room}
 use Rattle.cap_source.specs.declared.reached.Reached.{Reached}
 use Rattle.cap_source.specs.declared.readers.Reader.{Reader}
@@ -38,11 +38,11 @@ moved_state progress =
       counted = 0;
     }
 
-abbrev pub state_of : {R : Type 0} → Reader R → Progress → FileState
-state_of (readers.Unread window tail) progress = unread_state window tail progress
-state_of (readers.Pcap reader) progress = pcap_state reader progress
-state_of (readers.Pcapng reader) progress = pcapng_state reader progress
-state_of readers.Moved progress = moved_state progress
+abbrev pub reader_file_state : {R : Type 0} → Reader R → Progress → FileState
+reader_file_state (readers.Unread window tail) progress = unread_state window tail progress
+reader_file_state (readers.Pcap reader) progress = pcap_state reader progress
+reader_file_state (readers.Pcapng reader) progress = pcapng_state reader progress
+reader_file_state readers.Moved progress = moved_state progress
 
 -- whether the bytes are those of a file of that format
 abbrev pub has_format : Format → List ℕ → Type 0
@@ -51,26 +51,26 @@ has_format Pcapng bytes = is_pcapng bytes ≡ true
 
 -- what a look at the first four bytes answers
 abbrev pub LooksAtWindow : WindowState → Result Format Fault → WindowState → Type 0
-LooksAtWindow old (Ok format) new = Shows old new × (IsTrue old.told → has_format format (coming old))
-LooksAtWindow old (Err (Read file offset)) new = Breaks old file offset new × (new.offset ≡ old.offset)
-LooksAtWindow old (Err Memory) new = Shows old new × (old.room < 4)
+LooksAtWindow old (Ok format) new = WindowShows old new × (IsTrue old.told → has_format format (coming old))
+LooksAtWindow old (Err (Read file offset)) new = WindowBreaks old file offset new × (new.offset ≡ old.offset)
+LooksAtWindow old (Err Memory) new = WindowShows old new × (old.room < 4)
 LooksAtWindow old (Err Write) new = ⊥
 LooksAtWindow old (Err (Refused refusal)) new = ⊥
 
 -- the reader of that format over a window
 abbrev pub reader_by : {R : Type 0} → Reader R → Format → Reader R
-reader_by (readers.Unread window tail) Pcap = readers.Pcap (opened window tail)
-reader_by (readers.Unread window tail) Pcapng = readers.Pcapng (opened window tail)
+reader_by (readers.Unread window tail) Pcap = readers.Pcap (opened_reader window tail)
+reader_by (readers.Unread window tail) Pcapng = readers.Pcapng (opened_reader window tail)
 reader_by (readers.Pcap reader) format = readers.Pcap reader
 reader_by (readers.Pcapng reader) format = readers.Pcapng reader
 reader_by readers.Moved format = readers.Moved
 
 -- a reader of one of the formats
-abbrev pub IsReady : {R : Type 0} → Reader R → Type 0
-IsReady (readers.Unread window tail) = ⊥
-IsReady (readers.Pcap reader) = ⊤
-IsReady (readers.Pcapng reader) = ⊤
-IsReady readers.Moved = ⊥
+abbrev pub IsReadyReader : {R : Type 0} → Reader R → Type 0
+IsReadyReader (readers.Unread window tail) = ⊥
+IsReadyReader (readers.Pcap reader) = ⊤
+IsReadyReader (readers.Pcapng reader) = ⊤
+IsReadyReader readers.Moved = ⊥
 
 -- whether it has come to an end
 abbrev pub is_stopped : {R : Type 0} → Reader R → Bool
@@ -87,12 +87,12 @@ reader_room (readers.Pcapng reader) reached = has_room reader.broken reached
 reader_room readers.Moved reached = true
 
 -- what making the reader answers, of the file before and after that
-abbrev pub Opens : {A : Type 0} → FileState → Result A Fault → FileState → Type 0
-Opens old (Ok _) new = Waits old new
-Opens old (Err (Read file offset)) new = Fails old file offset new
-Opens old (Err Memory) new = Waits old new × (old.broken ≡ None)
-Opens old (Err Write) new = ⊥
-Opens old (Err (Refused refusal)) new = ⊥
+abbrev pub OpensReader : {A : Type 0} → FileState → Result A Fault → FileState → Type 0
+OpensReader old (Ok _) new = FileWaits old new
+OpensReader old (Err (Read file offset)) new = FileFails old file offset new
+OpensReader old (Err Memory) new = FileWaits old new × (old.broken ≡ None)
+OpensReader old (Err Write) new = ⊥
+OpensReader old (Err (Refused refusal)) new = ⊥
 
 -- a reader that isn't on its way
 abbrev pub is_there : {R : Type 0} → Reader R → Bool

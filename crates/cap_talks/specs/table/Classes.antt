@@ -5,7 +5,7 @@ use Rattle.std.specs.Option.{option_map_or}
 use Rattle.cap_ip.specs.Transport.{transport_of}
 use Rattle.cap_ip.specs.declared.transports.Transport.{Transport}
 use Rattle.cap_ip.specs.declared.transports.Transport.TheVariants as transport
-use Rattle.cap_join.specs.ByteMap.{header_of, data_of}
+use Rattle.cap_join.specs.ByteMap.{joined_header, joined_data}
 use Rattle.cap_join.specs.Fragments.{Piece}
 use Rattle.cap_join.specs.Joiners.{open_limit}
 use Rattle.cap_join.specs.Completed.{completed_of}
@@ -25,8 +25,8 @@ class_of transport.Cut = class.Cut
 -- what the data of a joined datagram says of its ports: its header is that of the latest fragment that begins at 0
 abbrev pub joined_transport : List Piece → Transport
 joined_transport pieces =
-    option_map_or (λ h. transport_of h.key.protocol (data_of pieces) (length (data_of pieces)))
-    (header_of pieces) transport.Bad
+    option_map_or (λ h. transport_of h.key.protocol (joined_data pieces) (length (joined_data pieces)))
+    (joined_header pieces) transport.Bad
 
 unfoldable pub group_class : List Piece → Class
 group_class pieces = class_of (joined_transport pieces)

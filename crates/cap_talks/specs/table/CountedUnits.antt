@@ -8,14 +8,14 @@ use Rattle.cap_bytes.specs.declared.faults.Rule.TheVariants.{TalkLimit}
 use Rattle.cap_source.specs.declared.packets.Meta.{Meta}
 use Rattle.cap_ip.specs.Header.{HeaderFields}
 use Rattle.cap_ip.specs.Transport.{transport_of}
-use Rattle.cap_join.specs.ByteMap.{header_of, data_of}
+use Rattle.cap_join.specs.ByteMap.{joined_header, joined_data}
 use Rattle.cap_join.specs.Fragments.{Piece}
-use Rattle.cap_join.specs.Frames.{original_bytes, first_frame, last_frame}
-use Rattle.cap_join.specs.History.{Event, joined_pieces, state_of}
+use Rattle.cap_join.specs.Frames.{pieces_original, first_frame, last_frame}
+use Rattle.cap_join.specs.History.{Event, joined_pieces, open_groups_after}
 use Rattle.cap_join.specs.Joiners.{open_limit}
 use Rattle.cap_join.specs.declared.datagrams.Stamped.{Stamped}
 use Rattle.cap_talks.specs.table.Rows.{is_refused, talk_limit}
-use Rattle.cap_talks.specs.table.Talks.{key_of, rows_of}
+use Rattle.cap_talks.specs.table.Talks.{talk_key, rows_of}
 use Rattle.cap_talks.specs.table.Units.{ends_of}
 use Rattle.cap_talks.specs.declared.table.units.CountedUnit.{CountedUnit}
 use Rattle.cap_talks.specs.declared.table.units.End.{End}
@@ -55,10 +55,11 @@ whole_unit header captured stamped =
 -- a joined datagram
 unfoldable pub group_unit : List Piece → Option CountedUnit
 group_unit pieces =
-    option_and_then (λ h. option_map (unit_of h.key.protocol (length pieces) (original_bytes pieces)
+    option_and_then (λ h. option_map (unit_of h.key.protocol (length pieces) (pieces_original pieces)
     (timed_frame (first_frame pieces)) (timed_frame (last_frame pieces)))
-    (ends_of h.key.source h.key.destination (transport_of h.key.protocol (data_of pieces) (length (data_of pieces)))))
-    (header_of pieces)
+    (ends_of h.key.source h.key.destination (transport_of h.key.protocol (joined_data pieces)
+    (length (joined_data pieces)))))
+    (joined_header pieces)
 
 abbrev pub first_unit : List (List Piece) → Option CountedUnit
 first_unit [] = None
@@ -69,7 +70,7 @@ abbrev pub unit_by : Look → Stamped → Option Stamp → List Event → Option
 unit_by (plain c) stamped clock events = None
 unit_by (datagram header captured) stamped clock events = whole_unit header captured stamped
 unit_by (fragment p) stamped clock events = first_unit
-    (if_complete (joined_pieces clock p (state_of open_limit events)))
+    (if_complete (joined_pieces clock p (open_groups_after open_limit events)))
 
 unfoldable pub unit_at : List Taken → Taken → Option CountedUnit
 unit_at xs x = unit_by (look (length xs) x) (stamped_of (length xs) x.meta) x.clock (events_of xs)
@@ -78,9 +79,9 @@ abbrev pub listed : {A : Type 0} → Option A → List A
 listed None = []
 listed (Some it) = it ∷ []
 
-unfoldable pub units_of : List Taken → List CountedUnit
-units_of [] = []
-units_of (x ∷ xs) = units_of xs ++ listed (unit_at xs x)
+unfoldable pub counted_units : List Taken → List CountedUnit
+counted_units [] = []
+counted_units (x ∷ xs) = counted_units xs ++ listed (unit_at xs x)
 
 -- how many datagrams were joined that count
 abbrev pub counted_in : List (List Piece) → ℕ
@@ -92,16 +93,16 @@ joined_in xs = counted_in (groups_of xs)
 
 -- how many groups were given up
 abbrev pub given_up_in : List Taken → ℕ
-given_up_in xs = (state_of open_limit (events_of xs)).given_up
+given_up_in xs = (open_groups_after open_limit (events_of xs)).given_up
 
 -- a unit, if there is one, is of a new conversation, and 1,048,576 conversations stand of those before it
 abbrev pub is_limit_by : List CountedUnit → Option CountedUnit → Bool
-is_limit_by units unit = option_map_or (λ unit. is_refused talk_limit (rows_of units) (key_of unit)) unit false
+is_limit_by units unit = option_map_or (λ unit. is_refused talk_limit (rows_of units) (talk_key unit)) unit false
 
 -- after some packets, the next one completes such a unit
 abbrev pub is_limit_at : List Taken → Taken → Bool
-is_limit_at xs x = is_limit_by (units_of xs) (unit_at xs x)
+is_limit_at xs x = is_limit_by (counted_units xs) (unit_at xs x)
 
 -- the refusal of such a packet: rule 16, talk-limit
-abbrev pub refusal_at : Meta → Refusal
-refusal_at meta = record { file = meta.file; offset = meta.offset; rule = TalkLimit }
+abbrev pub limit_refusal : Meta → Refusal
+limit_refusal meta = record { file = meta.file; offset = meta.offset; rule = TalkLimit }

@@ -5,7 +5,7 @@ use Rattle.std.specs.List.{list_all}
 use Rattle.std.specs.Map.{lookup, values_of}
 use Rattle.std.specs.Ordering.{is_lt}
 use Rattle.indexmap.specs.IndexMap.{insert_entry}
-use Rattle.cap_talks.specs.table.Talks.{Talk, row_of, is_forward, key_of, by_time, earlier_frame, later_frame}
+use Rattle.cap_talks.specs.table.Talks.{Talk, row_of, is_forward, talk_key, by_time, earlier_frame, later_frame}
 use Rattle.cap_talks.specs.table.Talks.{frame_time, place_or, same_talk, rows_of}
 use Rattle.cap_talks.specs.declared.table.rows.TalkKey.{TalkKey}
 use Rattle.cap_talks.specs.declared.table.rows.Share.{Share}
@@ -22,7 +22,7 @@ pub record TalksState : Type 0 where
   pub rows : List Talk
 
 -- A table stands for some units if it keeps the rows of their conversations.
-pub record StandsFor (talks : TalksState) (units : List CountedUnit) : Type 0 where
+pub record TalksStandFor (talks : TalksState) (units : List CountedUnit) : Type 0 where
   pub rows : talks.rows ≡ rows_of units
 
 -- how many conversations a table may have
@@ -30,9 +30,9 @@ abbrev pub talk_limit : ℕ
 talk_limit = 1048576
 
 -- the frame of a row's least or greatest time
-abbrev pub frame_of : Option Stamp → ℕ → Option TimedFrame
-frame_of None place = None
-frame_of (Some time) place = Some (record { time = time; place = place })
+abbrev pub row_frame : Option Stamp → ℕ → Option TimedFrame
+row_frame None place = None
+row_frame (Some time) place = Some (record { time = time; place = place })
 
 -- two frames are there, the second not earlier than the first, or neither is
 abbrev pub are_in_order : Option TimedFrame → Option TimedFrame → Bool
@@ -48,7 +48,7 @@ pub record IsUnitInOrder (unit : CountedUnit) : Type 0 where
 
 -- the first and the last frame of a row are in order, and those of each of some rows
 abbrev pub is_in_order : TalkRow → Bool
-is_in_order row = are_in_order (frame_of row.first row.first_place) (frame_of row.last row.last_place)
+is_in_order row = are_in_order (row_frame row.first row.first_place) (row_frame row.last row.last_place)
 
 abbrev pub are_all_in_order : List Talk → Bool
 are_all_in_order talks = list_all (λ talk. is_in_order talk.1) talks
@@ -71,16 +71,16 @@ abbrev pub bytes_of_row : TalkRow → ℕ
 bytes_of_row row = row.forward_bytes + row.backward_bytes
 
 -- the sum over all rows of what is counted of each
-abbrev pub sum_in : (TalkRow → ℕ) → List Talk → ℕ
-sum_in count [] = 0
-sum_in count (talk ∷ talks) = count talk.1 + sum_in count talks
+abbrev pub sum_of_rows : (TalkRow → ℕ) → List Talk → ℕ
+sum_of_rows count [] = 0
+sum_of_rows count (talk ∷ talks) = count talk.1 + sum_of_rows count talks
 
 -- how many frames all rows count, and how many bytes
 abbrev pub frames_in : List Talk → ℕ
-frames_in talks = sum_in frames_of_row talks
+frames_in talks = sum_of_rows frames_of_row talks
 
 abbrev pub bytes_in : List Talk → ℕ
-bytes_in talks = sum_in bytes_of_row talks
+bytes_in talks = sum_of_rows bytes_of_row talks
 
 -- a frame comes before the first one so far, or is the only one
 abbrev pub is_earlier : TimedFrame → Option TimedFrame → Bool
@@ -97,10 +97,10 @@ is_after (Some frame) (Some last) = is_lt (stamp_cmp last frame.time)
 abbrev pub with_frames : TalkRow → Option TimedFrame → Option TimedFrame → TalkRow
 with_frames row first last =
     record row {
-      first = frame_time (earlier_frame (frame_of row.first row.first_place) first);
-      last = frame_time (later_frame (frame_of row.last row.last_place) last);
-      first_place = place_or (earlier_frame (frame_of row.first row.first_place) first) row.first_place;
-      last_place = place_or (later_frame (frame_of row.last row.last_place) last) row.last_place;
+      first = frame_time (earlier_frame (row_frame row.first row.first_place) first);
+      last = frame_time (later_frame (row_frame row.last row.last_place) last);
+      first_place = place_or (earlier_frame (row_frame row.first row.first_place) first) row.first_place;
+      last_place = place_or (later_frame (row_frame row.last row.last_place) last) row.last_place;
     }
 
 -- what a unit adds to the row of its conversation
@@ -138,7 +138,7 @@ row_at key rows = or_empty (lookup (same_talk key) rows)
 
 -- the rows with one unit more: that of its conversation where it stands, or after the others
 abbrev pub with_talk : List Talk → CountedUnit → List Talk
-with_talk rows unit = insert_entry same_talk rows (key_of unit) (with_unit (row_at (key_of unit) rows) unit)
+with_talk rows unit = insert_entry same_talk rows (talk_key unit) (with_unit (row_at (talk_key unit) rows) unit)
 
 -- the row at a place, that of no unit past the last
 abbrev pub row_in : {K : Type 0} → List (K × TalkRow) → ℕ → TalkRow

@@ -7,7 +7,7 @@ use Rattle.cap_ip.specs.declared.headers.Fragment.{Fragment}
 use Rattle.cap_join.specs.Fragments.{Piece, piece_of}
 use Rattle.cap_join.specs.History.{Event, arrives, flushes}
 use Rattle.cap_join.specs.declared.datagrams.Stamped.{Stamped}
-use Rattle.cap_link.specs.Links.{network_of, is_whole}
+use Rattle.cap_link.specs.Links.{network_of, is_captured_whole}
 use Rattle.cap_link.specs.Seen.{Carried, ipv4, other_link, not_ipv4, short, cut as ends}
 use Rattle.cap_source.specs.Times.{meta_time}
 use Rattle.cap_source.specs.declared.packets.Meta.{Meta}
@@ -49,15 +49,15 @@ stamped_of place meta = record { time = meta_time meta; place = place; original 
 
 unfoldable pub look : ℕ → Taken → Look
 look place x =
-    look_at (network_of x.meta.interface.link x.frame x.meta.original) (is_whole x.frame x.meta.original)
+    look_at (network_of x.meta.interface.link x.frame x.meta.original) (is_captured_whole x.frame x.meta.original)
     (stamped_of place x.meta)
 
 -- what a packet of that clock does to the groups of fragments: one comes, or a whole datagram of a key
-abbrev pub events_with : Look → Option Stamp → List Event → List Event
-events_with (plain c) clock events = events
-events_with (datagram header captured) clock events = flushes header.key ∷ events
-events_with (fragment p) clock events = arrives clock p ∷ events
+abbrev pub events_with_look : Look → Option Stamp → List Event → List Event
+events_with_look (plain c) clock events = events
+events_with_look (datagram header captured) clock events = flushes header.key ∷ events
+events_with_look (fragment p) clock events = arrives clock p ∷ events
 
 unfoldable pub events_of : List Taken → List Event
 events_of [] = []
-events_of (x ∷ xs) = events_with (look (length xs) x) x.clock (events_of xs)
+events_of (x ∷ xs) = events_with_look (look (length xs) x) x.clock (events_of xs)

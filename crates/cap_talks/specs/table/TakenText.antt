@@ -9,7 +9,7 @@ use Rattle.cap_talks.specs.table.TalkLines.{talk_texts, talks_text}
 use Rattle.cap_talks.specs.table.Talks.{rows_of}
 use Rattle.cap_talks.specs.table.Classes.{classes, counts_of}
 use Rattle.cap_talks.specs.table.Taken.{Taken}
-use Rattle.cap_talks.specs.table.CountedUnits.{units_of, joined_in, given_up_in}
+use Rattle.cap_talks.specs.table.CountedUnits.{counted_units, joined_in, given_up_in}
 use Rattle.cap_talks.specs.declared.table.classes.Class.{Class}
 use Rattle.cap_talks.specs.declared.table.classes.ClassCounts.{ClassCounts}
 use Rattle.cap_talks.specs.declared.table.units.CountedUnit.{CountedUnit}
@@ -24,9 +24,9 @@ abbrev pub file_line : Option (ℕ → FileEnd) → List Taken → ℕ → List 
 file_line endings xs file = file_text file (counted (metas_of file xs)) (ending_at endings file)
 
 -- the sum of the packets' original lengths, and of how many fewer bytes were captured than they had
-abbrev pub bytes_of : List Taken → ℕ
-bytes_of [] = 0
-bytes_of (x ∷ xs) = bytes_of xs + x.meta.original
+abbrev pub taken_bytes : List Taken → ℕ
+taken_bytes [] = 0
+taken_bytes (x ∷ xs) = taken_bytes xs + x.meta.original
 
 abbrev pub truncated_of : List Taken → ℕ
 truncated_of [] = 0
@@ -51,12 +51,12 @@ joined_text joined given_up = codes "joined " ++ decimal joined ++ codes " given
 -- groups given up
 abbrev pub body_by : List Taken → List Class → List CountedUnit → ℕ → ℕ → List ℕ
 body_by xs of_each units joined given_up =
-    total_text (length xs) (bytes_of xs) (truncated_of xs) ++ frames_text (counts_of of_each)
+    total_text (length xs) (taken_bytes xs) (truncated_of xs) ++ frames_text (counts_of of_each)
     ++ joined_text joined given_up
     ++ talks_text (length (rows_of units)) ++ talk_texts (rows_of units)
 
 unfoldable pub body_text : List Taken → List ℕ
-body_text xs = body_by xs (classes xs) (units_of xs) (joined_in xs) (given_up_in xs)
+body_text xs = body_by xs (classes xs) (counted_units xs) (joined_in xs) (given_up_in xs)
 
 -- the lines of the files, of which there are `count`
 unfoldable pub files_part : ℕ → Option (ℕ → FileEnd) → List Taken → List ℕ

@@ -18,8 +18,8 @@ abbrev pub is_forward : CountedUnit → Bool
 is_forward unit = not (is_gt (end_cmp unit.source unit.destination))
 
 -- a unit's conversation: its protocol and its two ends, the lesser first
-abbrev pub key_of : CountedUnit → TalkKey
-key_of unit =
+abbrev pub talk_key : CountedUnit → TalkKey
+talk_key unit =
     if is_forward unit then record { protocol = unit.protocol; lesser = unit.source; greater = unit.destination }
     else record { protocol = unit.protocol; lesser = unit.destination; greater = unit.source }
 
@@ -66,9 +66,9 @@ abbrev pub frames_of : List CountedUnit → ℕ
 frames_of [] = 0
 frames_of (unit ∷ units) = unit.frames + frames_of units
 
-abbrev pub bytes_of : List CountedUnit → ℕ
-bytes_of [] = 0
-bytes_of (unit ∷ units) = unit.bytes + bytes_of units
+abbrev pub units_bytes : List CountedUnit → ℕ
+units_bytes [] = 0
+units_bytes (unit ∷ units) = unit.bytes + units_bytes units
 
 -- the units that went forward, and the others
 abbrev pub forward : List CountedUnit → List CountedUnit
@@ -82,8 +82,8 @@ backward units = filter (λ unit. not (is_forward unit)) units
 abbrev pub row_of : List CountedUnit → TalkRow
 row_of units =
     record {
-      forward_bytes = bytes_of (forward units);
-      backward_bytes = bytes_of (backward units);
+      forward_bytes = units_bytes (forward units);
+      backward_bytes = units_bytes (backward units);
       first = frame_time (least_frame units);
       last = frame_time (greatest_frame units);
       forward_frames = frames_of (forward units);
@@ -100,13 +100,13 @@ abbrev pub same_talk : TalkKey → TalkKey → Bool
 same_talk a b = (a.protocol == b.protocol) && (same_end a.lesser b.lesser && same_end a.greater b.greater)
 
 -- the units of a conversation
-abbrev pub units_of : TalkKey → List CountedUnit → List CountedUnit
-units_of key units = filter (λ unit. same_talk key (key_of unit)) units
+abbrev pub units_of_talk : TalkKey → List CountedUnit → List CountedUnit
+units_of_talk key units = filter (λ unit. same_talk key (talk_key unit)) units
 
 -- the conversations of some units, each once, in the order of their first units
 abbrev pub keys_of : List CountedUnit → List TalkKey
 keys_of [] = []
-keys_of (unit ∷ units) = key_of unit ∷ filter (λ key. not (same_talk (key_of unit) key)) (keys_of units)
+keys_of (unit ∷ units) = talk_key unit ∷ filter (λ key. not (same_talk (talk_key unit) key)) (keys_of units)
 
 -- a conversation, with what is counted of it
 abbrev pub Talk : Type 0
@@ -114,4 +114,4 @@ Talk = TalkKey × TalkRow
 
 -- the rows of the conversations of some units: each made from the units of its own key
 unfoldable pub rows_of : List CountedUnit → List Talk
-rows_of units = map (λ key. (key, row_of (units_of key units))) (keys_of units)
+rows_of units = map (λ key. (key, row_of (units_of_talk key units))) (keys_of units)

@@ -6,7 +6,7 @@ use Rattle.cap_source.specs.Feed.{Item, packet, refused}
 use Rattle.cap_source.specs.declared.feeds.FileEnd.{FileEnd}
 use Rattle.cap_time.specs.declared.stamps.Stamp.{Stamp}
 use Rattle.cap_talks.specs.table.Taken.{Taken}
-use Rattle.cap_talks.specs.table.CountedUnits.{is_limit_at, refusal_at}
+use Rattle.cap_talks.specs.table.CountedUnits.{is_limit_at, limit_refusal}
 use Rattle.cap_talks.specs.table.TakenText.{text_of}
 use Rattle.cap_talks.specs.talks.InfoText.{or_else}
 
@@ -22,7 +22,7 @@ taken_after xs (x ∷ run) = taken_after (with_item x.clock x.item xs) run
 -- the refusal of a packet that would open a conversation too many, and the one that ends a run
 abbrev pub refusal_here : List Taken → Option Stamp → Item → Option Refusal
 refusal_here xs clock (packet meta frame) =
-    if is_limit_at xs (record { clock = clock; meta = meta; frame = frame }) then Some (refusal_at meta) else None
+    if is_limit_at xs (record { clock = clock; meta = meta; frame = frame }) then Some (limit_refusal meta) else None
 refusal_here xs clock (refused refusal) = Some refusal
 
 -- the first refusal of a run after those that were taken

@@ -2,8 +2,8 @@
 ghost use Rattle.std.specs.Prelude.{◌≡◌, ◌+◌, ◌++◌, ◌<◌, ◌≤◌, ◌^◌, List, length, IfSome, OnOk, OnErr};
 ghost use Rattle.cap_ip.specs.Transport.{transport_of};
 ghost use Rattle.cap_source.specs.Times.{meta_time};
-ghost use Rattle.cap_talks.specs.table.Rows.{StandsFor, IsUnitInOrder, frames_in, bytes_in};
-ghost use Rattle.cap_talks.specs.table.Talks.{frames_of, bytes_of};
+ghost use Rattle.cap_talks.specs.table.Rows.{TalksStandFor, IsUnitInOrder, frames_in, bytes_in};
+ghost use Rattle.cap_talks.specs.table.Talks.{frames_of, units_bytes};
 ghost use Rattle.cap_talks.specs.declared.table.units.CountedUnit.{CountedUnit};
 ghost use Rattle.cap_talks.specs.inner.table.Adding.{datagram_unit, datagram_class, is_over};
 ghost use Rattle.cap_talks.specs.table.Classes.{class_of};
@@ -114,12 +114,12 @@ pub(crate) fn joined_class(datagram: &Datagram) -> Class
 #[inline(always)]
 pub(crate) fn add_unit(talks: &mut Talks, unit: &Option<CountedUnit>) -> Result<(), TalksFault>
     requires frames { frames_in talks.old.rows + frames_of (listed unit.now) < 2 ^ 64 }
-    requires bytes { bytes_in talks.old.rows + bytes_of (listed unit.now) < 2 ^ 128 }
+    requires bytes { bytes_in talks.old.rows + units_bytes (listed unit.now) < 2 ^ 128 }
     requires unit { IfSome unit.now IsUnitInOrder }
-    ensures stands { OnOk result ((units : List CountedUnit) → StandsFor talks.old units
-        → StandsFor talks.new (units ++ listed unit.now)) }
+    ensures stands { OnOk result ((units : List CountedUnit) → TalksStandFor talks.old units
+        → TalksStandFor talks.new (units ++ listed unit.now)) }
     ensures frames { OnOk result (frames_in talks.new.rows ≡ frames_in talks.old.rows + frames_of (listed unit.now)) }
-    ensures bytes { OnOk result (bytes_in talks.new.rows ≡ bytes_in talks.old.rows + bytes_of (listed unit.now)) }
+    ensures bytes { OnOk result (bytes_in talks.new.rows ≡ bytes_in talks.old.rows + units_bytes (listed unit.now)) }
     ensures limit { LimitBy result (is_over talks.old.rows unit.now) }
     ensures err { OnErr result (talks.new ≡ talks.old) }
 {

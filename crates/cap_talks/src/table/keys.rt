@@ -3,9 +3,10 @@ ghost use Rattle.std.specs.Prelude.{◌≡◌, ◌+◌, ◌<◌, ◌^◌, true, 
 ghost use Rattle.std.proofs.Common.{rules};
 ghost use Rattle.std.specs.Cmp.Rules.{hashing};
 ghost use Rattle.std.specs.Hash as fed;
-ghost use Rattle.cap_talks.specs.table.Talks.{key_of, is_forward};
-ghost use Rattle.cap_talks.specs.inner.table.Packed.{both_numbers, port_number, port_of, end_number, end_of, packed};
-ghost use Rattle.cap_talks.specs.inner.table.Packed.{unpacked, IsNarrow, IsNarrowEnd, is_end, is_packed};
+ghost use Rattle.cap_talks.specs.table.Talks.{talk_key, is_forward};
+ghost use Rattle.cap_talks.specs.inner.table.Packed.{both_numbers, port_number, port_of, end_number, end_at_number};
+ghost use Rattle.cap_talks.specs.inner.table.Packed.{packed};
+ghost use Rattle.cap_talks.specs.inner.table.Packed.{unpacked, IsNarrow, IsNarrowEnd, is_end_number, is_packed};
 
 use crate::table::rows::TalkKey;
 use crate::table::units::{CountedUnit, End};
@@ -71,8 +72,8 @@ fn end_number(end: &End) -> u64
 
 // The end of a number.
 fn end_of(number: u64) -> End
-    requires { is_end number ≡ true }
-    ensures { result ≡ end_of number }
+    requires { is_end_number number ≡ true }
+    ensures { result ≡ end_at_number number }
 {
     End {
         address: (number / 131_072) as u32,
@@ -94,9 +95,9 @@ impl PackedKey {
     /// end to itself.
     #[inline(always)]
     pub(crate) fn of(unit: &CountedUnit) -> (PackedKey, bool)
-        ensures value { result.0 ≡ packed (key_of unit.now) }
+        ensures value { result.0 ≡ packed (talk_key unit.now) }
         ensures forward { result.1 ≡ is_forward unit.now }
-        ensures narrow { IsNarrow (key_of unit.now) }
+        ensures narrow { IsNarrow (talk_key unit.now) }
     {
         let protocol = protocol_number(unit.protocol);
         let source = end_number(&unit.source);

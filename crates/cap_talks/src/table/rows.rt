@@ -1,7 +1,7 @@
 //! The row of a conversation: what is counted of its units.
 ghost use Rattle.std.specs.Prelude.{◌≡◌, ◌+◌, ◌<◌, ◌^◌, [], true, if◌then◌else◌};
 ghost use Rattle.cap_talks.specs.table.Talks.{is_forward, earlier_frame, later_frame, frame_time, place_or, row_of};
-ghost use Rattle.cap_talks.specs.table.Rows.{share_of, with_share, with_frames, frames_of_row, bytes_of_row, frame_of};
+ghost use Rattle.cap_talks.specs.table.Rows.{share_of, with_share, with_frames, frames_of_row, bytes_of_row, row_frame};
 ghost use Rattle.cap_talks.specs.table.Rows.{is_earlier, is_after, is_in_order};
 
 use crate::table::units::{CountedUnit, End, TimedFrame};
@@ -112,7 +112,7 @@ impl TalkRow {
 // only one.
 #[inline(always)]
 fn is_earlier(frame: &TimedFrame, first: &Option<Stamp>, place: u64) -> bool
-    ensures { result ≡ is_earlier frame.now (frame_of first.now place) }
+    ensures { result ≡ is_earlier frame.now (row_frame first.now place) }
 {
     match first {
         None => true,
@@ -170,8 +170,8 @@ fn goes_on(last: &mut Option<Stamp>, place: &mut u64, frame: &Option<TimedFrame>
 // Takes a frame, if there is one, into the least time so far.
 #[inline(always)]
 fn take_first(first: &mut Option<Stamp>, place: &mut u64, frame: &Option<TimedFrame>)
-    ensures time { first.new ≡ frame_time (earlier_frame (frame_of first.old place.old) frame.now) }
-    ensures place { place.new ≡ place_or (earlier_frame (frame_of first.old place.old) frame.now) place.old }
+    ensures time { first.new ≡ frame_time (earlier_frame (row_frame first.old place.old) frame.now) }
+    ensures place { place.new ≡ place_or (earlier_frame (row_frame first.old place.old) frame.now) place.old }
 {
     if let Some(frame) = frame {
         if is_earlier(frame, first, *place) {
@@ -184,8 +184,8 @@ fn take_first(first: &mut Option<Stamp>, place: &mut u64, frame: &Option<TimedFr
 // Takes a frame, if there is one, into the greatest time so far.
 #[inline(always)]
 fn take_last(last: &mut Option<Stamp>, place: &mut u64, frame: &Option<TimedFrame>)
-    ensures time { last.new ≡ frame_time (later_frame (frame_of last.old place.old) frame.now) }
-    ensures place { place.new ≡ place_or (later_frame (frame_of last.old place.old) frame.now) place.old }
+    ensures time { last.new ≡ frame_time (later_frame (row_frame last.old place.old) frame.now) }
+    ensures place { place.new ≡ place_or (later_frame (row_frame last.old place.old) frame.now) place.old }
 {
     if let Some(frame) = frame {
         match last {

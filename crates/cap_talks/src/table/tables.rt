@@ -4,14 +4,15 @@ ghost use Rattle.std.specs.Prelude.{None, if◌then◌else◌};
 ghost use Rattle.std.specs.List.{range_with_len};
 ghost use Rattle.cap_bytes.specs.Device.{WriterKeeps, writer_of};
 ghost use Rattle.cap_bytes.specs.Printing.{Prints, is_write};
-ghost use Rattle.cap_merge.specs.Parts.{feed_of, is_end};
+ghost use Rattle.cap_merge.specs.Parts.{merged_feed, is_end_head};
 ghost use Rattle.cap_merge.specs.inner.View.{parts_of};
 ghost use Rattle.cap_source.specs.Feed.{HasFile};
 ghost use Rattle.cap_talks.specs.inner.table.Props.{IsNumbered-prop};
 ghost use Rattle.cap_talks.specs.counts.FileLines.{ended_from, ending_at};
 ghost use Rattle.cap_talks.specs.inner.table.Holding.{held_of};
-ghost use Rattle.cap_talks.specs.inner.table.Stepping.{TableStands, StepKeeps, Steps, AnswersAgain, endings_so_far};
-ghost use Rattle.cap_talks.specs.table.CountedUnits.{refusal_at};
+ghost use Rattle.cap_talks.specs.inner.table.Stepping.{TableStands, StepKeeps, TableSteps, AnswersAgain};
+ghost use Rattle.cap_talks.specs.inner.table.Stepping.{endings_so_far};
+ghost use Rattle.cap_talks.specs.table.CountedUnits.{limit_refusal};
 ghost use Rattle.cap_talks.specs.table.TakenText.{text_of};
 ghost use Rattle.cap_talks.specs.table.Taken.{Taken};
 
@@ -58,15 +59,15 @@ pub struct Table<F: PacketFeed> {
     tally: Tally,
     // whether the files are at their end
     done: bool,
-    ghost numbered: { (feed_of (parts_of merged)).files ≡ range_with_len 1 (length totals.files) } by { IsNumbered-prop _ _ },
-    ghost finished: { IsTrue (not done || is_end (feed_of (parts_of merged)).known) },
+    ghost numbered: { (merged_feed (parts_of merged)).files ≡ range_with_len 1 (length totals.files) } by { IsNumbered-prop _ _ },
+    ghost finished: { IsTrue (not done || is_end_head (merged_feed (parts_of merged)).known) },
     ghost counted: { totals.packets ≡ tally.place },
-    ghost places: { tally.place + (feed_of (parts_of merged)).left ≤ 2 ^ 45 },
+    ghost places: { tally.place + (merged_feed (parts_of merged)).left ≤ 2 ^ 45 },
 }
 
 // The refusal of a packet whose conversation is one too many.
 fn talk_limit(meta: &Meta) -> Refusal
-    ensures { result ≡ refusal_at meta.now }
+    ensures { result ≡ limit_refusal meta.now }
 {
     Refusal {
         file: meta.file,
@@ -82,7 +83,7 @@ impl<F: PacketFeed> Table<F> {
     pub fn new(alloc: Global, merged: Merged<F>) -> Table<F>
         ensures stands { TableStands (table_of result) [] }
         ensures parts { (table_of result).parts ≡ parts_of merged }
-        ensures files { length (table_of result).totals.files ≡ length (feed_of (parts_of merged)).files }
+        ensures files { length (table_of result).totals.files ≡ length (merged_feed (parts_of merged)).files }
         ensures going { (table_of result).done ≡ false }
     {
         let totals = Totals::new(merged.files());
@@ -101,9 +102,9 @@ impl<F: PacketFeed> Table<F> {
     /// `Memory` if a growth was refused. A step that answers a fault has taken nothing: the table is as it was, and so
     /// are the packets to come, unless it was `Read`.
     pub fn step(&mut self) -> Result<Step, Fault>
-        ensures step { Steps (table_of self.old) result (table_of self.new) }
+        ensures step { TableSteps (table_of self.old) result (table_of self.new) }
         ensures keeps { StepKeeps (table_of self.old) (table_of self.new) }
-        ensures again { AnswersAgain (feed_of (table_of self.old).parts).known result }
+        ensures again { AnswersAgain (merged_feed (table_of self.old).parts).known result }
     {
         if !self.merged.has_packet()? {
             self.done = true;
@@ -164,9 +165,9 @@ impl<F: PacketFeed> Table<F> {
 
 // How the file of that number ended, once all have.
 fn ending_of<F: PacketFeed>(merged: &Merged<F>, done: bool, file: u32) -> Option<Ending>
-    requires end { IsTrue (not done || is_end (feed_of (parts_of merged.now)).known) }
-    requires file { HasFile (feed_of (parts_of merged.now)).files file }
-    ensures { result ≡ ending_at (if done then Some (feed_of (parts_of merged.now)).endings else None) file }
+    requires end { IsTrue (not done || is_end_head (merged_feed (parts_of merged.now)).known) }
+    requires file { HasFile (merged_feed (parts_of merged.now)).files file }
+    ensures { result ≡ ending_at (if done then Some (merged_feed (parts_of merged.now)).endings else None) file }
 {
     if done {
         Some(merged.ending(file))
@@ -181,10 +182,10 @@ fn with_endings<F: PacketFeed>(
     counts: &[Counts],
     done: bool,
 ) -> ArrayVec<Counted, 32>
-    requires end { IsTrue (not done || is_end (feed_of (parts_of merged.now)).known) }
-    requires numbered { (feed_of (parts_of merged.now)).files ≡ range_with_len 1 (length counts.now) }
+    requires end { IsTrue (not done || is_end_head (merged_feed (parts_of merged.now)).known) }
+    requires numbered { (merged_feed (parts_of merged.now)).files ≡ range_with_len 1 (length counts.now) }
     requires few { length counts.now ≤ 32 }
-    ensures { result.items ≡ ended_from (if done then Some (feed_of (parts_of merged.now)).endings else None) 1
+    ensures { result.items ≡ ended_from (if done then Some (merged_feed (parts_of merged.now)).endings else None) 1
         counts.now }
 {
     let mut counted = ArrayVec::new();

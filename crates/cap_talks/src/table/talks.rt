@@ -4,8 +4,8 @@ ghost use Rattle.std.specs.Prelude.{OnOk, OnErr};
 ghost use Rattle.indexmap.specs.IndexMap.{insert_entry};
 ghost use Rattle.indexmap.specs.Layout.{set_value_at};
 ghost use Rattle.cap_talks.specs.inner.table.Packed.{unpacked, IsNarrow, unpacked_talks, are_packed};
-ghost use Rattle.cap_talks.specs.table.Talks.{key_of, row_of, same_talk};
-ghost use Rattle.cap_talks.specs.table.Rows.{StandsFor, is_refused, is_limit, talk_limit, frames_in, bytes_in};
+ghost use Rattle.cap_talks.specs.table.Talks.{talk_key, row_of, same_talk};
+ghost use Rattle.cap_talks.specs.table.Rows.{TalksStandFor, is_refused, is_limit, talk_limit, frames_in, bytes_in};
 ghost use Rattle.cap_talks.specs.table.Rows.{frames_of_row, bytes_of_row, row_in, with_share, with_talk, IsUnitInOrder};
 ghost use Rattle.cap_talks.specs.table.Rows.{is_in_order, are_all_in_order};
 ghost use Rattle.cap_talks.specs.declared.table.units.CountedUnit.{CountedUnit};
@@ -43,17 +43,17 @@ impl Model for Talks {
 
     ghost Value = { TalksState };
 
-    ghost use Rattle.cap_talks.specs.inner.table.TalksView.{talks_view, IsSoundInside};
+    ghost use Rattle.cap_talks.specs.inner.table.TalksView.{talks_view, IsSoundTalksInside};
 
     ghost view = { talks_view };
 
-    ghost invariant = { IsSoundInside };
+    ghost invariant = { IsSoundTalksInside };
 }
 
 impl Talks {
     /// The table of no unit.
     pub fn new(alloc: Global) -> Talks
-        ensures stands { StandsFor result [] }
+        ensures stands { TalksStandFor result [] }
         ensures empty { result.rows ≡ [] }
     {
         Talks {
@@ -72,11 +72,11 @@ impl Talks {
         requires frames { frames_in self.old.rows + unit.now.frames < 2 ^ 64 }
         requires bytes { bytes_in self.old.rows + unit.now.bytes < 2 ^ 128 }
         requires unit { IsUnitInOrder unit.now }
-        ensures stands { OnOk result ((units : List CountedUnit) → StandsFor self.old units
-            → StandsFor self.new (units ++ unit.now ∷ [])) }
+        ensures stands { OnOk result ((units : List CountedUnit) → TalksStandFor self.old units
+            → TalksStandFor self.new (units ++ unit.now ∷ [])) }
         ensures frames { OnOk result (frames_in self.new.rows ≡ frames_in self.old.rows + unit.now.frames) }
         ensures bytes { OnOk result (bytes_in self.new.rows ≡ bytes_in self.old.rows + unit.now.bytes) }
-        ensures limit { is_limit result ≡ is_refused talk_limit self.old.rows (key_of unit.now) }
+        ensures limit { is_limit result ≡ is_refused talk_limit self.old.rows (talk_key unit.now) }
         ensures err { OnErr result (self.new ≡ self.old) }
     {
         add_unit(&mut self.rows, unit)
@@ -159,7 +159,7 @@ fn add_unit(rows: &mut IndexMap<PackedKey, TalkRow>, unit: &CountedUnit) -> Resu
     ensures entries { OnOk result (unpacked_talks rows.new.entries
         ≡ with_talk (unpacked_talks rows.old.entries) unit.now) }
     ensures keys { are_packed rows.new.entries ≡ true }
-    ensures limit { is_limit result ≡ is_refused talk_limit (unpacked_talks rows.old.entries) (key_of unit.now) }
+    ensures limit { is_limit result ≡ is_refused talk_limit (unpacked_talks rows.old.entries) (talk_key unit.now) }
     ensures err { OnErr result (unpacked_talks rows.new.entries ≡ unpacked_talks rows.old.entries) }
 {
     let (key, forward) = PackedKey::of(unit);

@@ -9,7 +9,8 @@ ghost use Rattle.cap_join.specs.Joiners.{most_bytes};
 ghost use Rattle.cap_talks.specs.inner.table.Looking.{is_datagram, is_plain, taken_of};
 ghost use Rattle.cap_talks.specs.table.TakenText.{frames_text, joined_text};
 ghost use Rattle.cap_talks.specs.table.Taken.{Taken, datagram, fragment, look, stamped_of};
-ghost use Rattle.cap_talks.specs.inner.table.Tallies.{Stands, LimitBy, one_if, tally_text, waiting_bytes, counted_one};
+ghost use Rattle.cap_talks.specs.inner.table.Tallies.{TallyStands, LimitBy, one_if_waiting, tally_text, waiting_bytes};
+ghost use Rattle.cap_talks.specs.inner.table.Tallies.{counted_one};
 ghost use Rattle.cap_talks.specs.inner.table.Tallies.{Looks};
 ghost use Rattle.cap_talks.specs.inner.table.Tallies.{WaitsIf, with_frames, with_group};
 ghost use Rattle.cap_source.specs.Times.{meta_time};
@@ -49,11 +50,11 @@ impl Model for Tally {
 
     ghost Value = { TallyState };
 
-    ghost use Rattle.cap_talks.specs.inner.table.TallyView.{tally_view, IsSoundInside};
+    ghost use Rattle.cap_talks.specs.inner.table.TallyView.{tally_view, IsSoundTallyInside};
 
     ghost view = { tally_view };
 
-    ghost invariant = { IsSoundInside };
+    ghost invariant = { IsSoundTallyInside };
 }
 
 // Counts more packets of a class.
@@ -108,7 +109,7 @@ fn counted_one(class: Class) -> u64
 impl Tally {
     /// Nothing was taken.
     pub(crate) fn new(alloc: Global) -> Tally
-        ensures stands { (next : Option Taken) → Stands result [] next }
+        ensures stands { (next : Option Taken) → TallyStands result [] next }
     {
         Tally {
             place: 0,
@@ -148,7 +149,7 @@ impl Tally {
         ensures waits { IfOk result (λ waits. WaitsIf self.new.waiting waits) }
         ensures place { IfOk result (λ waits. self.new.place ≡ (if waits then self.old.place else self.old.place + 1)) }
         ensures fault { IfErr result (λ e. e ≡ Memory) }
-        ensures grows { OnErr result ((xs : List Taken) → Stands self.old xs (Some (taken_of packet.entry))
+        ensures grows { OnErr result ((xs : List Taken) → TallyStands self.old xs (Some (taken_of packet.entry))
             → is_plain (look (length xs) (taken_of packet.entry)) ≡ false) }
         ensures err { OnErr result (self.new ≡ self.old) }
     {
@@ -183,9 +184,9 @@ impl Tally {
         ensures looks { OnOk result (Looks self.old (taken_of packet.entry) false self.new) }
         ensures none { OnOk result (self.new.waiting ≡ None) }
         ensures place { OnOk result (self.new.place ≡ self.old.place + 1) }
-        ensures limit { IfErr result (λ e. (xs : List Taken) → Stands self.old xs (Some (taken_of packet.entry))
+        ensures limit { IfErr result (λ e. (xs : List Taken) → TallyStands self.old xs (Some (taken_of packet.entry))
             → LimitBy (Err e) (is_limit_at xs (taken_of packet.entry))) }
-        ensures grows { OnErr result ((xs : List Taken) → Stands self.old xs (Some (taken_of packet.entry))
+        ensures grows { OnErr result ((xs : List Taken) → TallyStands self.old xs (Some (taken_of packet.entry))
             → is_plain (look (length xs) (taken_of packet.entry)) ≡ false) }
         ensures err { OnErr result (self.new ≡ self.old) }
     {
@@ -213,7 +214,7 @@ impl Tally {
         ensures waits { IfOk result (λ waits. WaitsIf self.new.waiting waits) }
         ensures place { IfOk result (λ waits. self.new.place ≡ (if waits then self.old.place else self.old.place + 1)) }
         ensures fault { IfErr result (λ e. e ≡ Memory) }
-        ensures grows { OnErr result ((xs : List Taken) → Stands self.old xs (Some (taken_of packet.entry))
+        ensures grows { OnErr result ((xs : List Taken) → TallyStands self.old xs (Some (taken_of packet.entry))
             → is_plain (look (length xs) (taken_of packet.entry)) ≡ false) }
         ensures err { OnErr result (self.new ≡ self.old) }
     {
@@ -232,11 +233,11 @@ impl Tally {
     fn take_waiting(&mut self) -> Result<(), TalksFault>
         requires some { IsSome self.old.waiting }
         requires few { self.old.place < 2 ^ 62 }
-        ensures stands { OnOk result ((xs : List Taken) (x : Taken) → Stands self.old xs (Some x)
-            → (is_limit_at xs x ≡ false) × ((next : Option Taken) → Stands self.new (x ∷ xs) next)) }
-        ensures limit { IfErr result (λ e. (xs : List Taken) (x : Taken) → Stands self.old xs (Some x)
+        ensures stands { OnOk result ((xs : List Taken) (x : Taken) → TallyStands self.old xs (Some x)
+            → (is_limit_at xs x ≡ false) × ((next : Option Taken) → TallyStands self.new (x ∷ xs) next)) }
+        ensures limit { IfErr result (λ e. (xs : List Taken) (x : Taken) → TallyStands self.old xs (Some x)
             → LimitBy (Err e) (is_limit_at xs x)) }
-        ensures grows { OnErr result ((xs : List Taken) (x : Taken) → Stands self.old xs (Some x)
+        ensures grows { OnErr result ((xs : List Taken) (x : Taken) → TallyStands self.old xs (Some x)
             → is_plain (look (length xs) x) ≡ false) }
         ensures none { OnOk result (self.new.waiting ≡ None) }
         ensures place { OnOk result (self.new.place ≡ self.old.place + 1) }
@@ -269,15 +270,15 @@ impl Tally {
         requires time { time ≡ meta_time packet.meta.now }
         requires few { self.old.place < 2 ^ 62 }
         ensures stands { OnOk result (Looks self.old (taken_of packet.entry) false self.new) }
-        ensures limit { IfErr result (λ e. (xs : List Taken) → Stands self.old xs (Some (taken_of packet.entry))
+        ensures limit { IfErr result (λ e. (xs : List Taken) → TallyStands self.old xs (Some (taken_of packet.entry))
             → LimitBy (Err e) (is_limit_at xs (taken_of packet.entry))) }
-        ensures grows { OnErr result ((xs : List Taken) → Stands self.old xs (Some (taken_of packet.entry))
+        ensures grows { OnErr result ((xs : List Taken) → TallyStands self.old xs (Some (taken_of packet.entry))
             → is_plain (look (length xs) (taken_of packet.entry)) ≡ false) }
         ensures none { OnOk result (self.new.waiting ≡ None) }
         ensures place { OnOk result (self.new.place ≡ self.old.place + 1) }
         ensures same { OnErr result (self.new.place ≡ self.old.place) }
-        ensures err { OnErr result ((xs : List Taken) → Stands self.old xs (Some (taken_of packet.entry))
-            → Stands self.new xs (Some (taken_of packet.entry))) }
+        ensures err { OnErr result ((xs : List Taken) → TallyStands self.old xs (Some (taken_of packet.entry))
+            → TallyStands self.new xs (Some (taken_of packet.entry))) }
     {
         if self.is_waiting() {
             return self.take_waiting();
@@ -315,7 +316,7 @@ impl Tally {
 
     /// How many groups of fragments are held: the open ones, and a joined datagram that waits. At most 1,024.
     pub(crate) fn groups(&self) -> usize
-        ensures value { result ≡ length self.now.joiner.groups + one_if self.now.waiting }
+        ensures value { result ≡ length self.now.joiner.groups + one_if_waiting self.now.waiting }
         ensures bound { result ≤ 1024 }
     {
         self.joiner.open_count() + waiting_count(&self.waiting)
@@ -359,7 +360,7 @@ fn put_counts<W: Sink>(
 
 // One, if a datagram waits.
 fn waiting_count(waiting: &Option<Datagram>) -> usize
-    ensures { result ≡ one_if waiting.now }
+    ensures { result ≡ one_if_waiting waiting.now }
 {
     match waiting {
         None => 0,

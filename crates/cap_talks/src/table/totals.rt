@@ -28,11 +28,11 @@ impl Model for Totals {
 
     ghost Value = { TotalsState };
 
-    ghost use Rattle.cap_talks.specs.inner.table.TotalsView.{totals_view, IsSoundInside};
+    ghost use Rattle.cap_talks.specs.inner.table.TotalsView.{totals_view, IsSoundTotalsInside};
 
     ghost view = { totals_view };
 
-    ghost invariant = { IsSoundInside };
+    ghost invariant = { IsSoundTotalsInside };
 }
 
 // The counts of files of which nothing was taken.

@@ -3,7 +3,7 @@ ghost use Rattle.std.specs.Prelude.{◌≡◌, ◌≤◌, ◌^◌, false, None, 
 ghost use Rattle.std.specs.List.{list_all};
 ghost use Rattle.cap_bytes.specs.Device.{WriterKeeps, writer_of};
 ghost use Rattle.cap_bytes.specs.Printing.{is_write};
-ghost use Rattle.cap_source.specs.Feed.{Keeps};
+ghost use Rattle.cap_source.specs.Feed.{FeedKeeps};
 ghost use Rattle.cap_source.specs.inner.Walk.{Walks};
 ghost use Rattle.cap_source.specs.inner.Growing.{IfMemory};
 ghost use Rattle.cap_source.specs.ReadFaults.{FailsAs, FailsOf};
@@ -22,7 +22,7 @@ fn count_packets<F: PacketFeed>(feed: &mut F) -> Result<Counts, Fault>
     ensures counts { IsTrue (F.feed feed.old).told → CountsAll (F.feed feed.old) result (F.feed feed.new) }
     ensures walks { Walks (F.feed feed.old) result (F.feed feed.new) }
     ensures memory { IfMemory result ((F.feed feed.new).known ≡ None) }
-    ensures keeps { Keeps (F.feed feed.old) (F.feed feed.new) }
+    ensures keeps { FeedKeeps (F.feed feed.old) (F.feed feed.new) }
     ensures write { is_write result ≡ false }
 {
     let mut counts = Counts::new();

@@ -4,7 +4,7 @@ ghost use Rattle.std.specs.List.{list_all};
 ghost use Rattle.cap_bytes.specs.Device.{WriterKeeps, writer_of};
 ghost use Rattle.cap_bytes.specs.Printing.{is_write};
 ghost use Rattle.cap_merge.specs.Files.{clocked_run, endings_of_files};
-ghost use Rattle.cap_merge.specs.Parts.{feed_of};
+ghost use Rattle.cap_merge.specs.Parts.{merged_feed};
 ghost use Rattle.cap_merge.specs.inner.View.{parts_of};
 ghost use Rattle.cap_source.specs.ReadFaults.{FailsOf};
 ghost use Rattle.cap_source.specs.Feed.{Feed};
@@ -35,7 +35,7 @@ fn is_more(step: Step) -> bool
 // Takes all packets that come.
 fn take_all<F: PacketFeed>(table: &mut Table<F>) -> Result<(), Fault>
     ensures takes { TakesAll (table_of table.old) result (table_of table.new) }
-    ensures walks { Walks (feed_of (table_of table.old).parts) result (feed_of (table_of table.new).parts) }
+    ensures walks { Walks (merged_feed (table_of table.old).parts) result (merged_feed (table_of table.new).parts) }
 {
     while is_more(table.step()?) {}
     Ok(())
@@ -44,12 +44,12 @@ fn take_all<F: PacketFeed>(table: &mut Table<F>) -> Result<(), Fault>
 // Takes all packets of a table that has taken none, and writes the report over them.
 fn report_table<F: PacketFeed, W: Sink>(table: &mut Table<F>, writer: &mut W) -> Result<(), Fault>
     requires stands { TableStands (table_of table.old) [] }
-    ensures text { IsTrue (feed_of (table_of table.old).parts).told → IsTrue (W.tells_held writer.old)
+    ensures text { IsTrue (merged_feed (table_of table.old).parts).told → IsTrue (W.tells_held writer.old)
         → TellsReport (length (table_of table.old).totals.files) (table_of table.old).parts (W.held writer.old) result
         (W.held writer.new) }
     ensures writer { WriterKeeps (writer_of W.Sink writer.old) (is_write result) (writer_of W.Sink writer.new) }
-    ensures walks { Walks (feed_of (table_of table.old).parts) result (feed_of (table_of table.new).parts) }
-    ensures memory { IfMemory result (IsAtPacket (feed_of (table_of table.new).parts).known) }
+    ensures walks { Walks (merged_feed (table_of table.old).parts) result (merged_feed (table_of table.new).parts) }
+    ensures memory { IfMemory result (IsAtPacket (merged_feed (table_of table.new).parts).known) }
 {
     take_all(table)?;
     table.write_so_far(writer)
@@ -61,11 +61,11 @@ fn report_merged<F: PacketFeed, W: Sink>(
     merged: Merged<F>,
     writer: &mut W,
 ) -> Result<(), Fault>
-    ensures text { IsTrue (feed_of (parts_of merged)).told → IsTrue (W.tells_held writer.old)
-        → TellsReport (length (feed_of (parts_of merged)).files) (parts_of merged) (W.held writer.old) result
+    ensures text { IsTrue (merged_feed (parts_of merged)).told → IsTrue (W.tells_held writer.old)
+        → TellsReport (length (merged_feed (parts_of merged)).files) (parts_of merged) (W.held writer.old) result
         (W.held writer.new) }
     ensures writer { WriterKeeps (writer_of W.Sink writer.old) (is_write result) (writer_of W.Sink writer.new) }
-    ensures walks { (new : Feed) × Walks (feed_of (parts_of merged)) result new }
+    ensures walks { (new : Feed) × Walks (merged_feed (parts_of merged)) result new }
 {
     let mut table = Table::new(alloc, merged);
     report_table(&mut table, writer)

@@ -1,19 +1,19 @@
 -- What a call answers that goes through the blocks of a file, and what it leaves.
 use Rattle.std.specs.Prelude.{◌≡◌, ◌≤◌, ℕ, IsTrue, Some, None, IfSome, IfNone, IsSome, Result, Ok, Err}
-use Rattle.cap_bytes.specs.inner.Reader.{State}
+use Rattle.cap_bytes.specs.inner.Reader.{ReaderState}
 use Rattle.cap_bytes.specs.declared.faults.Fault.{Fault}
 use Rattle.cap_bytes.specs.declared.faults.Fault.TheVariants.{Refused, Read, Write, Memory}
 use Rattle.cap_bytes.specs.declared.numbers.Order.{Order}
 use Rattle.cap_bytes.specs.declared.stops.Stop.TheVariants as stops
 
 -- No read has failed meanwhile, whether one had failed before or not.
-pub record Lasts (old new : State Order) : Type 0 where
+pub record BlockWalkLasts (old new : ReaderState Order) : Type 0 where
   pub broken : new.broken ≡ old.broken
   pub failed : new.failed ≡ old.failed
 
 -- A read failed on the way, or had failed before the call: then the file and the offset are the same. The reader tells
 -- that offset from then on.
-pub record Fails (old : State Order) (file offset : ℕ) (new : State Order) : Type 0 where
+pub record BlockWalkFails (old : ReaderState Order) (file offset : ℕ) (new : ReaderState Order) : Type 0 where
   pub of : file ≡ old.file
   pub again : IfSome old.broken (λ first. offset ≡ first)
   pub first : IfNone old.broken (old.offset ≤ offset)
@@ -23,9 +23,9 @@ pub record Fails (old : State Order) (file offset : ℕ) (new : State Order) : T
 
 -- It goes to the end if it answers no fault. A failed read is answered as such, and no other fault is answered for it;
 -- a refusal is what ended the blocks, and a growth is refused only before their end.
-abbrev pub WalksBlocks : {A : Type 0} → State Order → Result A Fault → State Order → Type 0
-WalksBlocks old (Ok _) new = IsSome new.stop × Lasts old new
-WalksBlocks old (Err (Refused refusal)) new = (new.stop ≡ Some (stops.Refused refusal)) × Lasts old new
-WalksBlocks old (Err (Read file offset)) new = Fails old file offset new
-WalksBlocks old (Err Write) new = Lasts old new
-WalksBlocks old (Err Memory) new = (new.stop ≡ None) × Lasts old new
+abbrev pub WalksBlocks : {A : Type 0} → ReaderState Order → Result A Fault → ReaderState Order → Type 0
+WalksBlocks old (Ok _) new = IsSome new.stop × BlockWalkLasts old new
+WalksBlocks old (Err (Refused refusal)) new = (new.stop ≡ Some (stops.Refused refusal)) × BlockWalkLasts old new
+WalksBlocks old (Err (Read file offset)) new = BlockWalkFails old file offset new
+WalksBlocks old (Err Write) new = BlockWalkLasts old new
+WalksBlocks old (Err Memory) new = (new.stop ≡ None) × BlockWalkLasts old new

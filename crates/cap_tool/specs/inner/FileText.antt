@@ -10,9 +10,9 @@ use Rattle.cap_write.specs.Pcap.{pcap_bytes, pcap_refusal}
 use Rattle.cap_write.specs.Texts.{pcapng_bytes, pcapng_refusal}
 
 -- what is written in that format and order of the file of that number
-abbrev pub file_text : Format → Order → ℕ → Option Interface → List Item → List ℕ
-file_text Pcap order file first items = pcap_bytes order first items
-file_text Pcapng order file first items = pcapng_bytes order file first items
+abbrev pub written_file_text : Format → Order → ℕ → Option Interface → List Item → List ℕ
+written_file_text Pcap order file first items = pcap_bytes order first items
+written_file_text Pcapng order file first items = pcapng_bytes order file first items
 
 -- the refusal that is then answered, if there is one
 abbrev pub file_refusal : Format → ℕ → Option Interface → List Item → Option Refusal

@@ -20,9 +20,9 @@ pub data FormState : Type 0 where
   numbered : List Origin → FormState
   headed : Option Interface → FormState
 
-abbrev pub state_of : Form → FormState
-state_of (Pcapng origins) = numbered origins.keys
-state_of (Pcap first) = headed first
+abbrev pub form_state : Form → FormState
+form_state (Pcapng origins) = numbered origins.keys
+form_state (Pcap first) = headed first
 
 -- what is written of some items, and the refusal after them
 abbrev pub form_text : Order → FormState → List Item → List ℕ

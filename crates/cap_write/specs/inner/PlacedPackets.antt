@@ -2,7 +2,7 @@
 use Rattle.std.specs.Prelude.{List, Bool}
 use Rattle.cap_join.specs.History.{Event}
 use Rattle.cap_join.specs.declared.datagrams.Stamped.{Stamped}
-use Rattle.cap_link.specs.Links.{is_whole}
+use Rattle.cap_link.specs.Links.{is_captured_whole}
 use Rattle.cap_source.specs.Feed.{Item}
 use Rattle.cap_write.specs.Joined.{items_of_packet, stamped_of}
 use Rattle.cap_write.specs.declared.placed_packets.PlacedPacket.{PlacedPacket}
@@ -13,8 +13,8 @@ stamped_in run = stamped_of run.place run.meta.now
 
 -- whether all of it was captured
 abbrev pub whole_in : PlacedPacket → Bool
-whole_in run = is_whole run.frame.now run.meta.now.original
+whole_in run = is_captured_whole run.frame.now run.meta.now.original
 
 -- what is to be written of it after some events
-abbrev pub items_in : PlacedPacket → List Event → List Item
-items_in run events = items_of_packet run.place events run.clock run.meta.now run.frame.now
+abbrev pub items_of_placed : PlacedPacket → List Event → List Item
+items_of_placed run events = items_of_packet run.place events run.clock run.meta.now run.frame.now

@@ -9,7 +9,7 @@ use Rattle.cap_source.specs.declared.packets.Meta.{Meta}
 use Rattle.cap_time.specs.declared.resolutions.Interface.{Interface}
 use Rattle.cap_time.specs.declared.stamps.Unit.{Unit as Fraction}
 use Rattle.cap_write.specs.Numbering.{refusal_at}
-use Rattle.cap_write.specs.Pcap.{whole_time, time_fault, written_time, record_fault, bare_refusal}
+use Rattle.cap_write.specs.Pcap.{whole_time, time_fault, written_time, written_record_fault, bare_refusal}
 
 -- The time is written as those whole seconds and that fraction, or is refused.
 abbrev pub HasTime : Fraction → Meta → ℕ → Result RecordTime Fault → Type 0
@@ -26,10 +26,10 @@ HasTime fraction meta units (Err Memory) = ⊥
 -- The packet is written with that time, or is refused.
 abbrev pub HasRecord : Interface → Meta → Result RecordTime Fault → Type 0
 HasRecord first meta (Ok time) =
-    (record_fault first meta ≡ None)
+    (written_record_fault first meta ≡ None)
     × (written_time first meta ≡ Some (pos time.seconds, time.fraction))
 HasRecord first meta (Err (Refused refusal)) =
-    (rule : Rule) × (record_fault first meta ≡ Some rule) × (refusal ≡ refusal_at meta rule)
+    (rule : Rule) × (written_record_fault first meta ≡ Some rule) × (refusal ≡ refusal_at meta rule)
 HasRecord first meta (Err (Read file offset)) = ⊥
 HasRecord first meta (Err Write) = ⊥
 HasRecord first meta (Err Memory) = ⊥

@@ -1,5 +1,5 @@
 use Rattle.std.proofs.Common.{◌+◌, Some, ap, refl, sym, ◌∙◌}
-use Rattle.cap_blocks.specs.Grammar.{is_known}
+use Rattle.cap_blocks.specs.Grammar.{is_known_kind}
 use Rattle.cap_blocks.proofs.Finding.{SeesBlock-passed}
 use Rattle.cap_blocks.proofs.Looking.{IsHeader-parsed}
 use Rattle.cap_blocks.proofs.readers.take_packet.Goals as goal
@@ -16,5 +16,5 @@ returns-in-None-body_rule-clause-sees g c = rw c.in-Some.is (λ tail.
     c.pass.ensures.passes (rw c.bytes.ensures at c.split_at.ensures.back)
     (ap (λ n. n + c.args.given) c.offset.ensures.value)
     (c.if-not-shows.ensures.0 refl).0 (c.if-not-shows.ensures.0 refl).1 c.in-Some-enhanced_at.ensures.header
-    (ap is_known c.in-Some-enhanced_at.ensures.kind) c.if-bytes-block.false
+    (ap is_known_kind c.in-Some-enhanced_at.ensures.kind) c.if-bytes-block.false
     (sym c.in-None-body_rule.is ∙ c.body_rule.ensures))

@@ -4,7 +4,7 @@ use Rattle.cap_ip.specs.Header.{HeaderFields}
 use Rattle.cap_ip.specs.declared.headers.Key.{Key}
 use Rattle.cap_join.specs.Fragments.{Piece}
 use Rattle.cap_join.specs.inner.Incoming.{piece_in, place_in}
-use Rattle.cap_join.specs.History.{same_key, key_of}
+use Rattle.cap_join.specs.History.{same_key, fragment_key}
 use Rattle.cap_join.specs.inner.Tables.{entry_at, has_live, PutsAt}
 use Rattle.cap_join.proofs.Grouping.{piece_of-header}
 use Rattle.cap_join.proofs.Putting.{there, found_after, Puts-kept, Puts-joined, IsTable-put, IsTable-removed}
@@ -22,7 +22,7 @@ returns-then-not-complete-clause-ok c = λ os entries.
     let es = c.args.groups.now in
     let mid = c.put_at.new.self in
     let p : Piece = piece_in c.args.incoming.now in
-    let key : c.key-key.result ≡ key_of p = c.key-key.ensures
+    let key : c.key-key.result ≡ fragment_key p = c.key-key.ensures
     ∙ sym (ap (λ (h : HeaderFields). h.key)
     (piece_of-header c.args.incoming.now.header.now c.args.incoming.now.data.now c.args.incoming.now.stamped
     c.args.incoming.now.fragment c.args.incoming.now.found)) in
@@ -55,7 +55,7 @@ returns-clause-ok c = λ os entries.
     let mid = c.put_at.new.self in
     let late = c.drop_old.new.self in
     let p : Piece = piece_in c.args.incoming.now in
-    let key : c.key-key.result ≡ key_of p = c.key-key.ensures
+    let key : c.key-key.result ≡ fragment_key p = c.key-key.ensures
     ∙ sym (ap (λ (h : HeaderFields). h.key)
     (piece_of-header c.args.incoming.now.header.now c.args.incoming.now.data.now c.args.incoming.now.stamped
     c.args.incoming.now.fragment c.args.incoming.now.found)) in

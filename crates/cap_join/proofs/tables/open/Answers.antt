@@ -9,7 +9,7 @@ use Rattle.cap_join.specs.ByteMap.{completes}
 use Rattle.cap_join.specs.Frames.{is_too_old}
 use Rattle.cap_join.specs.inner.Groups.{IsGroupOf}
 use Rattle.cap_time.specs.declared.stamps.Stamp.{Stamp}
-use Rattle.cap_join.specs.History.{key_of}
+use Rattle.cap_join.specs.History.{fragment_key}
 use Rattle.cap_join.specs.Joiners.{Entry}
 use Rattle.cap_join.specs.inner.Tables.{has_live, live_entries}
 use Rattle.cap_join.proofs.Grouping.{piece_of-header, piece_of-stamped}
@@ -22,7 +22,7 @@ pub returns-then-is_complete-clause-ok : goal.returns-then-is_complete-clause-ok
 returns-then-is_complete-clause-ok c = λ os entries.
     let es = c.args.groups.now in
     let p : Piece = piece_in c.args.incoming.now in
-    let key : c.key-key.result ≡ key_of p = c.key-key.ensures
+    let key : c.key-key.result ≡ fragment_key p = c.key-key.ensures
     ∙ sym (ap (λ (h : HeaderFields). h.key)
     (piece_of-header c.args.incoming.now.header.now c.args.incoming.now.data.now c.args.incoming.now.stamped
     c.args.incoming.now.fragment c.args.incoming.now.found)) in
@@ -42,7 +42,7 @@ pub returns-clause-ok : goal.returns-clause-ok
 returns-clause-ok c = λ os entries.
     let es = c.args.groups.now in
     let p : Piece = piece_in c.args.incoming.now in
-    let key : c.key-key.result ≡ key_of p = c.key-key.ensures
+    let key : c.key-key.result ≡ fragment_key p = c.key-key.ensures
     ∙ sym (ap (λ (h : HeaderFields). h.key)
     (piece_of-header c.args.incoming.now.header.now c.args.incoming.now.data.now c.args.incoming.now.stamped
     c.args.incoming.now.fragment c.args.incoming.now.found)) in

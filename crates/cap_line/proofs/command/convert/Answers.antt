@@ -1,11 +1,11 @@
 use Rattle.std.proofs.Common.{◌≡◌, codes, refl}
 use Rattle.clap.specs.Words.{App, with_rule}
-use Rattle.cap_line.specs.Command.{IsConvert, IsWriting, Names, required_to_rule}
+use Rattle.cap_line.specs.Command.{IsConvert, IsWriting, ArgumentNames, required_to_rule}
 use Rattle.cap_line.proofs.Parsing.{AddsRule-weaker}
 use Rattle.cap_line.proofs.command.convert.Goals as goal
 
 -- `convert` before its files
-abbrev HasFormats : Names → App → Type 0
+abbrev HasFormats : ArgumentNames → App → Type 0
 HasFormats formats app = (old : App) × IsWriting (codes "convert") old
     × (app ≡ with_rule old (required_to_rule formats))
 

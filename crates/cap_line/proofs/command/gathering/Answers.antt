@@ -1,11 +1,11 @@
 use Rattle.std.proofs.Common.{◌≡◌, refl}
 use Rattle.clap.specs.Words.{App, Text, with_rule}
-use Rattle.cap_line.specs.Command.{IsGathering, IsWriting, Names, to_rule}
+use Rattle.cap_line.specs.Command.{IsGathering, IsWriting, ArgumentNames, to_rule}
 use Rattle.cap_line.proofs.Parsing.{AddsRule-weaker}
 use Rattle.cap_line.proofs.command.gathering.Goals as goal
 
 -- the subcommand before its files
-abbrev HasFormats : Text → Names → App → Type 0
+abbrev HasFormats : Text → ArgumentNames → App → Type 0
 HasFormats name formats app = (old : App) × IsWriting name old × (app ≡ with_rule old (to_rule formats))
 
 pub returns-clause-app : goal.returns-clause-app

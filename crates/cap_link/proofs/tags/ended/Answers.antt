@@ -1,7 +1,7 @@
 use Rattle.std.proofs.Common.{rules}
-use Rattle.cap_link.specs.Tags.{ended}
+use Rattle.cap_link.specs.Tags.{ended_in_link}
 use Rattle.cap_link.proofs.tags.ended.Goals as goal
 
 pub returns-then-whole : goal.returns-then-whole
-unfolding ended
+unfolding ended_in_link
 returns-then-whole c = search rules

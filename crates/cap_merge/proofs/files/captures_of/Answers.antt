@@ -3,7 +3,7 @@ use Rattle.std.proofs.Common.{map-id, length-append}
 use Rattle.std.proofs.lemmas.List.{map-append, length-map}
 use Rattle.std.proofs.lemmas.Iterator.Adapters.{YieldsList-from_vec}
 use Rattle.std.proofs.lemmas.Iterator.Consumers.{YieldsList-end, YieldsList-turn}
-use Rattle.cap_source.specs.inner.Captures.{feed_of}
+use Rattle.cap_source.specs.inner.Captures.{capture_feed}
 use Rattle.cap_merge.proofs.Unread.{AreUnread-more}
 use Rattle.cap_merge.specs.inner.Readers.{IsUnread, AreUnread, reader_of}
 use Rattle.cap_merge.proofs.files.captures_of.Goals as goal
@@ -22,8 +22,8 @@ loop-source-preserved g c =
     let x = c.in-Some.source in
     let e = c.new-capture.ensures in
     let place : c.loop-source.file ≡ 1 + length (map reader seen) = omega (arith, i.number, length-map seen reader) in
-    let is : IsUnread c.args.tail (1 + length (map reader seen)) (reader x) (feed_of c.new-capture.result) =
-    subst (λ n. IsUnread c.args.tail n (reader x) (feed_of c.new-capture.result)) place
+    let is : IsUnread c.args.tail (1 + length (map reader seen)) (reader x) (capture_feed c.new-capture.result) =
+    subst (λ n. IsUnread c.args.tail n (reader x) (capture_feed c.new-capture.result)) place
     (record {
       files = e.files;
       told = e.told;
@@ -32,8 +32,8 @@ loop-source-preserved g c =
       broken = e.whole;
       can_fail = e.can_fail;
     }) in
-    let more = AreUnread-more c.args.tail 1 (map reader seen) (map feed_of c.loop-source.captures.items) (reader x)
-    (feed_of c.new-capture.result) i.unread is in
+    let more = AreUnread-more c.args.tail 1 (map reader seen) (map capture_feed c.loop-source.captures.items) (reader x)
+    (capture_feed c.new-capture.result) i.unread is in
     let pushed : c.push.new.self.items ≡ c.loop-source.captures.items ++ c.new-capture.result ∷ [] = search rules in
     record {
       number = next_number _ _ _ i.number (length-append seen (x ∷ []));
@@ -41,7 +41,7 @@ loop-source-preserved g c =
           rw (
             map-append reader seen (x ∷ []),
             pushed,
-            map-append feed_of c.loop-source.captures.items
+            map-append capture_feed c.loop-source.captures.items
                 (c.new-capture.result ∷ []),
           ) more;
     }
@@ -56,7 +56,7 @@ returns-clause-unread g c =
     c.loop-source.yielded c.loop-source.source-iterator c.loop-source.yielded_by c.next.result c.next.new.self
     c.in-None.is c.next.ensures.steps in
     let all : c.loop-source.yielded ≡ c.args.sources.items = sym (map-id c.loop-source.yielded) ∙ end.0 in
-    subst (λ l. AreUnread c.args.tail 1 (map reader l) (map feed_of c.loop-source.captures.items)) all
+    subst (λ l. AreUnread c.args.tail 1 (map reader l) (map capture_feed c.loop-source.captures.items)) all
     c.loop-source.invariant.unread
 
 pub overflow_add-file : goal.overflow_add-file

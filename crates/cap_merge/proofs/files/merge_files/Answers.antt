@@ -1,6 +1,6 @@
 use Rattle.std.proofs.lemmas.List.{length-map}
 use Rattle.std.proofs.Common.{map, arith}
-use Rattle.cap_source.specs.inner.Captures.{feed_of}
+use Rattle.cap_source.specs.inner.Captures.{capture_feed}
 use Rattle.cap_merge.proofs.Unread.{AreUnread-length, AreUnread-numbered, IsUnreadRun-feeds}
 use Rattle.cap_merge.specs.inner.Readers.{reader_of}
 use Rattle.cap_merge.proofs.files.merge_files.Goals as goal
@@ -11,11 +11,11 @@ new-requires-clause-some g c =
     let v = c.in_ok-captures.captures in
     let sources = c.args.sources in
     let same = AreUnread-length c.args.tail 1 (map reader sources.items)
-    (map feed_of v.items) c.in_ok-captures.ensures.unread in
+    (map capture_feed v.items) c.in_ok-captures.ensures.unread in
     omega (
       arith,
       same,
-      length-map v.items feed_of,
+      length-map v.items capture_feed,
       length-map sources.items reader,
       v.ok.0,
       sources.ok.0,
@@ -28,11 +28,11 @@ new-requires-clause-most g c =
     let v = c.in_ok-captures.captures in
     let sources = c.args.sources in
     let same = AreUnread-length c.args.tail 1 (map reader sources.items)
-    (map feed_of v.items) c.in_ok-captures.ensures.unread in
+    (map capture_feed v.items) c.in_ok-captures.ensures.unread in
     omega (
       arith,
       same,
-      length-map v.items feed_of,
+      length-map v.items capture_feed,
       length-map sources.items reader,
       v.ok.0,
       sources.ok.0,
@@ -43,12 +43,12 @@ pub new-requires-clause-numbered : goal.new-requires-clause-numbered
 new-requires-clause-numbered g c =
     let reader = reader_of g.R.Source.tells_coming g.R.Device.can_fail g.R.Source.coming in
     AreUnread-numbered c.args.tail (map reader c.args.sources.items)
-    (map feed_of c.in_ok-captures.captures.items) c.in_ok-captures.ensures.unread
+    (map capture_feed c.in_ok-captures.captures.items) c.in_ok-captures.ensures.unread
 
 pub returns-clause-unread : goal.returns-clause-unread
 returns-clause-unread g c =
     let reader = reader_of g.R.Source.tells_coming g.R.Device.can_fail g.R.Source.coming in
     let sources = c.args.sources in
-    IsUnreadRun-feeds c.args.tail (map reader sources.items) (map feed_of c.in_ok-captures.captures.items) _
+    IsUnreadRun-feeds c.args.tail (map reader sources.items) (map capture_feed c.in_ok-captures.captures.items) _
     (omega (arith, length-map sources.items reader, sources.ok.0, c.requires.some)) c.in_ok-captures.ensures.unread
     c.new.ensures.parts c.new.ensures.run

@@ -3,7 +3,7 @@ use Rattle.std.specs.Prelude.{map}
 use Rattle.cap_merge.specs.declared.lanes.Coming.TheVariants.{Packet}
 use Rattle.cap_merge.specs.inner.First.{lane_at}
 use Rattle.cap_merge.specs.inner.Merge.{ShowsAt}
-use Rattle.cap_merge.specs.Parts.{parts, Agrees}
+use Rattle.cap_merge.specs.Parts.{parts, LanesAgree}
 use Rattle.cap_merge.proofs.Asking.{kept-written}
 use Rattle.cap_merge.proofs.lanes.show_next.Goals as goal
 
@@ -13,7 +13,7 @@ returns g c =
     let place = c.args.place in
     let answer = c.show_at.result in
     let kept = kept-written (λ ls fs ms ys. ShowsAt (parts ls (map f fs)) place answer (parts ms (map f ys))
-    × Agrees ms (map f ys)
+    × LanesAgree ms (map f ys)
     × (answer ≡ true → (lane_at ms place).next ≡ Some Packet) × (length ms ≡ length ls) × (length ys ≡ length fs))
     c.args.lanes.now.items c.as_mut_slice.result.now c.show_at.new.lanes c.args.feeds.now.items
     c.as_mut_slice-2.result.now c.show_at.new.feeds c.args.feeds.now.len

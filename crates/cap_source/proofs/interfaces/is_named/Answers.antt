@@ -1,7 +1,7 @@
 use Rattle.std.proofs.Common.{◌≡◌, true, false, List, ◌∷◌, refl, sym, ap, ◌∙◌}
 use Rattle.std.specs.List.{list_any}
 use Rattle.cap_blocks.specs.OptionList.{OptionItem, options_of}
-use Rattle.cap_blocks.specs.inner.Options.{items_of}
+use Rattle.cap_blocks.specs.inner.Options.{options_to_come}
 use Rattle.cap_source.specs.TimeBases.{is_name, is_named}
 use Rattle.cap_source.proofs.interfaces.is_named.Goals as goal
 
@@ -17,7 +17,7 @@ pub loop-option-init : goal.loop-option-init
 loop-option-init c = (
   tt,
   tt,
-  ap (λ options. list_any is_name (items_of options)) c.into_iter-option-iterator.ensures.into_iter_gives
+  ap (λ options. list_any is_name (options_to_come options)) c.into_iter-option-iterator.ensures.into_iter_gives
       ∙ (ap (list_any is_name) c.new-option-items.ensures.items
       ∙ ap (λ rest. list_any is_name (options_of c.args.order rest)) c.split_at.ensures.back),
 )

@@ -1,5 +1,5 @@
 use Rattle.cap_source.proofs.Looks.{opened_reads, opened_by, opened_keeps, unread_keeps}
-use Rattle.cap_source.specs.inner.Readers.{state_of}
+use Rattle.cap_source.specs.inner.Readers.{reader_file_state}
 use Rattle.cap_bytes.proofs.Reach.{ReachesTo-here}
 use Rattle.std.proofs.Common.{◌+◌}
 use Rattle.cap_source.proofs.learning.open.Goals as goal
@@ -32,5 +32,5 @@ returns-in_ok-format-in-Unread-clause-reaches g c = λ progress.
 
 pub returns-in_default-clause-reaches : goal.returns-in_default-clause-reaches
 returns-in_default-clause-reaches g c = λ progress.
-    let s = state_of c.args.reader.now progress in
+    let s = reader_file_state c.args.reader.now progress in
     ReachesTo-here s.most (s.offset + 4) s.read

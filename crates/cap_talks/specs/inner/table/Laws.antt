@@ -5,8 +5,9 @@ use Rattle.std.specs.Ordering.{is_lt}
 use Rattle.std.specs.declared.cmp.Ordering.{Ordering}
 use Rattle.cap_talks.specs.declared.table.units.TimedFrame.{TimedFrame}
 use Rattle.cap_talks.specs.table.Rows.{frames_in, bytes_in}
-use Rattle.cap_talks.specs.table.Talks.{key_of, same_end, same_talk, by_time, by_time_down, least_frame, greatest_frame}
-use Rattle.cap_talks.specs.table.Talks.{frames_of, bytes_of, rows_of}
+use Rattle.cap_talks.specs.table.Talks.{talk_key, same_end, same_talk, by_time, by_time_down, least_frame}
+use Rattle.cap_talks.specs.table.Talks.{greatest_frame}
+use Rattle.cap_talks.specs.table.Talks.{frames_of, units_bytes, rows_of}
 use Rattle.cap_talks.specs.declared.table.units.CountedUnit.{CountedUnit}
 
 -- two units go the same way between two ends, or one of them goes back
@@ -18,7 +19,7 @@ goes_back a b = same_end a.source b.destination && same_end a.destination b.sour
 
 -- Units are of one conversation if they have one protocol and the same two ends, whichever is the source.
 abbrev pub KeyLaw : Type 0
-KeyLaw = (a b : CountedUnit) → same_talk (key_of a) (key_of b)
+KeyLaw = (a b : CountedUnit) → same_talk (talk_key a) (talk_key b)
     ≡ ((a.protocol == b.protocol) && (goes_along a b || goes_back a b))
 
 -- the frames of some units that have the least times of each, and those that have the greatest
@@ -48,4 +49,4 @@ pub record FrameLaw (units : List CountedUnit) : Type 0 where
 -- All rows together count all frames and bytes of the units, each once.
 pub record SumLaw (units : List CountedUnit) : Type 0 where
   pub frames : frames_in (rows_of units) ≡ frames_of units
-  pub bytes : bytes_in (rows_of units) ≡ bytes_of units
+  pub bytes : bytes_in (rows_of units) ≡ units_bytes units

@@ -21,15 +21,20 @@ port_of (suc port) = Some port
 abbrev pub end_number : End → ℕ
 end_number end = end.address * 131072 + port_number end.port
 
-abbrev pub end_of : ℕ → End
-end_of number = record { address = number / 131072; port = port_of (number % 131072) }
+abbrev pub end_at_number : ℕ → End
+end_at_number number = record { address = number / 131072; port = port_of (number % 131072) }
 
 -- a key as two numbers: its lesser end, with the protocol, and its greater end
 abbrev pub packed : TalkKey → PackedKey
 packed key = record { lesser = end_number key.lesser * 256 + key.protocol; greater = end_number key.greater }
 
 abbrev pub unpacked : PackedKey → TalkKey
-unpacked key = record { protocol = key.lesser % 256; lesser = end_of (key.lesser / 256); greater = end_of key.greater }
+unpacked key = record {
+  protocol = key.lesser % 256;
+  lesser = end_at_number (key.lesser / 256);
+  greater =
+      end_at_number key.greater;
+}
 
 -- an address has 32 bits (RFC 791, 3.1), and a port 16 (RFC 768; RFC 9293, 3.1)
 pub record IsNarrowEnd (end : End) : Type 0 where
@@ -42,12 +47,12 @@ pub record IsNarrow (key : TalkKey) : Type 0 where
   pub greater : IsNarrowEnd key.greater
 
 -- a number is that of such an end
-abbrev pub is_end : ℕ → Bool
-is_end number = nat_lt (number / 131072) (2 ^ 32) && nat_lt (number % 131072) 65537
+abbrev pub is_end_number : ℕ → Bool
+is_end_number number = nat_lt (number / 131072) (2 ^ 32) && nat_lt (number % 131072) 65537
 
 -- two numbers are those of such ends
 abbrev pub is_packed : PackedKey → Bool
-is_packed key = is_end (key.lesser / 256) && is_end key.greater
+is_packed key = is_end_number (key.lesser / 256) && is_end_number key.greater
 
 -- both of its numbers as one of 128 bits
 abbrev pub both_numbers : PackedKey → ℕ

@@ -8,7 +8,7 @@ abbrev pub talks_view : Inside → TalksState
 talks_view talks = record { rows = unpacked_talks talks.rows.entries }
 
 -- There are no more conversations than may be, the frames of each are in order, and its key is packed.
-pub record IsSoundInside (inside : Inside) : Type 0 where
+pub record IsSoundTalksInside (inside : Inside) : Type 0 where
   pub few : length (talks_view inside).rows ≤ talk_limit
   pub order : are_all_in_order (talks_view inside).rows ≡ true
   pub keys : are_packed inside.rows.entries ≡ true

@@ -4,7 +4,7 @@ use Rattle.std.specs.Prelude.{None, Result, Ok, Err, ⊤, if◌then◌else◌}
 use Rattle.cap_join.specs.ByteMap.{completes}
 use Rattle.cap_join.specs.Fragments.{Piece}
 use Rattle.cap_join.specs.inner.Groups.{IsDatagramOf}
-use Rattle.cap_join.specs.History.{joined_pieces, state_of}
+use Rattle.cap_join.specs.History.{joined_pieces, open_groups_after}
 use Rattle.cap_join.specs.Joiners.{JoinerState, open_limit}
 use Rattle.cap_join.specs.Joiners as joiners
 use Rattle.cap_join.specs.declared.datagrams.Datagram.{Datagram}
@@ -15,7 +15,7 @@ use Rattle.cap_talks.specs.table.Classes.{classes, counts_of, is_class}
 use Rattle.cap_talks.specs.table.TakenText.{frames_text, joined_text}
 use Rattle.cap_talks.specs.table.TalkLines.{talk_texts, talks_text}
 use Rattle.cap_talks.specs.table.Taken.{Taken, fragment, look, events_of}
-use Rattle.cap_talks.specs.table.CountedUnits.{units_of, joined_in, is_limit_at}
+use Rattle.cap_talks.specs.table.CountedUnits.{counted_units, joined_in, is_limit_at}
 use Rattle.cap_talks.specs.declared.table.classes.Class.{Class}
 use Rattle.cap_talks.specs.declared.table.classes.Class.TheVariants as class
 use Rattle.cap_talks.specs.declared.table.classes.ClassCounts.{ClassCounts}
@@ -38,40 +38,40 @@ pub record WaitsFor (d : Datagram) (joiner : JoinerState) (xs : List Taken) (nex
   pub is_next : next ≡ Some packet
   pub piece : Piece
   pub is_fragment : look (length xs) packet ≡ fragment piece
-  pub stands : joiners.StandsFor joiner (events_of (packet ∷ xs))
-  pub whole : completes (joined_pieces packet.clock piece (state_of open_limit (events_of xs))) ≡ true
-  pub datagram : IsDatagramOf d (joined_pieces packet.clock piece (state_of open_limit (events_of xs)))
+  pub stands : joiners.JoinerStandsFor joiner (events_of (packet ∷ xs))
+  pub whole : completes (joined_pieces packet.clock piece (open_groups_after open_limit (events_of xs))) ≡ true
+  pub datagram : IsDatagramOf d (joined_pieces packet.clock piece (open_groups_after open_limit (events_of xs)))
 
 abbrev pub Joins : Option Datagram → JoinerState → List Taken → Option Taken → Type 0
-Joins None joiner xs next = joiners.StandsFor joiner (events_of xs)
+Joins None joiner xs next = joiners.JoinerStandsFor joiner (events_of xs)
 Joins (Some d) joiner xs next = WaitsFor d joiner xs next
 
 -- A tally stands for some packets that were taken, the latest first. `next` is the packet that is known to come next,
 -- if one is.
-pub record Stands (t : TallyState) (xs : List Taken) (next : Option Taken) : Type 0 where
+pub record TallyStands (t : TallyState) (xs : List Taken) (next : Option Taken) : Type 0 where
   pub place : t.place ≡ length xs
   pub classes : t.classes ≡ counts_of (classes xs)
   pub joined : t.joined ≡ joined_in xs
-  pub talks : talks.StandsFor t.talks (units_of xs)
+  pub talks : talks.TalksStandFor t.talks (counted_units xs)
   pub joins : Joins t.waiting t.joiner xs next
 
 -- a waiting datagram fits into the numbers
-abbrev pub Fits : Option Datagram → ℕ → Type 0
-Fits None place = ⊤
-Fits (Some d) place = FitsDatagram d
+abbrev pub WaitingFits : Option Datagram → ℕ → Type 0
+WaitingFits None place = ⊤
+WaitingFits (Some d) place = FitsDatagram d
 
-abbrev pub one_if : Option Datagram → ℕ
-one_if None = 0
-one_if (Some d) = 1
+abbrev pub one_if_waiting : Option Datagram → ℕ
+one_if_waiting None = 0
+one_if_waiting (Some d) = 1
 
 pub record IsSoundTally (t : TallyState) : Type 0 where
   pub taken : List Taken
   pub next : Option Taken
-  pub stands : Stands t taken next
+  pub stands : TallyStands t taken next
   pub few : t.place ≤ 2 ^ 62
-  pub places : t.joiner.next ≤ t.place + one_if t.waiting
+  pub places : t.joiner.next ≤ t.place + one_if_waiting t.waiting
   pub bytes : bytes_in t.talks.rows ≤ frames_in t.talks.rows * 2 ^ 32
-  pub fits : Fits t.waiting t.place
+  pub fits : WaitingFits t.waiting t.place
 
 -- the bytes of a joined datagram that waits
 abbrev pub waiting_bytes : Option Datagram → ℕ
@@ -105,10 +105,10 @@ counted_one c = if is_class class.Counted c then 1 else 0
 
 -- If it is answered that a packet was counted, the tally stands for it too; else a datagram waits.
 abbrev pub Looks : TallyState → Taken → Bool → TallyState → Type 0
-Looks old x true new = (xs : List Taken) → Stands old xs (Some x) → Stands new xs (Some x)
+Looks old x true new = (xs : List Taken) → TallyStands old xs (Some x) → TallyStands new xs (Some x)
 Looks old x false new =
-    (xs : List Taken) → Stands old xs (Some x) → (is_limit_at xs x ≡ false)
-    × ((next : Option Taken) → Stands new (x ∷ xs) next)
+    (xs : List Taken) → TallyStands old xs (Some x) → (is_limit_at xs x ≡ false)
+    × ((next : Option Taken) → TallyStands new (x ∷ xs) next)
 
 -- a datagram waits, if that is answered
 abbrev pub WaitsIf : Option Datagram → Bool → Type 0

@@ -13,5 +13,5 @@ tally_view t =
       waiting = t.waiting;
     }
 
-abbrev pub IsSoundInside : Inside → Type 0
-IsSoundInside t = IsSoundTally (tally_view t)
+abbrev pub IsSoundTallyInside : Inside → Type 0
+IsSoundTallyInside t = IsSoundTally (tally_view t)

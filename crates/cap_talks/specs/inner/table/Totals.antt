@@ -2,7 +2,7 @@
 use Rattle.std.specs.Prelude.{◌≡◌, ℕ, ◌+◌, ◌*◌, ◌^◌, ◌&&◌, ◌≤◌, ◌<◌, List, Bool, length, map, nat_lt}
 use Rattle.std.specs.List.{AllByRecursion, range_with_len}
 use Rattle.cap_talks.specs.counts.Counting.{counted, are_in_order}
-use Rattle.cap_talks.specs.table.TakenText.{metas_of, bytes_of, truncated_of}
+use Rattle.cap_talks.specs.table.TakenText.{metas_of, taken_bytes, truncated_of}
 use Rattle.cap_talks.specs.table.Taken.{Taken}
 use Rattle.cap_talks.specs.declared.counts.counts.Counts.{Counts}
 
@@ -21,7 +21,7 @@ counts_from first count xs = map (λ file. counted (metas_of file xs)) (range_wi
 pub record TotalsStand (t : TotalsState) (xs : List Taken) : Type 0 where
   pub files : t.files ≡ counts_from 1 (length t.files) xs
   pub packets : t.packets ≡ length xs
-  pub bytes : t.bytes ≡ bytes_of xs
+  pub bytes : t.bytes ≡ taken_bytes xs
   pub truncated : t.truncated ≡ truncated_of xs
 
 -- The numbers fit: the packets are at most 2^45, and each has fewer than 2^32 bytes.

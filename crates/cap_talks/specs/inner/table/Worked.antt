@@ -5,7 +5,7 @@ use Rattle.cap_talks.specs.declared.table.units.TimedFrame.{TimedFrame}
 use Rattle.cap_time.specs.declared.stamps.Stamp.{Stamp}
 use Rattle.cap_talks.specs.table.Rows.{is_refused}
 use Rattle.cap_talks.specs.table.TalkLines.{talk_texts}
-use Rattle.cap_talks.specs.table.Talks.{key_of, rows_of}
+use Rattle.cap_talks.specs.table.Talks.{talk_key, rows_of}
 use Rattle.cap_talks.specs.table.Units.{end_at}
 use Rattle.cap_talks.specs.declared.table.units.CountedUnit.{CountedUnit}
 use Rattle.cap_talks.specs.declared.table.units.End.{End}
@@ -20,8 +20,8 @@ half_binary = record { units = 512; denominator = 1024; low = 0; high = pos 0; p
 abbrev pub half_tenths : Stamp
 half_tenths = record { units = 5; denominator = 10; low = 0; high = pos 0; positive = lit< tt }
 
-abbrev pub frame_at : ℕ → Stamp → Option TimedFrame
-frame_at place time = Some (record { time = time; place = place })
+abbrev pub worked_frame_at : ℕ → Stamp → Option TimedFrame
+worked_frame_at place time = Some (record { time = time; place = place })
 
 -- 10.0.0.1 and 10.0.0.2, with a port
 abbrev pub one : ℕ → End
@@ -44,24 +44,24 @@ unit_of source destination frames bytes first last =
     }
 
 -- a datagram and its answer, at 1 and 2 seconds
-abbrev pub answered : List CountedUnit
-answered =
-    unit_of (one 1000) (two 2000) 1 60 (frame_at 0 (at_second 1)) (frame_at 0 (at_second 1))
-    ∷ unit_of (two 2000) (one 1000) 1 60 (frame_at 1 (at_second 2)) (frame_at 1 (at_second 2)) ∷ []
+abbrev pub worked_answer : List CountedUnit
+worked_answer =
+    unit_of (one 1000) (two 2000) 1 60 (worked_frame_at 0 (at_second 1)) (worked_frame_at 0 (at_second 1))
+    ∷ unit_of (two 2000) (one 1000) 1 60 (worked_frame_at 1 (at_second 2)) (worked_frame_at 1 (at_second 2)) ∷ []
 
 -- a datagram that was joined from four frames at 1 to 4 seconds
 abbrev pub joined : List CountedUnit
-joined = unit_of (one 1001) (two 2001) 4 112 (frame_at 0 (at_second 1)) (frame_at 3 (at_second 4)) ∷ []
+joined = unit_of (one 1001) (two 2001) 4 112 (worked_frame_at 0 (at_second 1)) (worked_frame_at 3 (at_second 4)) ∷ []
 
 -- a datagram in tenths of a second, and one that was joined after it, but began before it
 abbrev pub begun_before : List CountedUnit
 begun_before =
-    unit_of (one 1) (two 2) 1 60 (frame_at 1 half_tenths) (frame_at 1 half_tenths)
-    ∷ unit_of (one 1) (two 2) 2 120 (frame_at 0 half_binary) (frame_at 0 half_binary) ∷ []
+    unit_of (one 1) (two 2) 1 60 (worked_frame_at 1 half_tenths) (worked_frame_at 1 half_tenths)
+    ∷ unit_of (one 1) (two 2) 2 120 (worked_frame_at 0 half_binary) (worked_frame_at 0 half_binary) ∷ []
 
 -- The lines of those units.
 pub record TalkLines : Type 0 where
-  pub answered_line : talk_texts (rows_of answered)
+  pub answered_line : talk_texts (rows_of worked_answer)
       ≡ codes "talk udp 10.0.0.1:1000 10.0.0.2:2000 forward 1 60 backward 1 60 first 1+0/1000000 last 2+0/1000000\n"
   pub joined_line : talk_texts (rows_of joined)
       ≡ codes "talk udp 10.0.0.1:1001 10.0.0.2:2001 forward 4 112 backward 0 0 first 1+0/1000000 last 4+0/1000000\n"
@@ -70,6 +70,6 @@ pub record TalkLines : Type 0 where
 
 -- If one conversation may stand a second is refused, and what belongs to the first one isn't.
 pub record TalkLimit : Type 0 where
-  pub second : is_refused 1 (rows_of answered) (key_of (unit_of (one 1) (two 2) 1 60 None None)) ≡ true
-  pub first : is_refused 1 (rows_of answered) (key_of (unit_of (two 2000) (one 1000) 1 60 None None)) ≡ false
-  pub below : is_refused 2 (rows_of answered) (key_of (unit_of (one 1) (two 2) 1 60 None None)) ≡ false
+  pub second : is_refused 1 (rows_of worked_answer) (talk_key (unit_of (one 1) (two 2) 1 60 None None)) ≡ true
+  pub first : is_refused 1 (rows_of worked_answer) (talk_key (unit_of (two 2000) (one 1000) 1 60 None None)) ≡ false
+  pub below : is_refused 2 (rows_of worked_answer) (talk_key (unit_of (one 1) (two 2) 1 60 None None)) ≡ false

@@ -2,7 +2,7 @@
 use Rattle.std.specs.Prelude.{◌≡◌, ℕ, List, [], true, IsTrue, Some, None, Result, Ok, Err, ⊤, length}
 use Rattle.cap_bytes.specs.declared.faults.Fault.{Fault}
 use Rattle.cap_bytes.specs.declared.faults.Fault.TheVariants.{Refused, Read, Write, Memory}
-use Rattle.cap_merge.specs.Parts.{Part, feed_of, run_of}
+use Rattle.cap_merge.specs.Parts.{Part, merged_feed, run_of}
 use Rattle.cap_source.specs.inner.Growing.{IsAtPacket}
 use Rattle.cap_source.specs.declared.feeds.Head.TheVariants as heads
 use Rattle.cap_talks.specs.talks.ReportText.{taken_after, refusal_after, report_text, report_refusal}
@@ -11,24 +11,24 @@ use Rattle.cap_talks.specs.inner.table.Stepping.{TableState, TableStands}
 
 -- All packets of a run that isn't refused were taken, by a table that stood for none.
 pub record TookAll (old new : TableState) : Type 0 where
-  pub known : (feed_of new.parts).known ≡ Some heads.End
+  pub known : (merged_feed new.parts).known ≡ Some heads.End
   pub done : new.done ≡ true
   pub files : length new.totals.files ≡ length old.totals.files
-  pub free : IsTrue (feed_of old.parts).told → TableStands old [] → refusal_after [] (run_of old.parts) ≡ None
-  pub stands : IsTrue (feed_of old.parts).told → TableStands old []
+  pub free : IsTrue (merged_feed old.parts).told → TableStands old [] → refusal_after [] (run_of old.parts) ≡ None
+  pub stands : IsTrue (merged_feed old.parts).told → TableStands old []
       → TableStands new (taken_after [] (run_of old.parts))
-  pub endings : IsTrue (feed_of old.parts).told → (file : ℕ)
-      → (feed_of new.parts).endings file ≡ (feed_of old.parts).endings file
+  pub endings : IsTrue (merged_feed old.parts).told → (file : ℕ)
+      → (merged_feed new.parts).endings file ≡ (merged_feed old.parts).endings file
 
 abbrev pub TakesAll : TableState → Result (Unit {0}) Fault → TableState → Type 0
 TakesAll old (Ok _) new = TookAll old new
 TakesAll old (Err (Refused refusal)) new =
-    IsTrue (feed_of old.parts).told → TableStands old [] → refusal_after [] (run_of old.parts) ≡ Some refusal
+    IsTrue (merged_feed old.parts).told → TableStands old [] → refusal_after [] (run_of old.parts) ≡ Some refusal
 TakesAll old (Err (Read file offset)) new = ⊤
 TakesAll old (Err Write) new = ⊥
-TakesAll old (Err Memory) new = IsAtPacket (feed_of new.parts).known
+TakesAll old (Err Memory) new = IsAtPacket (merged_feed new.parts).known
 
 -- The report of the run of that many files is told.
 abbrev pub TellsReport : ℕ → List Part → List ℕ → Result (Unit {0}) Fault → List ℕ → Type 0
 TellsReport count ps held result new =
-    Tells (report_text count (feed_of ps).endings (run_of ps)) (report_refusal (run_of ps)) held result new
+    Tells (report_text count (merged_feed ps).endings (run_of ps)) (report_refusal (run_of ps)) held result new

@@ -1,12 +1,12 @@
 use Rattle.std.proofs.Common.{◌≡◌, ◌++◌, ◌∷◌, [], drop, refl, sym, subst, List}
 use Rattle.cap_source.specs.Feed.{Feed, HasFile}
 use Rattle.cap_source.specs.inner.Listed.{list_feed}
-use Rattle.cap_merge.specs.Parts.{feed_of, new_parts}
+use Rattle.cap_merge.specs.Parts.{merged_feed, new_parts}
 use Rattle.cap_tests.proofs.merge.merge_of.Goals as goal
 
 two_files : (one two : Feed) → one.files ≡ 1 ∷ [] → two.files ≡ 2 ∷ []
-    → HasFile (feed_of (new_parts (one ∷ (two ∷ [])))).files 2
-unfolding feed_of
+    → HasFile (merged_feed (new_parts (one ∷ (two ∷ [])))).files 2
+unfolding merged_feed
 two_files one two e f = subst (λ (fs : List _). HasFile (one.files ++ (fs ++ [])) 2) (sym f)
     (subst (λ (fs : List _). HasFile (fs ++ (2 ∷ [])) 2) (sym e) refl)
 

@@ -1,6 +1,6 @@
 use Rattle.std.proofs.Common.{◌≡◌, ◌+◌, ◌++◌, Some, None, Ok, sym, ◌∙◌, ap, rules}
 use Rattle.std.proofs.lemmas.Result.{err_from_is_err_and}
-use Rattle.cap_blocks.specs.inner.Reader.{GivesBlock, TakesItem, items_of}
+use Rattle.cap_blocks.specs.inner.Reader.{GivesBlock, TakesBlock, blocks_to_come}
 use Rattle.cap_tool.proofs.BlockListing.{Printing-more, Printing-none, Prints-block_fault, Prints-block_end}
 use Rattle.cap_tool.proofs.BlockListing.{block_lines-given}
 use Rattle.cap_tool.proofs.BlockWalking.{lasts-given, walks-end, walks-fault}
@@ -26,11 +26,11 @@ returns-in_err-put_all-clause-text g c = λ t w.
     let new = c.take_block.new.reader in
     let line_is : c.as_slice.result.now ≡ block_text c.loop-block.n c.in-Some.block = c.as_slice.ensures.value
     ∙ c.write_block.ensures in
-    let items : TakesItem old (Ok (Some c.in-Some.block)) new =
+    let items : TakesBlock old (Ok (Some c.in-Some.block)) new =
     rw c.in-Some.is at (c.in_ok-block.ensures.items (i.told t)) in
-    let behind = block_lines (c.loop-block.n + 1) (items_of new) in
-    let split : block_lines c.loop-block.n (items_of old) ≡ c.as_slice.result.now ++ behind =
-    block_lines-given c.loop-block.n c.in-Some.block _ (items_of old) (items_of new) items
+    let behind = block_lines (c.loop-block.n + 1) (blocks_to_come new) in
+    let split : block_lines c.loop-block.n (blocks_to_come old) ≡ c.as_slice.result.now ++ behind =
+    block_lines-given c.loop-block.n c.in-Some.block _ (blocks_to_come old) (blocks_to_come new) items
     ∙ ap (λ l. l ++ behind) (sym line_is) in
     let wrote = c.in_err-put_all.ensures.bytes (i.writer_told w) in
     rw (p.1, p.2, c.in_err-put_all.ensures.fault)
@@ -54,7 +54,7 @@ returns-clause-text g c = λ t w.
     let i = c.loop-block.invariant in
     let old = c.loop-block.reader in
     let new = c.take_block.new.reader in
-    let took : TakesItem old (Ok None) new = rw c.in_default.is at (c.in_ok-block.ensures.items (i.told t)) in
+    let took : TakesBlock old (Ok None) new = rw c.in_default.is at (c.in_ok-block.ensures.items (i.told t)) in
     Prints-block_end _ _ _ _ c.loop-block.n old new (i.lines t) w (i.refusal_same t) took
 
 pub loop-block-init : goal.loop-block-init

@@ -1,5 +1,5 @@
 use Rattle.std.proofs.Common.{IsTrue, sym, subst, Bool}
-use Rattle.cap_source.specs.inner.Captures.{feed_of}
+use Rattle.cap_source.specs.inner.Captures.{capture_feed}
 use Rattle.cap_tool.proofs.Leaving.{Walks-done, Left-one, Prints-file}
 use Rattle.cap_write.proofs.Starting.{FailsOf-one}
 use Rattle.cap_tool.proofs.counting.convert_and_count.Goals as goal
@@ -22,6 +22,7 @@ left_of_one-requires-clause-end g c = Walks-done _ _ c.write_file-answer.result 
 pub returns-clause-left : goal.returns-clause-left
 returns-clause-left g c =
     let e = c.new-capture.ensures in
-    Left-one (feed_of c.new-capture.result) (feed_of c.write_file-answer.new.capture) _ _ c.write_file-answer.result
+    Left-one (capture_feed c.new-capture.result) (capture_feed c.write_file-answer.new.capture) _ _
+    c.write_file-answer.result
     c.left_of_one.result e.told e.endings
     c.write_file-answer.ensures.endings c.left_of_one.ensures.left

@@ -1,7 +1,7 @@
 use Rattle.std.proofs.lemmas.Result.{err_from_is_err_and}
 use Rattle.std.proofs.Common.{arith}
 use Rattle.cap_merge.proofs.Unread.{Fails-merged}
-use Rattle.cap_merge.specs.Parts.{feed_of}
+use Rattle.cap_merge.specs.Parts.{merged_feed}
 use Rattle.cap_merge.specs.inner.Readers.{reader_of}
 use Rattle.cap_merge.specs.inner.View.{parts_of}
 use Rattle.cap_tool.proofs.Leaving.{Walks-done, Drops-merged}
@@ -23,7 +23,7 @@ pub returns-clause-read : goal.returns-clause-read
 returns-clause-read g c =
     let reader = reader_of g.R.Source.tells_coming g.R.Device.can_fail g.R.Source.coming in
     Fails-merged reader c.args.tail c.args.sources.items _
-    (feed_of (parts_of c.write_datagrams-answer.new.merged)) c.write_datagrams-answer.result
+    (merged_feed (parts_of c.write_datagrams-answer.new.merged)) c.write_datagrams-answer.result
     c.in_ok-run.ensures.unread c.write_datagrams-answer.ensures.walks
 
 pub left_after-requires : goal.left_after-requires
@@ -34,7 +34,7 @@ pub returns-clause-dropped : goal.returns-clause-dropped
 returns-clause-dropped g c =
     let reader = reader_of g.R.Source.tells_coming g.R.Device.can_fail g.R.Source.coming in
     Drops-merged reader c.args.tail c.args.sources.items _
-    (feed_of (parts_of c.write_datagrams-answer.new.merged)) c.write_datagrams-answer.result
+    (merged_feed (parts_of c.write_datagrams-answer.new.merged)) c.write_datagrams-answer.result
     c.left_after.result
     c.in_ok-run.ensures.unread c.write_datagrams-answer.ensures.keeps c.write_datagrams-answer.ensures.endings
     c.left_after.ensures.dropped

@@ -1,7 +1,7 @@
 use Rattle.std.proofs.lemmas.List.{length-map}
 use Rattle.std.proofs.Common.{map, arith}
-use Rattle.cap_source.specs.inner.Captures.{feed_of}
-use Rattle.cap_tool.specs.TimeWatched.{inner_of}
+use Rattle.cap_source.specs.inner.Captures.{capture_feed}
+use Rattle.cap_tool.specs.TimeWatched.{time_watched_inner}
 use Rattle.cap_merge.proofs.Unread.{AreUnread-length, AreUnread-numbered, IsUnreadRun-feeds}
 use Rattle.cap_merge.specs.inner.Readers.{reader_of}
 use Rattle.cap_tool.proofs.counting.merge_watched.Goals as goal
@@ -12,11 +12,11 @@ new-requires-clause-some g c =
     let v = c.in_ok-feeds.feeds in
     let sources = c.args.sources in
     let same = AreUnread-length c.args.tail 1 (map reader sources.items)
-    (map (λ w. feed_of (inner_of w)) v.items) c.in_ok-feeds.ensures.unread in
+    (map (λ w. capture_feed (time_watched_inner w)) v.items) c.in_ok-feeds.ensures.unread in
     omega (
       arith,
       same,
-      length-map v.items (λ w. feed_of (inner_of w)),
+      length-map v.items (λ w. capture_feed (time_watched_inner w)),
       length-map sources.items reader,
       v.ok.0,
       sources.ok.0,
@@ -29,11 +29,11 @@ new-requires-clause-most g c =
     let v = c.in_ok-feeds.feeds in
     let sources = c.args.sources in
     let same = AreUnread-length c.args.tail 1 (map reader sources.items)
-    (map (λ w. feed_of (inner_of w)) v.items) c.in_ok-feeds.ensures.unread in
+    (map (λ w. capture_feed (time_watched_inner w)) v.items) c.in_ok-feeds.ensures.unread in
     omega (
       arith,
       same,
-      length-map v.items (λ w. feed_of (inner_of w)),
+      length-map v.items (λ w. capture_feed (time_watched_inner w)),
       length-map sources.items reader,
       v.ok.0,
       sources.ok.0,
@@ -44,13 +44,13 @@ pub new-requires-clause-numbered : goal.new-requires-clause-numbered
 new-requires-clause-numbered g c =
     let reader = reader_of g.R.Source.tells_coming g.R.Device.can_fail g.R.Source.coming in
     AreUnread-numbered c.args.tail (map reader c.args.sources.items)
-    (map (λ w. feed_of (inner_of w)) c.in_ok-feeds.feeds.items) c.in_ok-feeds.ensures.unread
+    (map (λ w. capture_feed (time_watched_inner w)) c.in_ok-feeds.feeds.items) c.in_ok-feeds.ensures.unread
 
 pub returns-clause-unread : goal.returns-clause-unread
 returns-clause-unread g c =
     let reader = reader_of g.R.Source.tells_coming g.R.Device.can_fail g.R.Source.coming in
     let sources = c.args.sources in
     IsUnreadRun-feeds c.args.tail (map reader sources.items)
-    (map (λ w. feed_of (inner_of w)) c.in_ok-feeds.feeds.items) _
+    (map (λ w. capture_feed (time_watched_inner w)) c.in_ok-feeds.feeds.items) _
     (omega (arith, length-map sources.items reader, sources.ok.0, c.requires.some)) c.in_ok-feeds.ensures.unread
     c.new.ensures.parts c.new.ensures.run

@@ -3,10 +3,10 @@ use Rattle.std.proofs.Common.{map-id, length-append}
 use Rattle.std.proofs.lemmas.List.{map-append, length-map}
 use Rattle.std.proofs.lemmas.Iterator.Adapters.{YieldsList-from_vec}
 use Rattle.std.proofs.lemmas.Iterator.Consumers.{YieldsList-end, YieldsList-turn}
-use Rattle.cap_source.specs.inner.Captures.{feed_of}
+use Rattle.cap_source.specs.inner.Captures.{capture_feed}
 use Rattle.cap_merge.proofs.Unread.{AreUnread-more}
 use Rattle.cap_merge.specs.inner.Readers.{IsUnread, AreUnread, reader_of}
-use Rattle.cap_tool.specs.TimeWatched.{inner_of}
+use Rattle.cap_tool.specs.TimeWatched.{time_watched_inner}
 use Rattle.cap_tool.proofs.counting.watched_of.Goals as goal
 
 in_range : (file n m l : ℕ) → file ≡ 1 + n → n < m → l ≡ m → l ≤ 32 → file + 1 < 2 ^ 32
@@ -24,8 +24,8 @@ loop-source-preserved g c =
     let e = c.new-capture.ensures in
     let feeds = c.loop-source.feeds.items in
     let place : c.loop-source.file ≡ 1 + length (map reader seen) = omega (arith, i.number, length-map seen reader) in
-    let is : IsUnread c.args.tail (1 + length (map reader seen)) (reader x) (feed_of c.new-capture.result) =
-    subst (λ n. IsUnread c.args.tail n (reader x) (feed_of c.new-capture.result)) place
+    let is : IsUnread c.args.tail (1 + length (map reader seen)) (reader x) (capture_feed c.new-capture.result) =
+    subst (λ n. IsUnread c.args.tail n (reader x) (capture_feed c.new-capture.result)) place
     (record {
       files = e.files;
       told = e.told;
@@ -35,11 +35,12 @@ loop-source-preserved g c =
       can_fail = e.can_fail;
     }) in
     let watched : IsUnread c.args.tail (1 + length (map reader seen)) (reader x)
-    (feed_of (inner_of c.new-watched.result)) =
+    (capture_feed (time_watched_inner c.new-watched.result)) =
     subst (λ f. IsUnread c.args.tail (1 + length (map reader seen)) (reader x) f)
-    (sym (ap (λ k. feed_of k) c.new-watched.ensures.inner)) is in
-    let more = AreUnread-more c.args.tail 1 (map reader seen) (map (λ w. feed_of (inner_of w)) feeds) (reader x)
-    (feed_of (inner_of c.new-watched.result)) i.unread watched in
+    (sym (ap (λ k. capture_feed k) c.new-watched.ensures.inner)) is in
+    let more = AreUnread-more c.args.tail 1 (map reader seen) (map (λ w. capture_feed (time_watched_inner w)) feeds)
+    (reader x)
+    (capture_feed (time_watched_inner c.new-watched.result)) i.unread watched in
     let pushed : c.push.new.self.items ≡ feeds ++ c.new-watched.result ∷ [] = search rules in
     record {
       number = next_number _ _ _ i.number (length-append seen (x ∷ []));
@@ -47,7 +48,7 @@ loop-source-preserved g c =
           rw (
             map-append reader seen (x ∷ []),
             pushed,
-            map-append (λ w. feed_of (inner_of w)) feeds
+            map-append (λ w. capture_feed (time_watched_inner w)) feeds
                 (c.new-watched.result ∷ []),
           ) more;
     }
@@ -62,7 +63,8 @@ returns-clause-unread g c =
     c.loop-source.yielded c.loop-source.source-iterator c.loop-source.yielded_by c.next.result c.next.new.self
     c.in-None.is c.next.ensures.steps in
     let all : c.loop-source.yielded ≡ c.args.sources.items = sym (map-id c.loop-source.yielded) ∙ end.0 in
-    subst (λ l. AreUnread c.args.tail 1 (map reader l) (map (λ w. feed_of (inner_of w)) c.loop-source.feeds.items)) all
+    subst (λ l. AreUnread c.args.tail 1 (map reader l)
+    (map (λ w. capture_feed (time_watched_inner w)) c.loop-source.feeds.items)) all
     c.loop-source.invariant.unread
 
 pub overflow_add-file : goal.overflow_add-file

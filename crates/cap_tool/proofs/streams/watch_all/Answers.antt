@@ -1,6 +1,6 @@
 use Rattle.std.proofs.Common.{sym, ◌∙◌, map-id, ap, length, arith}
 use Rattle.std.proofs.lemmas.List.{length-map}
-use Rattle.cap_tool.specs.Watched.{inner_of}
+use Rattle.cap_tool.specs.Watched.{watched_inner}
 use Rattle.std.proofs.lemmas.Iterator.Adapters.{YieldsList-from_vec}
 use Rattle.std.proofs.lemmas.Iterator.Consumers.{YieldsList-end}
 use Rattle.cap_tool.proofs.streams.watch_all.Goals as goal
@@ -21,7 +21,7 @@ returns-clause-len g c =
     omega (
       arith,
       same,
-      length-map c.loop-source.watched.items inner_of,
+      length-map c.loop-source.watched.items watched_inner,
       c.loop-source.watched.ok.0,
       c.args.sources.ok.0,
     )

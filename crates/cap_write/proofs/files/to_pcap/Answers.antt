@@ -1,7 +1,7 @@
 use Rattle.std.proofs.Common.{arith, ◌∙◌, ap, Err}
 use Rattle.cap_source.proofs.Onward.{Keeps-trans}
 use Rattle.std.proofs.lemmas.Result.{err_from_is_err_and}
-use Rattle.cap_source.specs.inner.Captures.{feed_of, first_of}
+use Rattle.cap_source.specs.inner.Captures.{capture_feed, capture_first}
 use Rattle.cap_write.specs.Pcap.{pcap_bytes}
 use Rattle.cap_write.proofs.Starting.{Prints-unread, Writer-unread, Walks-unread, Walks-first, Ends-first}
 use Rattle.cap_write.proofs.Starting.{memory-unread}
@@ -14,8 +14,8 @@ returns-clause-walks g c =
 
 pub returns-clause-endings : goal.returns-clause-endings
 returns-clause-endings g c =
-    Ends-first (feed_of c.args.capture.now) (feed_of c.first.new.self)
-    (feed_of c.put_pcap.new.feed) c.put_pcap.result c.in_ok-first.ensures.keeps
+    Ends-first (capture_feed c.args.capture.now) (capture_feed c.first.new.self)
+    (capture_feed c.put_pcap.new.feed) c.put_pcap.result c.in_ok-first.ensures.keeps
     (λ t. (c.in_ok-first.ensures.items t).0) c.put_pcap.ensures.endings
 
 pub returns-clause-keeps : goal.returns-clause-keeps
@@ -24,8 +24,8 @@ returns-clause-keeps g c = search (Keeps-trans, c.in_ok-first.ensures.keeps, c.p
 pub returns-in_err-first-clause-text : goal.returns-in_err-first-clause-text
 returns-in_err-first-clause-text g c =
     let p = err_from_is_err_and c.from_residual.result c.from_residual.ensures.1 in
-    λ t w. Prints-unread _ _ _ _ (pcap_bytes c.args.order (first_of c.args.capture.now)
-    (feed_of c.args.capture.now).items) _ (g.W.Sink.held c.args.writer.now) c.in_err-first.ensures.answer (p.1
+    λ t w. Prints-unread _ _ _ _ (pcap_bytes c.args.order (capture_first c.args.capture.now)
+    (capture_feed c.args.capture.now).items) _ (g.W.Sink.held c.args.writer.now) c.in_err-first.ensures.answer (p.1
     ∙ ap Err p.2)
 
 pub returns-in_err-first-clause-writer : goal.returns-in_err-first-clause-writer

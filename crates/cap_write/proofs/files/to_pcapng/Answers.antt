@@ -2,7 +2,7 @@ use Rattle.std.proofs.Common.{arith, rules, ◌∙◌, ap, Err, inl}
 use Rattle.cap_source.proofs.Growing.{memory-more, at-unknown}
 use Rattle.cap_source.proofs.Onward.{Keeps-trans}
 use Rattle.std.proofs.lemmas.Result.{err_from_is_err_and}
-use Rattle.cap_source.specs.inner.Captures.{feed_of, number_of, first_of}
+use Rattle.cap_source.specs.inner.Captures.{capture_feed, capture_number, capture_first}
 use Rattle.cap_write.specs.Texts.{pcapng_bytes}
 use Rattle.cap_write.proofs.Starting.{Prints-unread, Writer-unread, Walks-unread, Walks-first, Ends-first}
 use Rattle.cap_write.proofs.Starting.{memory-unread, memory-wider}
@@ -15,8 +15,8 @@ returns-clause-walks g c =
 
 pub returns-clause-endings : goal.returns-clause-endings
 returns-clause-endings g c =
-    Ends-first (feed_of c.args.capture.now) (feed_of c.first.new.self)
-    (feed_of c.put_pcapng.new.feed) c.put_pcapng.result c.in_ok-first.ensures.keeps
+    Ends-first (capture_feed c.args.capture.now) (capture_feed c.first.new.self)
+    (capture_feed c.put_pcapng.new.feed) c.put_pcapng.result c.in_ok-first.ensures.keeps
     (λ t. (c.in_ok-first.ensures.items t).0) c.put_pcapng.ensures.endings
 
 pub returns-clause-keeps : goal.returns-clause-keeps
@@ -28,8 +28,9 @@ returns-clause-text g c = search rules
 pub returns-in_err-first-clause-text : goal.returns-in_err-first-clause-text
 returns-in_err-first-clause-text g c =
     let p = err_from_is_err_and c.from_residual.result c.from_residual.ensures.1 in
-    λ t w. Prints-unread _ _ _ _ (pcapng_bytes c.args.order (number_of c.args.capture.now) (first_of c.args.capture.now)
-    (feed_of c.args.capture.now).items) _ (g.W.Sink.held c.args.writer.now) c.in_err-first.ensures.answer (p.1
+    λ t w. Prints-unread _ _ _ _ (pcapng_bytes c.args.order (capture_number c.args.capture.now)
+    (capture_first c.args.capture.now)
+    (capture_feed c.args.capture.now).items) _ (g.W.Sink.held c.args.writer.now) c.in_err-first.ensures.answer (p.1
     ∙ ap Err p.2)
 
 pub returns-in_err-first-clause-writer : goal.returns-in_err-first-clause-writer

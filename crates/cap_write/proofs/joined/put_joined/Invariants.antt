@@ -1,14 +1,14 @@
-use Rattle.cap_merge.specs.Parts.{feed_of}
+use Rattle.cap_merge.specs.Parts.{merged_feed}
 use Rattle.cap_merge.specs.inner.View.{parts_of}
 use Rattle.cap_write.proofs.Joining.{Joining}
-use Rattle.cap_write.specs.inner.Forms.{state_of}
+use Rattle.cap_write.specs.inner.Forms.{form_state}
 use Rattle.cap_write.proofs.joined.put_joined.Given as goal
 
 -- the datagrams of the packets that were given are written, and the others are to be
 abbrev pub invariant-loop-joining : goal.invariant-loop-joining
 invariant-loop-joining g l =
-    Joining l.order (parts_of l.fn.merged) (parts_of l.merged) (state_of l.fn.form)
-    (state_of l.form) l.joining.joiner l.place
+    Joining l.order (parts_of l.fn.merged) (parts_of l.merged) (form_state l.fn.form)
+    (form_state l.form) l.joining.joiner l.place
     (g.W.Device.has_failed l.fn.writer) (g.W.Device.has_failed l.writer)
     (record {
       told = g.W.Sink.tells_held l.fn.writer;
@@ -24,4 +24,4 @@ invariant-loop-joining g l =
     })
 
 abbrev pub decreases-loop-joining : goal.decreases-loop-joining
-decreases-loop-joining g l = (feed_of (parts_of l.merged)).left
+decreases-loop-joining g l = (merged_feed (parts_of l.merged)).left

@@ -6,7 +6,7 @@ use Rattle.cap_source.proofs.Walking.{Walking-more, Prints-fault, Prints-end}
 use Rattle.cap_source.specs.inner.Walk.{ShowsItem}
 use Rattle.cap_write.proofs.Records.{plan_of, plan_of-is, plan_of-next, plan_of-refused}
 use Rattle.cap_write.proofs.Written.{Prints-one}
-use Rattle.cap_write.specs.Pcap.{record_fault, packet_record}
+use Rattle.cap_write.specs.Pcap.{written_record_fault, packet_record}
 use Rattle.cap_write.specs.Texts.{text_or}
 use Rattle.cap_write.proofs.Starting.{Walking-none, Walking-writer, unwritten, captured-few}
 use Rattle.cap_write.proofs.Writing.{WriterKeeps-behind}
@@ -35,7 +35,8 @@ returns-in_err-put_after_header-clause-text g c = λ t w.
     let first = c.args.first.now in
     rw (p.1, p.2)
     (Prints-one (plan_of c.args.order first) (plan_of c.args.order first) c.in_err-put_after_header.field-0.0 _ _ _ _ _
-    meta shown.frame c.frame.result.now (packet_record c.args.order first meta) (record_fault first meta) mid.items
+    meta shown.frame c.frame.result.now (packet_record c.args.order first meta) (written_record_fault first meta)
+    mid.items
     (drop 1 mid.items)
     (plan_of-refused c.args.order first meta shown.frame)
     (plan_of-next c.args.order first meta shown.frame) shows.1 c.frame.ensures.frame
@@ -50,7 +51,7 @@ loop-meta-preserved g c =
     let first = c.args.first.now in
     let meta = c.in-Some.meta in
     let e = c.in_ok-put_after_header.ensures in
-    let line = text_or (record_fault first meta) (packet_record c.args.order first meta shown.frame) in
+    let line = text_or (written_record_fault first meta) (packet_record c.args.order first meta shown.frame) in
     record {
       went =
           Went-more (g.F.PacketFeed.feed c.args.feed.now) mid shown (g.F.PacketFeed.feed c.pass.new.self) meta j.went

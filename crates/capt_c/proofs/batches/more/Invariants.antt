@@ -1,6 +1,6 @@
 use Rattle.std.proofs.Common.{◌≡◌, ◌≤◌, ◌-◌, length, take}
 use Rattle.std.specs.Prelude.{IsTrue}
-use Rattle.cap_source.specs.Feed.{Keeps}
+use Rattle.cap_source.specs.Feed.{FeedKeeps}
 use Rattle.capt_c.specs.Packets.{Told}
 use Rattle.capt_c.proofs.batches.more.Given as goal
 
@@ -8,7 +8,7 @@ use Rattle.capt_c.proofs.batches.more.Given as goal
 abbrev pub invariant-loop-count : goal.invariant-loop-count
 invariant-loop-count g l =
     let old = g.F.PacketFeed.feed l.fn.feed in let now = g.F.PacketFeed.feed l.feed in
-    (l.count ≤ length l.packets) × (length l.packets ≡ length l.fn.packets) × Keeps old now
+    (l.count ≤ length l.packets) × (length l.packets ≡ length l.fn.packets) × FeedKeeps old now
     × (IsTrue old.told → Told old.items (take l.count l.packets) now.items)
 
 abbrev pub decreases-loop-count : goal.decreases-loop-count

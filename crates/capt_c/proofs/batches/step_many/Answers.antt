@@ -2,14 +2,14 @@ use Rattle.std.proofs.Common.{Ok, true, slice_set, arith}
 use Rattle.std.proofs.lemmas.List.{length-append, length-set}
 use Rattle.cap_source.proofs.Onward.{Keeps-trans}
 use Rattle.capt_c.proofs.Telling.{Told-first}
-use Rattle.capt_c.specs.Packets.{Steps}
+use Rattle.capt_c.specs.Packets.{StepsPacket}
 use Rattle.capt_c.proofs.batches.step_many.Goals as goal
 
 pub returns-clause-answer : goal.returns-clause-answer
 returns-clause-answer g c =
     let old = g.F.PacketFeed.feed c.args.feed.now in let mid = g.F.PacketFeed.feed c.step.new.feed in
     let firsts = c.split_at_mut-first.result.0.now in let p = c.step.new.packet in
-    let stepped : Steps old (Ok true) p mid = rw c.if-not-branch.false at c.in_ok-step.ensures.answer in
+    let stepped : StepsPacket old (Ok true) p mid = rw c.if-not-branch.false at c.in_ok-step.ensures.answer in
     let sum = length-append (slice_set firsts 0 p) c.more.new.packets in
     let one = length-set firsts 0 p in (
       stepped.0,

@@ -1,10 +1,10 @@
 use Rattle.std.proofs.Common.{◌≡◌, ◌≤◌, length, map, take}
-use Rattle.capt_c.specs.Jobs.{bytes_of}
+use Rattle.capt_c.specs.Jobs.{file_bytes}
 use Rattle.capt_c.specs.Sources.{rest_of}
 use Rattle.capt_c.proofs.jobs.slices.Given as goal
 
 -- the files so far have a reader each
 abbrev pub invariant-loop-file : goal.invariant-loop-file
 invariant-loop-file l =
-    (map rest_of l.slices.items ≡ map bytes_of (take l.file-index l.fn.files)) × (l.file-index ≤ length l.fn.files)
+    (map rest_of l.slices.items ≡ map file_bytes (take l.file-index l.fn.files)) × (l.file-index ≤ length l.fn.files)
     × (length l.slices.items ≡ l.file-index)

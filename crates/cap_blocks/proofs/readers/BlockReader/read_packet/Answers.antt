@@ -1,8 +1,8 @@
 use Rattle.std.proofs.Common.{true, rules, ap, arith}
 use Rattle.cap_bytes.proofs.Readers.{Stands-passed, Reaches-here}
 use Rattle.cap_blocks.specs.inner.Parsing.{SeesBlock}
-use Rattle.cap_blocks.specs.inner.Reader.{block_size, state_of, size_of, body_of}
-use Rattle.cap_blocks.specs.Grammar.{is_known}
+use Rattle.cap_blocks.specs.inner.Reader.{block_size, block_reader_state, shown_block_size, body_of}
+use Rattle.cap_blocks.specs.Grammar.{is_known_kind}
 use Rattle.cap_blocks.proofs.Reading.{GivesBlock-found}
 use Rattle.cap_blocks.proofs.readers.BlockReader.read_packet.Goals as goal
 
@@ -19,7 +19,7 @@ returns-in-Some-clause-answer g c =
     (GivesBlock-found true i.window c.take_packet.new.window c.take_packet.new.window i.tail i.section i.given i.stop
     c.in-Some.block
     (grind arith) c.self.invariant.within (rw c.size_given.ensures at c.in-Some.ensures.passes)
-    (ap is_known c.in-Some.ensures.kind) (c.in-Some.ensures.sees i.tail))
+    (ap is_known_kind c.in-Some.ensures.kind) (c.in-Some.ensures.sees i.tail))
 
 pub returns-in-Some-clause-keeps : goal.returns-in-Some-clause-keeps
 returns-in-Some-clause-keeps g c =
@@ -30,9 +30,10 @@ returns-in-Some-clause-keeps g c =
 pub returns-in-Some-clause-reaches : goal.returns-in-Some-clause-reaches
 returns-in-Some-clause-reaches g c =
     let i = c.self.inside in
-    let at = Stands-passed i.window c.take_packet.new.window i.tail i.section (size_of i.given)
+    let at = Stands-passed i.window c.take_packet.new.window i.tail i.section (shown_block_size i.given)
     (body_of i.given i.window.shown) i.stop
     (grind arith) c.self.invariant.within (rw c.size_given.ensures at c.in-Some.ensures.passes) in
     rw (← c.self.view_is)
-    (Reaches-here (state_of i.window i.tail i.section i.given i.stop) c.take_packet.new.window c.take_packet.new.window
+    (Reaches-here (block_reader_state i.window i.tail i.section i.given i.stop) c.take_packet.new.window
+    c.take_packet.new.window
     at (block_size c.in-Some.block))

@@ -1,10 +1,10 @@
 use Rattle.std.proofs.Common.{arith}
-use Rattle.cap_ip.specs.Read.{IsShaped}
+use Rattle.cap_ip.specs.Read.{IsShapedPacket}
 use Rattle.cap_ip.proofs.Shapes.{IfFound-ended, IsShaped-found}
 use Rattle.cap_ip.proofs.headers.Header.read.Goals as goal
 
 pub returns-then-bytes-from-clause-shaped : goal.returns-then-bytes-from-clause-shaped
-returns-then-bytes-from-clause-shaped c = rw c.ended.ensures (IfFound-ended c.args.captured_whole IsShaped)
+returns-then-bytes-from-clause-shaped c = rw c.ended.ensures (IfFound-ended c.args.captured_whole IsShapedPacket)
 
 pub returns-then-bytes-from-2-clause-shaped : goal.returns-then-bytes-from-2-clause-shaped
 returns-then-bytes-from-2-clause-shaped c = grind (arith, IfFound-ended)

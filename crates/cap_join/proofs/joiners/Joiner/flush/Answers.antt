@@ -1,6 +1,6 @@
 use Rattle.std.proofs.Common.{sym, subst, arith}
-use Rattle.cap_join.specs.History.{state_of, step}
-use Rattle.cap_join.specs.Joiners.{JoinerState, StandsFor}
+use Rattle.cap_join.specs.History.{open_groups_after, step}
+use Rattle.cap_join.specs.Joiners.{JoinerState, JoinerStandsFor}
 use Rattle.cap_join.proofs.Steps.{AreEntriesOf-without}
 use Rattle.cap_join.proofs.Putting.{IsTable-removed}
 use Rattle.cap_join.proofs.joiners.Joiner.flush.Goals as goal
@@ -18,10 +18,10 @@ invariant_of-self c =
     )
 
 pub returns-clause-stands : goal.returns-clause-stands
-unfolding state_of step
+unfolding open_groups_after step
 returns-clause-stands c = λ events stands. grind (
   arith,
-  subst (λ (j : JoinerState). StandsFor j events) (sym c.self.view_is) stands,
+  subst (λ (j : JoinerState). JoinerStandsFor j events) (sym c.self.view_is) stands,
   AreEntriesOf-without,
   c.drop_group.ensures.entries,
   c.self.invariant.table.unique,

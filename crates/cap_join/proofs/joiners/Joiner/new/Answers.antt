@@ -1,6 +1,6 @@
 use Rattle.std.proofs.Common.{refl, arith}
 use Rattle.std.specs.List.{IsDistinct}
-use Rattle.cap_join.specs.History.{state_of}
+use Rattle.cap_join.specs.History.{open_groups_after}
 use Rattle.cap_join.proofs.joiners.Joiner.new.Goals as goal
 
 pub invariant_of-result : goal.invariant_of-result
@@ -13,5 +13,5 @@ invariant_of-result c = record {
 }
 
 pub returns-clause-stands : goal.returns-clause-stands
-unfolding state_of
+unfolding open_groups_after
 returns-clause-stands c = record { groups = tt; given_up = refl }

@@ -1,6 +1,6 @@
 use Rattle.std.proofs.Common.{refl, sym, ap, ◌∙◌, map}
 use Rattle.std.proofs.lemmas.List.{length-map}
-use Rattle.cap_merge.specs.Parts.{parts, feed_of, others_known}
+use Rattle.cap_merge.specs.Parts.{parts, merged_feed, others_known}
 use Rattle.cap_merge.specs.inner.Sound.{each-reached}
 use Rattle.cap_merge.proofs.Bounds.{asked-bounded}
 use Rattle.cap_merge.proofs.Calls.{asked-numbered, asked-sound-each, asked-known}
@@ -63,7 +63,7 @@ coming_at-requires-clause-known g c =
     c.ask_all.ensures.agrees c.in_ok-ask_all.ensures.asks)
 
 pub returns-clause-next : goal.returns-clause-next
-unfolding feed_of
+unfolding merged_feed
 returns-clause-next g c =
     let m = c.args.self.now in
     (rw c.as_slice-2.ensures.value at c.coming_at.ensures) (map g.F.PacketFeed.feed c.ask_all.new.feeds.items)

@@ -1,6 +1,6 @@
 use Rattle.std.proofs.Common.{sym, ◌∙◌, map, subst}
 use Rattle.cap_source.specs.Feed.{IsPacket}
-use Rattle.cap_merge.specs.Parts.{parts, feed_of}
+use Rattle.cap_merge.specs.Parts.{parts, merged_feed}
 use Rattle.cap_merge.proofs.FirstClock.{first-clock}
 use Rattle.cap_merge.proofs.Firsts.{known-there, frame-here, no-packet, packet-next}
 use Rattle.cap_merge.proofs.Placing.{none-placed, place_within}
@@ -39,7 +39,7 @@ invariant_of-result g c =
     let fs = m.feeds.items in
     let f = g.F.PacketFeed.feed in
     let at = sym c.first_place.ensures.place ∙ c.in-Some.is in
-    let next = packet-next (feed_of (parts ls (map f fs))).known c.requires in
+    let next = packet-next (merged_feed (parts ls (map f fs))).known c.requires in
     let clock = first-clock f g.met.F.PacketFeed.lawful ls fs c.in-Some.place m.some m.alike at next m.bounded m.reached
     c.clock_at.result.now (sym (rw c.as_slice.ensures.value at c.clock_at.ensures)) in
     record { bounded = clock.bounded }
@@ -52,7 +52,7 @@ returns g c =
     let f = g.F.PacketFeed.feed in
     let place = c.in-Some.place in
     let at = sym c.first_place.ensures.place ∙ c.in-Some.is in
-    let next = packet-next (feed_of (parts ls (map f fs))).known c.requires in
+    let next = packet-next (merged_feed (parts ls (map f fs))).known c.requires in
     let clock = first-clock f g.met.F.PacketFeed.lawful ls fs place m.some m.alike at next m.bounded m.reached
     c.clock_at.result.now (sym (rw c.as_slice.ensures.value at c.clock_at.ensures)) in
     record {

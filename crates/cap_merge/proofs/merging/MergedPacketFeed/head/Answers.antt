@@ -1,7 +1,7 @@
 use Rattle.std.proofs.Common.{map}
 use Rattle.std.proofs.lemmas.Result.{err_from_is_err_and}
 use Rattle.cap_source.specs.declared.feeds.Head.TheVariants.{Packet, Refused, End}
-use Rattle.cap_merge.specs.Parts.{parts, feed_of}
+use Rattle.cap_merge.specs.Parts.{parts, merged_feed}
 use Rattle.cap_merge.specs.inner.Sound.{lawful-each, numbered-from}
 use Rattle.cap_merge.proofs.Looking.{heads-known, heads-stopped, is-packet, refusal-comes, end-comes}
 use Rattle.cap_merge.proofs.merging.MergedPacketFeed.head.Goals as goal
@@ -30,7 +30,7 @@ pub packet-requires : goal.packet-requires
 packet-requires g c =
     let n = c.look.new.self in
     record {
-      packet = is-packet (feed_of (parts n.lanes.items (map g.F.PacketFeed.feed n.feeds.items))).known
+      packet = is-packet (merged_feed (parts n.lanes.items (map g.F.PacketFeed.feed n.feeds.items))).known
           (rw c.in-Packet.is at c.in_ok-look.ensures.next);
     }
 
@@ -51,7 +51,7 @@ returns-in-Refused g c =
     let ps = parts m.lanes.items (map g.F.PacketFeed.feed m.feeds.items) in
     let qs = parts n.lanes.items (map g.F.PacketFeed.feed n.feeds.items) in
     let lawful = lawful-each g.F.PacketFeed.feed g.met.F.PacketFeed.lawful n.lanes.items n.feeds.items in
-    let known = refusal-comes (feed_of qs).known c.in-Refused.refusal
+    let known = refusal-comes (merged_feed qs).known c.in-Refused.refusal
     (rw c.in-Refused.is at c.in_ok-look.ensures.next) in
     let h = heads-known ps qs (Refused c.in-Refused.refusal) c.in_ok-look.ensures.asks known lawful in
     record { answer = h.answer; keeps = h.keeps; items = h.items; asks = h.asks; run = h.run; clocks = h.clocks }
@@ -64,5 +64,5 @@ returns-in-End g c =
     let qs = parts n.lanes.items (map g.F.PacketFeed.feed n.feeds.items) in
     let lawful = lawful-each g.F.PacketFeed.feed g.met.F.PacketFeed.lawful n.lanes.items n.feeds.items in
     let h = heads-known ps qs End c.in_ok-look.ensures.asks
-    (end-comes (feed_of qs).known (rw c.in-End.is at c.in_ok-look.ensures.next)) lawful in
+    (end-comes (merged_feed qs).known (rw c.in-End.is at c.in_ok-look.ensures.next)) lawful in
     record { answer = h.answer; keeps = h.keeps; items = h.items; asks = h.asks; run = h.run; clocks = h.clocks }

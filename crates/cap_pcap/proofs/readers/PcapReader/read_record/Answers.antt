@@ -5,7 +5,7 @@ use Rattle.cap_bytes.proofs.Readers.{Reaches-stopped}
 use Rattle.cap_bytes.proofs.Parsing.{none_from}
 use Rattle.cap_bytes.specs.inner.Reach.{size_found}
 use Rattle.cap_bytes.specs.declared.stops.Stop.{Stop}
-use Rattle.cap_pcap.specs.inner.Reader.{GivesRecord, record_size, state_of, size_of, frame_of}
+use Rattle.cap_pcap.specs.inner.Reader.{GivesRecord, record_size, record_reader_state, shown_record_size, lent_frame}
 use Rattle.cap_pcap.specs.Split.{record_fault, captured_at}
 use Rattle.cap_pcap.proofs.Reading.{GivesRecord-seen}
 use Rattle.cap_pcap.proofs.readers.PcapReader.read_record.Goals as goal
@@ -15,14 +15,15 @@ returns-in_err-record-clause-answer g c =
     let p = err_from_is_err_and c.from_residual.result c.from_residual.ensures.1 in
     let i = c.self.inside in
     let order = c.args.header.order in
-    let old = state_of i.window i.tail i.header i.captured i.stop in
-    let at = Stands-passed i.window c.pass.new.self i.tail i.header (size_of i.captured)
-    (frame_of i.captured i.window.shown) i.stop
+    let old = record_reader_state i.window i.tail i.header i.captured i.stop in
+    let at = Stands-passed i.window c.pass.new.self i.tail i.header (shown_record_size i.captured)
+    (lent_frame i.captured i.window.shown) i.stop
     (none_from i.stop c.in_default.not-Some) c.self.invariant.within
     (rw c.size_given.ensures at c.pass.ensures.passes) in
     rw (← c.self.view_is, p.1, p.2)
     (GivesNext-failed old c.pass.new.self c.look_for_record.new.window at
-    (λ r. GivesRecord c.args.header old r (state_of c.look_for_record.new.window i.tail i.header None i.stop)) true
+    (λ r. GivesRecord c.args.header old r (record_reader_state c.look_for_record.new.window i.tail i.header None
+    i.stop)) true
     (record_fault order) 262160
     (λ offset bytes room. room < 16 + captured_at order bytes) c.in_err-record.field-0.0 c.in_err-record.ensures.answer)
 
@@ -39,9 +40,9 @@ pub returns-in-Err-clause-answer : goal.returns-in-Err-clause-answer
 returns-in-Err-clause-answer g c =
     let i = c.self.inside in
     let order = c.args.header.order in
-    let old = state_of i.window i.tail i.header i.captured i.stop in
-    let at = Stands-passed i.window c.pass.new.self i.tail i.header (size_of i.captured)
-    (frame_of i.captured i.window.shown) i.stop
+    let old = record_reader_state i.window i.tail i.header i.captured i.stop in
+    let at = Stands-passed i.window c.pass.new.self i.tail i.header (shown_record_size i.captured)
+    (lent_frame i.captured i.window.shown) i.stop
     (none_from i.stop c.in_default.not-Some) c.self.invariant.within
     (rw c.size_given.ensures at c.pass.ensures.passes) in
     rw (← c.self.view_is, c.answer-in-Err.ensures)
@@ -54,12 +55,12 @@ pub returns-in_err-record-clause-reaches : goal.returns-in_err-record-clause-rea
 returns-in_err-record-clause-reaches g c =
     let p = err_from_is_err_and c.from_residual.result c.from_residual.ensures.1 in
     let i = c.self.inside in
-    let at = Stands-passed i.window c.pass.new.self i.tail i.header (size_of i.captured)
-    (frame_of i.captured i.window.shown) i.stop
+    let at = Stands-passed i.window c.pass.new.self i.tail i.header (shown_record_size i.captured)
+    (lent_frame i.captured i.window.shown) i.stop
     (none_from i.stop c.in_default.not-Some) c.self.invariant.within
     (rw c.size_given.ensures at c.pass.ensures.passes) in
     rw (← c.self.view_is, p.1, p.2)
-    (Reaches-failed (state_of i.window i.tail i.header i.captured i.stop) c.pass.new.self
+    (Reaches-failed (record_reader_state i.window i.tail i.header i.captured i.stop) c.pass.new.self
     c.look_for_record.new.window at
     (option_map record_size) (size_found {E = Stop} record_size)
     (λ offset bytes. 16 + captured_at c.args.header.order bytes) c.in_err-record.field-0.0
@@ -68,12 +69,13 @@ returns-in_err-record-clause-reaches g c =
 pub returns-in-Ok-clause-reaches : goal.returns-in-Ok-clause-reaches
 returns-in-Ok-clause-reaches g c =
     let i = c.self.inside in
-    let at = Stands-passed i.window c.pass.new.self i.tail i.header (size_of i.captured)
-    (frame_of i.captured i.window.shown) i.stop
+    let at = Stands-passed i.window c.pass.new.self i.tail i.header (shown_record_size i.captured)
+    (lent_frame i.captured i.window.shown) i.stop
     (none_from i.stop c.in_default.not-Some) c.self.invariant.within
     (rw c.size_given.ensures at c.pass.ensures.passes) in
     rw (← c.self.view_is)
-    (Reaches-given (state_of i.window i.tail i.header i.captured i.stop) c.pass.new.self c.look_for_record.new.window at
+    (Reaches-given (record_reader_state i.window i.tail i.header i.captured i.stop) c.pass.new.self
+    c.look_for_record.new.window at
     (record_size c.in-Ok.record) (rw c.in-Ok.is at c.in_ok-record.ensures.reaches))
 
 pub returns-in-Err-clause-reaches : goal.returns-in-Err-clause-reaches

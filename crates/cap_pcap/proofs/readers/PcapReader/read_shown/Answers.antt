@@ -1,7 +1,7 @@
 use Rattle.std.proofs.Common.{rules, arith}
 use Rattle.cap_bytes.proofs.Readers.{Stands-passed, Reaches-here}
 use Rattle.cap_pcap.specs.inner.Parsing.{SeesRecord}
-use Rattle.cap_pcap.specs.inner.Reader.{record_size, state_of, size_of, frame_of}
+use Rattle.cap_pcap.specs.inner.Reader.{record_size, record_reader_state, shown_record_size, lent_frame}
 use Rattle.cap_pcap.proofs.Reading.{GivesRecord-seen}
 use Rattle.cap_pcap.proofs.readers.PcapReader.read_shown.Goals as goal
 
@@ -29,9 +29,10 @@ returns-in-Some-clause-keeps g c =
 pub returns-in-Some-clause-reaches : goal.returns-in-Some-clause-reaches
 returns-in-Some-clause-reaches g c =
     let i = c.self.inside in
-    let at = Stands-passed i.window c.take_shown.new.window i.tail i.header (size_of i.captured)
-    (frame_of i.captured i.window.shown) i.stop
+    let at = Stands-passed i.window c.take_shown.new.window i.tail i.header (shown_record_size i.captured)
+    (lent_frame i.captured i.window.shown) i.stop
     (grind arith) c.self.invariant.within (rw c.size_given.ensures at c.in-Some.ensures.passes) in
     rw (← c.self.view_is)
-    (Reaches-here (state_of i.window i.tail i.header i.captured i.stop) c.take_shown.new.window c.take_shown.new.window
+    (Reaches-here (record_reader_state i.window i.tail i.header i.captured i.stop) c.take_shown.new.window
+    c.take_shown.new.window
     at (record_size c.in-Some.record))

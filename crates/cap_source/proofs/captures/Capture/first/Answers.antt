@@ -2,14 +2,14 @@ use Rattle.std.proofs.Common.{◌∙◌}
 use Rattle.cap_source.proofs.Firsts.{knows, first_told, first_kept}
 use Rattle.cap_source.specs.inner.FileState.{head_of}
 use Rattle.cap_source.specs.inner.Reached.{progress_of}
-use Rattle.cap_source.specs.inner.Readers.{state_of}
+use Rattle.cap_source.specs.inner.Readers.{reader_file_state}
 use Rattle.cap_source.proofs.captures.Capture.first.Goals as goal
 
 pub returns-clause-answer : goal.returns-clause-answer
 returns-clause-answer g c =
     let was = c.args.self.now in
-    let old = state_of was.reader (progress_of was.reached) in
-    let new = state_of c.learn.new.reader (progress_of c.learn.new.reached) in
+    let old = reader_file_state was.reader (progress_of was.reached) in
+    let new = reader_file_state c.learn.new.reader (progress_of c.learn.new.reached) in
     let tells = c.in_ok-learn.ensures.answer in
     let next = tells.0 in (
       head_of next,
@@ -21,7 +21,7 @@ returns-clause-answer g c =
 pub returns-clause-items : goal.returns-clause-items
 returns-clause-items g c =
     let was = c.args.self.now in
-    let old = state_of was.reader (progress_of was.reached) in
-    let new = state_of c.learn.new.reader (progress_of c.learn.new.reached) in
+    let old = reader_file_state was.reader (progress_of was.reached) in
+    let new = reader_file_state c.learn.new.reader (progress_of c.learn.new.reached) in
     let tells = c.in_ok-learn.ensures.answer in
     λ t. first_kept old new was.next c.learn.new.known tells.0 tells.1 tells.2 t

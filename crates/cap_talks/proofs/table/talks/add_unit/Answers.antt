@@ -4,7 +4,7 @@ use Rattle.indexmap.specs.Layout.{set_value_at}
 use Rattle.cap_talks.specs.inner.table.Packed.{IsNarrow, unpacked_talks, are_packed}
 use Rattle.cap_talks.specs.table.Rows.{frames_of_row, bytes_of_row, row_in, with_share, is_in_order}
 use Rattle.cap_talks.specs.declared.table.rows.Share.{Share}
-use Rattle.cap_talks.specs.table.Talks.{key_of, row_of, same_talk}
+use Rattle.cap_talks.specs.table.Talks.{talk_key, row_of, same_talk}
 use Rattle.cap_talks.proofs.Packing.{there-more, new-more, refused-there, refused-new, set-are_packed, row-in}
 use Rattle.cap_talks.proofs.Packing.{at-packed, key-read}
 use Rattle.cap_talks.proofs.RowOrder.{row_in-order}
@@ -14,7 +14,7 @@ use Rattle.cap_talks.proofs.table.talks.add_unit.Goals as goal
 pub add_at-requires-clause-frames : goal.add_at-requires-clause-frames
 add_at-requires-clause-frames c =
     let es = c.args.rows.now.entries in
-    let within = frames-within (key_of c.args.unit.now) (unpacked_talks es) in
+    let within = frames-within (talk_key c.args.unit.now) (unpacked_talks es) in
     let same = ap frames_of_row
     (at-packed c.of-forward.result.0 es c.in-Some.place c.args.unit.now c.of-forward.ensures.value
     c.of-forward.ensures.narrow c.in-Some.ensures.value) in
@@ -23,7 +23,7 @@ add_at-requires-clause-frames c =
 pub add_at-requires-clause-bytes : goal.add_at-requires-clause-bytes
 add_at-requires-clause-bytes c =
     let es = c.args.rows.now.entries in
-    let within = bytes-within (key_of c.args.unit.now) (unpacked_talks es) in
+    let within = bytes-within (talk_key c.args.unit.now) (unpacked_talks es) in
     let same = ap bytes_of_row
     (at-packed c.of-forward.result.0 es c.in-Some.place c.args.unit.now c.of-forward.ensures.value
     c.of-forward.ensures.narrow c.in-Some.ensures.value) in

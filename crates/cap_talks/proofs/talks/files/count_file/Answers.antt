@@ -1,14 +1,14 @@
 use Rattle.std.proofs.Common.{arith, ◌∙◌, sym, ap, subst, Bool, IsTrue, Some}
 use Rattle.cap_source.specs.Feed.{refusal_of}
 use Rattle.cap_source.specs.declared.feeds.FileEnd.{FileEnd}
-use Rattle.cap_source.specs.inner.Captures.{feed_of}
+use Rattle.cap_source.specs.inner.Captures.{capture_feed}
 use Rattle.cap_talks.specs.counts.Counting.{packets_of, counted}
 use Rattle.cap_talks.proofs.talks.files.count_file.Goals as goal
 
 pub returns-clause-counts : goal.returns-clause-counts
 returns-clause-counts g c = λ t.
     let e = c.new-capture.ensures in
-    let told : IsTrue (feed_of c.new-capture.result).told = subst (λ (b : Bool). IsTrue b) (sym e.told) t in
+    let told : IsTrue (capture_feed c.new-capture.result).told = subst (λ (b : Bool). IsTrue b) (sym e.told) t in
     let a = c.in_ok-counts.ensures.counts told in (
       ap refusal_of (sym e.items) ∙ a.0,
       λ i. record {

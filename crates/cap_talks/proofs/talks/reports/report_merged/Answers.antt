@@ -1,6 +1,6 @@
 use Rattle.std.proofs.Common.{IsTrue, ℕ, List, sym, subst}
 use Rattle.cap_source.specs.inner.Walk.{Walks}
-use Rattle.cap_merge.specs.Parts.{Part, feed_of}
+use Rattle.cap_merge.specs.Parts.{Part, merged_feed}
 use Rattle.cap_talks.specs.inner.table.TableView.{table_of}
 use Rattle.cap_talks.specs.inner.talks.Reporting.{TellsReport}
 use Rattle.cap_talks.proofs.talks.reports.report_merged.Goals as goal
@@ -10,12 +10,15 @@ returns-clause-text g c = λ t w.
     let e = c.new-table.ensures in
     subst (λ (q : ℕ × List Part). TellsReport q.0 q.1 (g.W.Sink.held c.args.writer.now) c.report_table.result
     (g.W.Sink.held c.report_table.new.writer))
-    (λ i. (e.files i, e.parts i)) (c.report_table.ensures.text (subst (λ q. IsTrue (feed_of q).told) (sym e.parts) t) w)
+    (λ i. (
+      e.files i,
+      e.parts i,
+    )) (c.report_table.ensures.text (subst (λ q. IsTrue (merged_feed q).told) (sym e.parts) t) w)
 
 pub returns-clause-walks : goal.returns-clause-walks
 returns-clause-walks g c =
-    let new = feed_of (table_of c.report_table.new.table).parts in (
+    let new = merged_feed (table_of c.report_table.new.table).parts in (
       new,
-      subst (λ q. Walks (feed_of q) c.report_table.result new) c.new-table.ensures.parts
+      subst (λ q. Walks (merged_feed q) c.report_table.result new) c.new-table.ensures.parts
           c.report_table.ensures.walks,
     )

@@ -1,4 +1,4 @@
-use Rattle.cap_merge.specs.Parts.{feed_of}
+use Rattle.cap_merge.specs.Parts.{merged_feed}
 use Rattle.cap_merge.specs.inner.View.{parts_of}
 use Rattle.cap_talks.specs.inner.table.TableView.{table_of}
 use Rattle.cap_talks.proofs.Reporting.{Reporting}
@@ -9,4 +9,4 @@ abbrev pub invariant-loop : goal.invariant-loop
 invariant-loop g l = Reporting (table_of l.fn.table) (table_of l.table)
 
 abbrev pub decreases-loop : goal.decreases-loop
-decreases-loop g l = (feed_of (parts_of l.table.merged)).left
+decreases-loop g l = (merged_feed (parts_of l.table.merged)).left

@@ -2,13 +2,13 @@ use Rattle.std.proofs.Common.{◌∷◌, drop, length, List, Option, Err, inr, s
 use Rattle.std.proofs.lemmas.Result.{err_from_is_err_and}
 use Rattle.cap_source.proofs.Onward.{Keeps-trans}
 use Rattle.cap_merge.specs.inner.MergedLaws.{merged-is-feed}
-use Rattle.cap_merge.specs.Parts.{feed_of}
+use Rattle.cap_merge.specs.Parts.{merged_feed}
 use Rattle.cap_merge.specs.inner.View.{parts_of}
 use Rattle.cap_source.specs.declared.feeds.FeedHeld.{FeedHeld}
 use Rattle.cap_talks.specs.inner.table.Looking.{taken}
 use Rattle.cap_talks.specs.inner.table.Stepping.{next_taken, clocked}
 use Rattle.cap_talks.specs.table.Taken.{Taken}
-use Rattle.cap_talks.specs.inner.table.Tallies.{LimitBy, Stands}
+use Rattle.cap_talks.specs.inner.table.Tallies.{LimitBy, TallyStands}
 use Rattle.cap_talks.specs.table.CountedUnits.{is_limit_at}
 use Rattle.cap_talks.proofs.Stepping.{known-packet, known-end, faulted, stands-asked, next-is, first-asked, run-packet}
 use Rattle.cap_talks.proofs.Stepping.{run-end, of-file, is-left, found-packet, again-packet, again-end, again-fault}
@@ -34,7 +34,7 @@ returns-then-not-branch-clause-step g c =
     let p = parts_of c.args.self.now.merged in
     let q = parts_of m in
     let e = c.in_ok-has_packet.ensures in
-    let known = known-end (feed_of p) (feed_of q) c.in_ok-has_packet.field-0 c.if-not-branch.true e.answer in
+    let known = known-end (merged_feed p) (merged_feed q) c.in_ok-has_packet.field-0 c.if-not-branch.true e.answer in
     let law = merged-is-feed m g.met.F.PacketFeed.lawful in
     record {
       known = known.known;
@@ -53,12 +53,13 @@ take-requires-in-Ok-clause-first g c =
     let q = parts_of m in
     let e = c.in_ok-has_packet.ensures in
     let meta = c.next_packet-packet.result.meta.now in
-    let known = known-packet (feed_of p) (feed_of q) c.in_ok-has_packet.field-0 meta c.if-not-branch.false e.answer
+    let known = known-packet (merged_feed p) (merged_feed q) c.in_ok-has_packet.field-0 meta c.if-not-branch.false
+    e.answer
     c.next_packet-packet.ensures.packet in
     let law = merged-is-feed m g.met.F.PacketFeed.lawful in
     let t = c.args.self.now in
     (numbers-within 1 (length t.totals.files) meta.file
-    (of-file (feed_of q) meta (length t.totals.files) law known.known (e.keeps.files ∙ t.numbered))).0
+    (of-file (merged_feed q) meta (length t.totals.files) law known.known (e.keeps.files ∙ t.numbered))).0
 
 pub take-requires-in-Ok-clause-last : goal.take-requires-in-Ok-clause-last
 take-requires-in-Ok-clause-last g c =
@@ -67,14 +68,15 @@ take-requires-in-Ok-clause-last g c =
     let q = parts_of m in
     let e = c.in_ok-has_packet.ensures in
     let meta = c.next_packet-packet.result.meta.now in
-    let known = known-packet (feed_of p) (feed_of q) c.in_ok-has_packet.field-0 meta c.if-not-branch.false e.answer
+    let known = known-packet (merged_feed p) (merged_feed q) c.in_ok-has_packet.field-0 meta c.if-not-branch.false
+    e.answer
     c.next_packet-packet.ensures.packet in
     let law = merged-is-feed m g.met.F.PacketFeed.lawful in
     let t = c.args.self.now in
     omega (
       arith,
       (numbers-within 1 (length t.totals.files) meta.file
-          (of-file (feed_of q) meta (length t.totals.files) law known.known (e.keeps.files ∙ t.numbered))).1,
+          (of-file (merged_feed q) meta (length t.totals.files) law known.known (e.keeps.files ∙ t.numbered))).1,
     )
 
 pub take-requires-in-Ok-clause-few : goal.take-requires-in-Ok-clause-few
@@ -84,11 +86,12 @@ take-requires-in-Ok-clause-few g c =
     let q = parts_of m in
     let e = c.in_ok-has_packet.ensures in
     let meta = c.next_packet-packet.result.meta.now in
-    let known = known-packet (feed_of p) (feed_of q) c.in_ok-has_packet.field-0 meta c.if-not-branch.false e.answer
+    let known = known-packet (merged_feed p) (merged_feed q) c.in_ok-has_packet.field-0 meta c.if-not-branch.false
+    e.answer
     c.next_packet-packet.ensures.packet in
     let law = merged-is-feed m g.met.F.PacketFeed.lawful in
     let t = c.args.self.now in
-    omega (arith, t.counted, t.places, e.keeps.left, is-left (feed_of q) meta law known.known)
+    omega (arith, t.counted, t.places, e.keeps.left, is-left (merged_feed q) meta law known.known)
 
 pub returns-in-Ok-clause-step : goal.returns-in-Ok-clause-step
 returns-in-Ok-clause-step g c =
@@ -97,7 +100,8 @@ returns-in-Ok-clause-step g c =
     let q = parts_of m in
     let e = c.in_ok-has_packet.ensures in
     let meta = c.next_packet-packet.result.meta.now in
-    let known = known-packet (feed_of p) (feed_of q) c.in_ok-has_packet.field-0 meta c.if-not-branch.false e.answer
+    let known = known-packet (merged_feed p) (merged_feed q) c.in_ok-has_packet.field-0 meta c.if-not-branch.false
+    e.answer
     c.next_packet-packet.ensures.packet in
     let law = merged-is-feed m g.met.F.PacketFeed.lawful in
     let x = taken c.next_packet-packet.result.clock.now meta c.next_packet-packet.result.frame.now in
@@ -122,7 +126,7 @@ returns-in-Ok-clause-step g c =
       endings = λ t file. c.pass.ensures.passes.endings (e.keeps.told t) file ∙ (e.items t).endings file;
       stands = λ xs h.
           let asked = stands-asked c.args.self.now.tally p q xs e.asks h.tally in
-          let now = subst (λ (n : Option Taken). Stands c.args.self.now.tally xs n) next asked in
+          let now = subst (λ (n : Option Taken). TallyStands c.args.self.now.tally xs n) next asked in
           let took = c.in-Ok.ensures.stands xs now in (
             took.0,
             record {
@@ -140,14 +144,15 @@ returns-in-Err-Limit-clause-step g c =
     let q = parts_of m in
     let e = c.in_ok-has_packet.ensures in
     let meta = c.next_packet-packet.result.meta.now in
-    let known = known-packet (feed_of p) (feed_of q) c.in_ok-has_packet.field-0 meta c.if-not-branch.false e.answer
+    let known = known-packet (merged_feed p) (merged_feed q) c.in_ok-has_packet.field-0 meta c.if-not-branch.false
+    e.answer
     c.next_packet-packet.ensures.packet in
     let law = merged-is-feed m g.met.F.PacketFeed.lawful in
     let x = taken c.next_packet-packet.result.clock.now meta c.next_packet-packet.result.frame.now in
     let next = next-is q meta c.next_packet-packet.result.clock.now c.next_packet-packet.result.frame.now known.known
     c.next_packet-packet.ensures.clock c.next_packet-packet.ensures.frame in
-    let now = λ (xs : List Taken) (h : Stands c.args.self.now.tally xs (next_taken p)).
-    subst (λ (n : Option Taken). Stands c.args.self.now.tally xs n) next
+    let now = λ (xs : List Taken) (h : TallyStands c.args.self.now.tally xs (next_taken p)).
+    subst (λ (n : Option Taken). TallyStands c.args.self.now.tally xs n) next
     (stands-asked c.args.self.now.tally p q xs e.asks h) in
     inr (record {
       item = x;
@@ -165,7 +170,7 @@ returns-in-Err-Limit-clause-step g c =
       stays = record {
         stands = λ xs h. record {
           totals = h.totals;
-          tally = subst (λ (n : Option Taken). Stands c.take.new.self xs n) (sym next)
+          tally = subst (λ (n : Option Taken). TallyStands c.take.new.self xs n) (sym next)
               (c.in-Err-Limit.ensures.err xs (now xs h.tally));
         };
         going = refl;
@@ -179,14 +184,15 @@ returns-in-Err-Memory-clause-step g c =
     let q = parts_of m in
     let e = c.in_ok-has_packet.ensures in
     let meta = c.next_packet-packet.result.meta.now in
-    let known = known-packet (feed_of p) (feed_of q) c.in_ok-has_packet.field-0 meta c.if-not-branch.false e.answer
+    let known = known-packet (merged_feed p) (merged_feed q) c.in_ok-has_packet.field-0 meta c.if-not-branch.false
+    e.answer
     c.next_packet-packet.ensures.packet in
     let law = merged-is-feed m g.met.F.PacketFeed.lawful in
     let x = taken c.next_packet-packet.result.clock.now meta c.next_packet-packet.result.frame.now in
     let next = next-is q meta c.next_packet-packet.result.clock.now c.next_packet-packet.result.frame.now known.known
     c.next_packet-packet.ensures.clock c.next_packet-packet.ensures.frame in
-    let now = λ (xs : List Taken) (h : Stands c.args.self.now.tally xs (next_taken p)).
-    subst (λ (n : Option Taken). Stands c.args.self.now.tally xs n) next
+    let now = λ (xs : List Taken) (h : TallyStands c.args.self.now.tally xs (next_taken p)).
+    subst (λ (n : Option Taken). TallyStands c.args.self.now.tally xs n) next
     (stands-asked c.args.self.now.tally p q xs e.asks h) in
     record {
       cause = inr (record { item = x; next = next; kept = λ xs h. c.in-Err-Memory.ensures.grows xs (now xs h.tally) });
@@ -195,10 +201,10 @@ returns-in-Err-Memory-clause-step g c =
       stays = record {
         stands = λ xs h.
             let asked = stands-asked c.args.self.now.tally p q xs e.asks h.tally in
-            let now = subst (λ (n : Option Taken). Stands c.args.self.now.tally xs n) next asked in
+            let now = subst (λ (n : Option Taken). TallyStands c.args.self.now.tally xs n) next asked in
             record {
               totals = h.totals;
-              tally = subst (λ (n : Option Taken). Stands c.take.new.self xs n) (sym next)
+              tally = subst (λ (n : Option Taken). TallyStands c.take.new.self xs n) (sym next)
                   (c.in-Err-Memory.ensures.err xs now);
             };
         going = refl;

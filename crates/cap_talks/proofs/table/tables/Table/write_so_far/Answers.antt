@@ -3,7 +3,7 @@ use Rattle.std.specs.Prelude.{if◌then◌else◌}
 use Rattle.std.proofs.lemmas.Result.{err_from_is_err_and}
 use Rattle.cap_bytes.proofs.Putting.{Prints-head, Prints-behind}
 use Rattle.cap_bytes.specs.Printing.{Prints}
-use Rattle.cap_merge.specs.Parts.{feed_of}
+use Rattle.cap_merge.specs.Parts.{merged_feed}
 use Rattle.cap_merge.specs.inner.View.{parts_of}
 use Rattle.cap_talks.specs.counts.FileLines.{files_text}
 use Rattle.cap_talks.specs.counts.FileLines.{ended_from, counted_texts}
@@ -18,7 +18,7 @@ pub returns-in_err-put_files-clause-text : goal.returns-in_err-put_files-clause-
 returns-in_err-put_files-clause-text g c = λ xs stands w.
     let t = c.args.self.now in
     let p = err_from_is_err_and c.from_residual.result c.from_residual.ensures.1 in
-    let endings = if t.done then Some (feed_of (parts_of t.merged)).endings else None in
+    let endings = if t.done then Some (merged_feed (parts_of t.merged)).endings else None in
     let ended = c.as_slice.result.now in
     let file_lines = files_text (length ended) ++ counted_texts 1 ended in
     let ended_is = rw (ap (ended_from endings 1) c.files.ensures.files) at (c.as_slice.ensures.value
@@ -36,7 +36,7 @@ pub returns-in_err-put_all-clause-text : goal.returns-in_err-put_all-clause-text
 returns-in_err-put_all-clause-text g c = λ xs stands w.
     let t = c.args.self.now in
     let p = err_from_is_err_and c.from_residual-in_err-put_all.result c.from_residual-in_err-put_all.ensures.1 in
-    let endings = if t.done then Some (feed_of (parts_of t.merged)).endings else None in
+    let endings = if t.done then Some (merged_feed (parts_of t.merged)).endings else None in
     let ended = c.as_slice.result.now in
     let file_lines = files_text (length ended) ++ counted_texts 1 ended in
     let ended_is = rw (ap (ended_from endings 1) c.files.ensures.files) at (c.as_slice.ensures.value
@@ -59,7 +59,7 @@ returns-in_err-put_all-clause-text g c = λ xs stands w.
 pub returns-clause-text : goal.returns-clause-text
 returns-clause-text g c = λ xs stands w.
     let t = c.args.self.now in
-    let endings = if t.done then Some (feed_of (parts_of t.merged)).endings else None in
+    let endings = if t.done then Some (merged_feed (parts_of t.merged)).endings else None in
     let ended = c.as_slice.result.now in
     let file_lines = files_text (length ended) ++ counted_texts 1 ended in
     let ended_is = rw (ap (ended_from endings 1) c.files.ensures.files) at (c.as_slice.ensures.value

@@ -2,16 +2,16 @@ use Rattle.std.proofs.Common.{◌≡◌, false, ◌∷◌, List, length, Some, E
 use Rattle.std.specs.Prelude.{OnOk, OnErr, Result, Ok, Option}
 use Rattle.cap_talks.specs.inner.table.Looking.{is_plain}
 use Rattle.cap_talks.specs.table.Taken.{Taken, look}
-use Rattle.cap_talks.specs.inner.table.Tallies.{TallyState, Stands, Looks}
+use Rattle.cap_talks.specs.inner.table.Tallies.{TallyState, TallyStands, Looks}
 use Rattle.cap_talks.specs.table.CountedUnits.{is_limit_at}
 use Rattle.cap_talks.specs.declared.table.talks.TalksFault.{TalksFault}
 use Rattle.cap_talks.proofs.table.tallies.Tally.take.Goals as goal
 
 -- a datagram that waited, of the packet
 taken_on : (old mid new : TallyState) (x : Taken) (result : Result (Unit {0}) TalksFault)
-    → ((xs : List Taken) → Stands old xs (Some x) → Stands mid xs (Some x))
-    → OnOk result ((xs : List Taken) (y : Taken) → Stands mid xs (Some y) → (is_limit_at xs y ≡ false)
-    × ((next : Option Taken) → Stands new (y ∷ xs) next))
+    → ((xs : List Taken) → TallyStands old xs (Some x) → TallyStands mid xs (Some x))
+    → OnOk result ((xs : List Taken) (y : Taken) → TallyStands mid xs (Some y) → (is_limit_at xs y ≡ false)
+    × ((next : Option Taken) → TallyStands new (y ∷ xs) next))
     → OnOk result (Looks old x false new)
 taken_on old mid new x (Ok u) f h = λ xs s. h xs x (f xs s)
 taken_on old mid new x (Err e) f h = tt
@@ -31,9 +31,9 @@ returns-then-branch-clause-stands c =
 
 -- a packet of which something is kept
 kept_on : (old mid : TallyState) (x : Taken) (result : Result (Unit {0}) TalksFault)
-    → ((xs : List Taken) → Stands old xs (Some x) → Stands mid xs (Some x))
-    → OnErr result ((xs : List Taken) (y : Taken) → Stands mid xs (Some y) → is_plain (look (length xs) y) ≡ false)
-    → OnErr result ((xs : List Taken) → Stands old xs (Some x) → is_plain (look (length xs) x) ≡ false)
+    → ((xs : List Taken) → TallyStands old xs (Some x) → TallyStands mid xs (Some x))
+    → OnErr result ((xs : List Taken) (y : Taken) → TallyStands mid xs (Some y) → is_plain (look (length xs) y) ≡ false)
+    → OnErr result ((xs : List Taken) → TallyStands old xs (Some x) → is_plain (look (length xs) x) ≡ false)
 kept_on old mid x (Ok u) f h = tt
 kept_on old mid x (Err e) f h = λ xs s. h xs x (f xs s)
 

@@ -1,8 +1,8 @@
 use Rattle.std.proofs.Common.{rules, ℕ, ◌<◌, ◌++◌, length, Some, Err, sym, ap, ◌∙◌, subst, arith}
 use Rattle.std.proofs.lemmas.Result.{err_from_is_err_and}
 use Rattle.cap_ip.specs.Transport.{transport_of}
-use Rattle.cap_talks.specs.table.Rows.{StandsFor}
-use Rattle.cap_talks.specs.table.Talks.{frames_of, bytes_of}
+use Rattle.cap_talks.specs.table.Rows.{TalksStandFor}
+use Rattle.cap_talks.specs.table.Talks.{frames_of, units_bytes}
 use Rattle.cap_talks.proofs.SumLaws.{sum_law}
 use Rattle.cap_talks.specs.inner.table.Adding.{is_over}
 use Rattle.cap_talks.specs.table.Classes.{class_of}
@@ -41,7 +41,7 @@ add_unit-requires-clause-bytes c =
       arith,
       one.0,
       one.1,
-      ap (λ u. bytes_of (listed u)) c.whole_unit.ensures,
+      ap (λ u. units_bytes (listed u)) c.whole_unit.ensures,
       s.bytes,
       frames-taken t s.taken s.next (λ us. (sum_law us).frames) s.stands,
       s.few,
@@ -87,7 +87,7 @@ invariant_of-self-2 c =
     sound-datagram t x (ap (λ (n : TallyState). n.waiting) c.self.view_is ∙ c.requires.none) header captured
     c.requires.look
     c.add_unit.new.talks _
-    (λ us stands. subst (λ u. StandsFor c.add_unit.new.talks (us ++ listed u)) unit (e.stands us stands))
+    (λ us stands. subst (λ u. TalksStandFor c.add_unit.new.talks (us ++ listed u)) unit (e.stands us stands))
     (λ es stands. search rules)
     _ (c.count_frames.ensures
     ∙ (λ i. with_frames ((c.class_of.ensures ∙ ap class_of (c.transport-seen.ensures
@@ -99,7 +99,7 @@ invariant_of-self-2 c =
       e.bytes,
       s.bytes,
       one.1,
-      ap (λ u. bytes_of (listed u)) c.whole_unit.ensures,
+      ap (λ u. units_bytes (listed u)) c.whole_unit.ensures,
       ap (λ u. frames_of (listed u)) c.whole_unit.ensures,
     ))
 
@@ -115,7 +115,7 @@ returns-clause-looks c =
     (looks-datagram t x (ap (λ (n : TallyState). n.waiting) c.self.view_is ∙ c.requires.none) header captured
     c.requires.look
     c.add_unit.new.talks _
-    (λ us stands. subst (λ u. StandsFor c.add_unit.new.talks (us ++ listed u)) unit (e.stands us stands))
+    (λ us stands. subst (λ u. TalksStandFor c.add_unit.new.talks (us ++ listed u)) unit (e.stands us stands))
     (λ es stands. search rules)
     _ (c.count_frames.ensures
     ∙ (λ i. with_frames ((c.class_of.ensures ∙ ap class_of (c.transport-seen.ensures

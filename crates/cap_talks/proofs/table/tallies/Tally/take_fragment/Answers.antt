@@ -1,7 +1,7 @@
 use Rattle.std.proofs.Common.{rules, ℕ, ◌∷◌, ap, ◌∙◌, subst, arith}
 use Rattle.cap_join.specs.inner.Fitting.{FitsPut}
 use Rattle.cap_join.specs.Fragments.{piece_of}
-use Rattle.cap_join.specs.History.{arrives, joined_pieces, state_of}
+use Rattle.cap_join.specs.History.{arrives, joined_pieces, open_groups_after}
 use Rattle.cap_join.specs.Joiners.{IsAnswer, open_limit}
 use Rattle.cap_join.specs.Joiners as joiners
 use Rattle.cap_talks.specs.inner.table.Looking.{taken_of}
@@ -24,12 +24,13 @@ invariant_of-self c =
     sound-kept t x (ap (λ (n : TallyState). n.waiting) c.self.view_is ∙ c.requires.none) p
     c.requires.look
     c.put.new.self
-    (λ es stands. subst (λ s. joiners.StandsFor c.put.new.self
+    (λ es stands. subst (λ s. joiners.JoinerStandsFor c.put.new.self
     (arrives c.args.packet.clock.now (piece_of c.args.header c.args.bytes.now s) ∷ es)) own (e.stands es stands))
-    (λ es stands. kept-of _ (joined_pieces c.args.packet.clock.now (p t.place) (state_of open_limit es))
+    (λ es stands. kept-of _ (joined_pieces c.args.packet.clock.now (p t.place) (open_groups_after open_limit es))
     c.in-Ok-Kept.field-0-is
     (subst (λ s. IsAnswer c.in-Ok-Kept.field-0
-    (joined_pieces c.args.packet.clock.now (piece_of c.args.header c.args.bytes.now s) (state_of open_limit es))) own
+    (joined_pieces c.args.packet.clock.now (piece_of c.args.header c.args.bytes.now s)
+    (open_groups_after open_limit es))) own
     (e.answer es stands)))
     _ c.with_frames-self-inside.ensures
     c.self.invariant (omega (arith, c.requires.few, ap (λ (n : TallyState). n.place) c.self.view_is))
@@ -46,12 +47,13 @@ returns-in-Ok-Kept-clause-looks c =
     (looks-kept t x (ap (λ (n : TallyState). n.waiting) c.self.view_is ∙ c.requires.none) p
     c.requires.look
     c.put.new.self
-    (λ es stands. subst (λ s. joiners.StandsFor c.put.new.self
+    (λ es stands. subst (λ s. joiners.JoinerStandsFor c.put.new.self
     (arrives c.args.packet.clock.now (piece_of c.args.header c.args.bytes.now s) ∷ es)) own (e.stands es stands))
-    (λ es stands. kept-of _ (joined_pieces c.args.packet.clock.now (p t.place) (state_of open_limit es))
+    (λ es stands. kept-of _ (joined_pieces c.args.packet.clock.now (p t.place) (open_groups_after open_limit es))
     c.in-Ok-Kept.field-0-is
     (subst (λ s. IsAnswer c.in-Ok-Kept.field-0
-    (joined_pieces c.args.packet.clock.now (piece_of c.args.header c.args.bytes.now s) (state_of open_limit es))) own
+    (joined_pieces c.args.packet.clock.now (piece_of c.args.header c.args.bytes.now s)
+    (open_groups_after open_limit es))) own
     (e.answer es stands)))
     _ c.with_frames-self-inside.ensures)
 
@@ -65,13 +67,14 @@ invariant_of-self-in-Ok-Joined c =
     sound-waiting t x (ap (λ (n : TallyState). n.waiting) c.self.view_is ∙ c.requires.none) p
     c.requires.look
     c.put.new.self
-    (λ es stands. subst (λ s. joiners.StandsFor c.put.new.self
+    (λ es stands. subst (λ s. joiners.JoinerStandsFor c.put.new.self
     (arrives c.args.packet.clock.now (piece_of c.args.header c.args.bytes.now s) ∷ es)) own (e.stands es stands))
     c.in-Ok-Joined.datagram
     (λ es stands. joined-of _ c.in-Ok-Joined.datagram
-    (joined_pieces c.args.packet.clock.now (p t.place) (state_of open_limit es)) c.in-Ok-Joined.field-0-is
+    (joined_pieces c.args.packet.clock.now (p t.place) (open_groups_after open_limit es)) c.in-Ok-Joined.field-0-is
     (subst (λ s. IsAnswer c.in-Ok-Joined.field-0
-    (joined_pieces c.args.packet.clock.now (piece_of c.args.header c.args.bytes.now s) (state_of open_limit es))) own
+    (joined_pieces c.args.packet.clock.now (piece_of c.args.header c.args.bytes.now s)
+    (open_groups_after open_limit es))) own
     (e.answer es stands)))
     c.self.invariant (omega (arith, e.next, ap (λ s. s.place) own)) (subst FitsPut c.in-Ok-Joined.field-0-is e.fits)
 
@@ -86,11 +89,12 @@ returns-in-Ok-Joined-clause-looks c =
     (looks-waiting t x (ap (λ (n : TallyState). n.waiting) c.self.view_is ∙ c.requires.none) p
     c.requires.look
     c.put.new.self
-    (λ es stands. subst (λ s. joiners.StandsFor c.put.new.self
+    (λ es stands. subst (λ s. joiners.JoinerStandsFor c.put.new.self
     (arrives c.args.packet.clock.now (piece_of c.args.header c.args.bytes.now s) ∷ es)) own (e.stands es stands))
     c.in-Ok-Joined.datagram
     (λ es stands. joined-of _ c.in-Ok-Joined.datagram
-    (joined_pieces c.args.packet.clock.now (p t.place) (state_of open_limit es)) c.in-Ok-Joined.field-0-is
+    (joined_pieces c.args.packet.clock.now (p t.place) (open_groups_after open_limit es)) c.in-Ok-Joined.field-0-is
     (subst (λ s. IsAnswer c.in-Ok-Joined.field-0
-    (joined_pieces c.args.packet.clock.now (piece_of c.args.header c.args.bytes.now s) (state_of open_limit es))) own
+    (joined_pieces c.args.packet.clock.now (piece_of c.args.header c.args.bytes.now s)
+    (open_groups_after open_limit es))) own
     (e.answer es stands))))

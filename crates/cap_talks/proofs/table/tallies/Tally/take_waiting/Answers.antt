@@ -1,10 +1,10 @@
 use Rattle.std.proofs.Common.{rules, ◌≤◌, ◌++◌, sym, ap, ◌∙◌, subst, arith}
 use Rattle.std.proofs.lemmas.Result.{err_from_is_err_and}
-use Rattle.cap_talks.specs.table.Rows.{StandsFor}
-use Rattle.cap_talks.specs.table.Talks.{frames_of, bytes_of}
+use Rattle.cap_talks.specs.table.Rows.{TalksStandFor}
+use Rattle.cap_talks.specs.table.Talks.{frames_of, units_bytes}
 use Rattle.cap_talks.proofs.SumLaws.{sum_law}
 use Rattle.cap_talks.specs.inner.table.Adding.{is_over}
-use Rattle.cap_talks.specs.inner.table.Tallies.{TallyState, Fits, counted_one, with_group}
+use Rattle.cap_talks.specs.inner.table.Tallies.{TallyState, WaitingFits, counted_one, with_group}
 use Rattle.cap_talks.specs.inner.table.TallyView.{tally_view}
 use Rattle.cap_talks.specs.table.CountedUnits.{listed}
 use Rattle.cap_talks.proofs.UnitOrder.{waiting-order}
@@ -17,7 +17,7 @@ add_unit-requires-clause-frames c =
     let t = tally_view c.self.inside in
     let s = c.self.invariant in
     let d = c.in-Some.datagram in
-    let fits = subst (λ w. Fits w t.place) c.in-Some.is s.fits in
+    let fits = subst (λ w. WaitingFits w t.place) c.in-Some.is s.fits in
     omega (
       arith,
       (numbers-joined d fits.bytes).0,
@@ -33,14 +33,14 @@ add_unit-requires-clause-bytes c =
     let t = tally_view c.self.inside in
     let s = c.self.invariant in
     let d = c.in-Some.datagram in
-    let fits = subst (λ w. Fits w t.place) c.in-Some.is s.fits in
+    let fits = subst (λ w. WaitingFits w t.place) c.in-Some.is s.fits in
     let both = numbers-joined d fits.bytes in
     omega (
       arith,
       both.0,
       both.1,
       s.bytes,
-      ap (λ u. bytes_of (listed u)) c.joined_unit.ensures,
+      ap (λ u. units_bytes (listed u)) c.joined_unit.ensures,
       frames-taken t s.taken s.next (λ us. (sum_law us).frames) s.stands,
       enough-for t d s.taken s.next c.in-Some.is s.stands,
       sum-taken t s.taken s.next s.stands,
@@ -75,12 +75,12 @@ invariant_of-self-2 c =
     let s = c.self.invariant in
     let d = c.in-Some.datagram in
     let e = c.in_ok-add_unit.ensures in
-    let fits = subst (λ w. Fits w t.place) c.in-Some.is s.fits in
+    let fits = subst (λ w. WaitingFits w t.place) c.in-Some.is s.fits in
     let both = numbers-joined d fits.bytes in
     let counted = c.counted_one.ensures ∙ ap counted_one c.joined_class-class.ensures in
     rw counted
     (sound-joined t d c.in-Some.is c.add_unit.new.talks
-    (λ us stands. subst (λ u. StandsFor c.add_unit.new.talks (us ++ listed u)) c.joined_unit.ensures
+    (λ us stands. subst (λ u. TalksStandFor c.add_unit.new.talks (us ++ listed u)) c.joined_unit.ensures
     (e.stands us stands))
     c.with_group-self-inside.result (c.with_group-self-inside.ensures
     ∙ ap (λ k. with_group k d.frames t.classes) c.joined_class-class.ensures)
@@ -91,7 +91,7 @@ invariant_of-self-2 c =
       e.bytes,
       s.bytes,
       both.1,
-      ap (λ u. bytes_of (listed u)) c.joined_unit.ensures,
+      ap (λ u. units_bytes (listed u)) c.joined_unit.ensures,
       ap (λ u. frames_of (listed u)) c.joined_unit.ensures,
     )))
 
@@ -103,7 +103,7 @@ returns-clause-stands c =
     let counted = c.counted_one.ensures ∙ ap counted_one c.joined_class-class.ensures in
     rw (counted, ← c.self.view_is)
     (stands-joined t d c.in-Some.is c.add_unit.new.talks
-    (λ us stands. subst (λ u. StandsFor c.add_unit.new.talks (us ++ listed u)) c.joined_unit.ensures
+    (λ us stands. subst (λ u. TalksStandFor c.add_unit.new.talks (us ++ listed u)) c.joined_unit.ensures
     (e.stands us stands))
     c.with_group-self-inside.result (c.with_group-self-inside.ensures
     ∙ ap (λ k. with_group k d.frames t.classes) c.joined_class-class.ensures)
