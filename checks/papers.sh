@@ -101,6 +101,9 @@ judged("docs/CLAIMS.md, tests", named == kept, f"no such test: {sorted(named - k
 
 page = subprocess.run([f"{top}/checks/trusted.py", "--page"], capture_output=True, text=True).stdout
 judged("docs/TRUSTED.md", page == text_of("docs/TRUSTED.md"), "isn't what checks/trusted.py --page prints")
+page = subprocess.run([f"{top}/checks/definitions.py"], capture_output=True, text=True)
+judged("docs/DEFINITIONS.md", page.stdout == text_of("docs/DEFINITIONS.md"), "isn't what checks/definitions.py prints")
+judged("docs/DEFINITIONS.md, comments", page.returncode == 0, page.stderr)
 ran_merge = re.search(r"^merge: (\d+) definitions, (\d+) lines", ran.stdout, re.M)
 readme = text_of("README.md")
 edits = [text_of(f"crates/{crate}/must-fail/{name}") for crate in os.listdir(f"{top}/crates")

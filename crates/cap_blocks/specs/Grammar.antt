@@ -1,4 +1,5 @@
--- Which bytes spell the blocks of a pcapng file, and which bytes are written for them.
+-- Which bytes spell the blocks of a pcapng file, and which bytes are written for them
+-- (draft-ietf-opsawg-pcapng, 3.1, 3.5 and 4.1 to 4.4).
 use Rattle.std.specs.Prelude.{◌≡◌, ◌==◌, ◌||◌, ◌&&◌, ℕ, ◌+◌, ◌/◌, ◌%◌, ◌-◌, nat_le, not, Bool, IsTrue, ◌^◌}
 use Rattle.std.specs.Prelude.{if◌then◌else◌, List, [], ◌∷◌, ◌++◌, length, take, drop, replicate}
 use Rattle.std.specs.Int.{w64, cast_unsigned}

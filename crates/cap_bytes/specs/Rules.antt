@@ -7,6 +7,7 @@ use Rattle.cap_bytes.specs.declared.faults.Rule.TheVariants.{OptionLength, Resol
 use Rattle.cap_bytes.specs.declared.faults.Rule.TheVariants.{OpenLimit, TalkLimit, NoTime, LinkMixed, Inexact}
 use Rattle.cap_bytes.specs.declared.faults.Rule.TheVariants.{TimeRange, NoInterface}
 
+-- the number that is printed of a rule
 abbrev pub rule_number : Rule → ℕ
 rule_number Magic = 1
 rule_number Version = 2

@@ -1,8 +1,9 @@
--- What an IPv4 header says.
+-- What an IPv4 header says (RFC 791, 3.1 and 3.2).
 use Rattle.std.specs.Prelude.{◌≡◌, ℕ, Option, ◌<◌, ◌≤◌, ◌+◌, ◌%◌, IsTrue, IfSome}
 use Rattle.cap_ip.specs.declared.headers.Key.{Key}
 use Rattle.cap_ip.specs.declared.headers.Fragment.{Fragment}
 
+-- the fields of a header, and where its fragment lies, if it is of one
 pub record HeaderFields : Type 0 where
   pub key : Key
   pub service : ℕ

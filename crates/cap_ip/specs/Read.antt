@@ -1,4 +1,4 @@
--- How an IPv4 header is read from the bytes of a packet.
+-- How an IPv4 header is read from the bytes of a packet (RFC 791, 3.1).
 use Rattle.std.specs.Prelude.{◌≡◌, ℕ, List, Bool, Option, Some, None, ◌+◌, ◌≤◌, ◌%◌, ◌==◌, ◌||◌, ◌&&◌, length, take}
 use Rattle.std.specs.Prelude.{drop, nat_lt, not, IsSome, if◌then◌else◌, ⊤}
 use Rattle.cap_ip.specs.declared.headers.Key.{Key}

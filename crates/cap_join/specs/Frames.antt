@@ -1,5 +1,5 @@
--- What is told of the frames of a group of fragments, which are listed with the latest first; and when a group is too
--- old.
+-- The frames of a group of fragments, listed with the latest first; and when a group is too old (RFC 791, 3.2; 30
+-- seconds are capt's own, as Linux has them).
 use Rattle.std.specs.Prelude.{ℕ, List, [], ◌∷◌, Bool, false, Option, None, Some, ◌+◌, if◌then◌else◌}
 use Rattle.std.specs.Option.{option_cmp}
 use Rattle.std.specs.Ordering.{is_lt}

@@ -1,4 +1,4 @@
--- The network part of a frame, by its link type (LINKTYPE registry).
+-- The network part of a frame, by its link type (LINKTYPE registry; IEEE 802.3).
 use Rattle.std.specs.Prelude.{ℕ, List, Bool, ◌==◌, ◌/◌, nat_le, nat_lt, length, drop, slice_index, if◌then◌else◌}
 use Rattle.cap_bytes.specs.Number.{number}
 use Rattle.cap_bytes.specs.declared.numbers.Order.TheVariants.{Big}

@@ -3,6 +3,7 @@ use Rattle.std.specs.Prelude.{ℕ, List}
 use Rattle.cap_link.specs.declared.networks.Network.{Network}
 use Rattle.cap_link.specs.declared.networks.Network.TheVariants as variant
 
+-- what a frame carries: the bytes of an IPv4 packet, or why there are none
 pub data Carried : Type 0 where
   ipv4 : List ℕ → Carried
   other_link : Carried

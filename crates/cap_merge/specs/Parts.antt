@@ -20,6 +20,7 @@ use Rattle.cap_time.specs.Clock.{clock_cmp}
 use Rattle.cap_merge.specs.inner.First.{Turn, head_coming, has_next, first_place}
 use Rattle.cap_merge.specs.Run.{Track, Clocked, run}
 
+-- the time of the packet that comes next, if it has one
 abbrev pub head_time : Head → Option Stamp
 head_time (heads.Packet meta) = meta_time meta
 head_time (heads.Refused refusal) = None

@@ -1,4 +1,5 @@
--- What the blocks of a pcapng file say, and the first rule that their bodies break.
+-- What the blocks of a pcapng file say, and the first rule that their bodies break (draft-ietf-opsawg-pcapng, 4.1 to
+-- 4.4 and Appendix A).
 use Rattle.std.specs.Prelude.{◌==◌, ◌||◌, ◌*◌, ◌+◌, ◌^◌, nat_lt, ℕ, if◌then◌else◌, List, length, drop, slice_get}
 use Rattle.std.specs.Prelude.{Option, Some, None, Result, Ok, Err}
 use Rattle.cap_bytes.specs.Number.{number}

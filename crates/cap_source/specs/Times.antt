@@ -1,4 +1,4 @@
--- The time of a packet.
+-- The time of a packet (draft-ietf-opsawg-pcapng, 4.2).
 use Rattle.std.specs.Prelude.{Option}
 use Rattle.std.specs.Option.{option_map}
 use Rattle.cap_time.specs.Stamp.{stamp_in}

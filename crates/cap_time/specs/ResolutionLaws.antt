@@ -7,6 +7,7 @@ use Rattle.cap_time.specs.declared.resolutions.Resolution.{Resolution}
 use Rattle.cap_time.specs.Code.{is_binary, exponent_of, is_allowed, units_of_code}
 use Rattle.cap_time.specs.Resolution.{units_of}
 
+-- powers of ten and of two lie between 1 and the greatest that is allowed
 pub power_of_ten : (e : ℕ) → e ≤ 19 → (10 ^ e ≤ 10 ^ 19) × (1 ≤ 10 ^ e)
 power_of_ten e h = (pow-le-pow_right (lit≤ tt) h, one-le-pow e 10 (lit≤ tt))
 

@@ -1,4 +1,5 @@
--- What contracts see of a `Stamp`: its printed form, its time, and how stamps compare.
+-- What contracts see of a `Stamp`: its printed form, its time, and how stamps compare
+-- (draft-ietf-opsawg-pcapng, 4.2).
 use Rattle.std.specs.Prelude.{ℕ, ◌+◌, ◌*◌, ◌/◌, ◌%◌, ◌^◌, ℤ, pos, ◌+ℤ◌, ◌*ℤ◌, Bool, Option, Some, None, ◌==◌}
 use Rattle.std.specs.Prelude.{if◌then◌else◌}
 use Rattle.std.specs.Ordering.{eq_by_cmp}

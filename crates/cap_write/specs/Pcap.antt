@@ -1,4 +1,4 @@
--- What is written of one file as pcap.
+-- What is written of one file as pcap (draft-ietf-opsawg-pcap, 4 and 5; rules 17 to 21).
 use Rattle.std.specs.Prelude.{◌==◌, ◌%◌, ◌^◌, not, ◌&&◌, ℕ, ℤ, pos, nat_abs, int_le, int_lt, if◌then◌else◌, Bool, List}
 use Rattle.std.specs.Prelude.{[], ◌∷◌, ◌++◌, Option, Some, None, is_none}
 use Rattle.cap_bytes.specs.declared.faults.Refusal.{Refusal}

@@ -1,4 +1,4 @@
--- What is written of a run of packets as one pcap file.
+-- What is written of a run of packets as one pcap file (draft-ietf-opsawg-pcap, 4 and 5; rules 17 to 21).
 use Rattle.std.specs.Prelude.{ℕ, List, [], ◌∷◌, Option, Some, None, option_map}
 use Rattle.cap_bytes.specs.declared.faults.Refusal.{Refusal}
 use Rattle.cap_bytes.specs.declared.numbers.Order.{Order}

@@ -1,4 +1,4 @@
--- What is written for a list of packets.
+-- What is written for a list of packets (draft-ietf-opsawg-pcapng, 4.1 to 4.3).
 use Rattle.std.specs.Prelude.{◌==◌, ℕ, ◌+◌, if◌then◌else◌, List, [], ◌∷◌, ◌++◌, length, Option, Some, None}
 use Rattle.cap_bytes.specs.declared.faults.Refusal.{Refusal}
 use Rattle.cap_bytes.specs.declared.faults.Rule.{Rule}

@@ -5,6 +5,7 @@ use Rattle.capt_c.specs.declared.sources.Slice.{Slice}
 use Rattle.capt_c.specs.declared.sources.Input.{Input}
 use Rattle.capt_c.specs.declared.sources.Input.TheVariants.{Memory, Standard}
 
+-- the bytes of a slice that are still to come
 abbrev pub rest_of : Slice → List ℕ
 rest_of slice = slice.rest.now
 

@@ -10,6 +10,7 @@ use Rattle.cap_time.specs.Stamp.{printed_of}
 use Rattle.cap_talks.specs.declared.counts.counts.Counts.{Counts}
 use Rattle.cap_talks.specs.declared.counts.files.Counted.{Counted}
 
+-- a format by its name, `-` if it is not known yet
 abbrev pub format_text : Option Format → List ℕ
 format_text None = codes "-"
 format_text (Some Pcap) = codes "pcap"

@@ -1,4 +1,5 @@
--- The class of each packet of a run, and how many packets of each class there are. Lists have the latest first.
+-- The class of each packet of a run, and how many packets of each class there are (RFC 791, 3.2; RFC 768; RFC 9293,
+-- 3.1). Lists have the latest first.
 use Rattle.std.specs.Prelude.{◌≡◌, ℕ, List, [], ◌∷◌, None, Bool, ◌+◌, ◌==◌, length, if◌then◌else◌}
 use Rattle.std.specs.List.{find, list_any}
 use Rattle.std.specs.Option.{option_map_or}

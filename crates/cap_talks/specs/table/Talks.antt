@@ -1,4 +1,5 @@
--- The conversations of some counted units, which are listed by the places of the frames that completed them.
+-- The conversations of some counted units, which are listed by the places of the frames that completed them (RFC 791,
+-- 3.1; RFC 768; RFC 9293, 3.1).
 use Rattle.std.specs.Prelude.{ℕ, List, [], ◌∷◌, Bool, ◌+◌, ◌==◌, ◌&&◌, not, nat_eq, filter, map, Option, Some, None}
 use Rattle.std.specs.Prelude.{if◌then◌else◌}
 use Rattle.std.specs.Ordering.{nat_cmp, ordering_then, is_lt, is_gt}
