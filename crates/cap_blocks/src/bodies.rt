@@ -71,7 +71,7 @@ fn skip_body<R: Source>(window: &mut Window<R>, block: Block) -> Result<Option<R
     Ok(None)
 }
 
-// The same, if a read that fails is told with the block's own offset.
+// The same, if a read that fails is reported with the block's own offset.
 fn look_at_skipped<R: Source>(window: &mut Window<R>, block: Block) -> Result<Option<Rule>, Fault>
     requires header { IsHeader block window.old.offset window.old.shown }
     requires room { 12 ≤ window.old.room }

@@ -209,7 +209,7 @@ impl<R: Source> BlockReader<R> {
     /// a block of a known kind; one of another kind is skipped, and its trailer looked at. Bytes that are
     /// no block are refused, now and at each later call; if the tail is accepted, a rest that is cut is
     /// dropped instead, which is the end, but never within the first section header. `Memory` leaves what
-    /// is to come. A read that fails is told with the offset at which the block begins, and comes again.
+    /// is to come. A read that fails is reported with the offset at which the block begins, and comes again.
     pub fn next_block(&mut self) -> Result<Option<Block>, Fault>
         ensures answer { GivesNextBlock self.old result self.new }
         ensures reaches { ReachesBlock self.old result self.new }

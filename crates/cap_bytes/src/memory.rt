@@ -1,4 +1,4 @@
-//! Devices over memory, which cut and fail as they are told.
+//! Devices over memory, which cut and fail as asked.
 ghost use Rattle.std.specs.Prelude.{◌≡◌, ◌≤◌, ◌<◌, ◌++◌, [], take, drop, length, true, false, Some, is_some, vec_len};
 ghost use Rattle.std.specs.Prelude.{vec_capacity, min, ◌-◌, ◌||◌, IfOk, IsErr, IsTrue, is_err, ◌↔◌};
 ghost use Rattle.cap_bytes.specs.Device.{Gives, Takes};

@@ -4,7 +4,8 @@ use Rattle.std.specs.Option.{option_map_or}
 use Rattle.cap_ip.specs.Header.{HeaderFields}
 use Rattle.cap_join.specs.declared.datagrams.Stamped.{Stamped}
 
--- A fragment with its data: where it begins in its datagram's data, whether more follow, and what is told of its frame.
+-- A fragment with its data: where it begins in its datagram's data, whether more follow, and what is known of its
+-- frame.
 pub record Piece : Type 0 where
   pub header : HeaderFields
   pub start : ℕ

@@ -28,7 +28,7 @@ pub enum Arrived<'a> {
 }
 
 impl Joiner {
-    /// Takes an IPv4 packet at a clock: its bytes, from the header on, whether it was captured whole, and what is told
+    /// Takes an IPv4 packet at a clock: its bytes, from the header on, whether it was captured whole, and what is known
     /// of its frame. Its place is above those of all packets that were taken before. A whole datagram drops the open
     /// group of its key, whatever its data is; a fragment is put; a bad or a cut packet changes nothing.
     ///

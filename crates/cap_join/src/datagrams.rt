@@ -5,7 +5,7 @@ ghost use Rattle.cap_ip.specs.Header.{IsPiece};
 use cap_ip::{Fragment, Header};
 use cap_time::Stamp;
 
-/// What is told of a fragment's frame: its own time, its place in the list of packets, and its original
+/// What is known of a fragment's frame: its own time, its place in the list of packets, and its original
 /// length in bytes.
 #[derive(Clone, Copy, Debug)]
 pub struct Stamped {
@@ -26,7 +26,7 @@ pub(crate) struct Incoming<'a> {
     pub(crate) fragment: Fragment,
     /// All of its data.
     pub(crate) data: &'a [u8],
-    /// What is told of its frame.
+    /// What is known of its frame.
     pub(crate) stamped: Stamped,
     ghost found: { header.now.fragment ≡ Some fragment },
     ghost shape: { IsPiece (length data.now) fragment },

@@ -25,7 +25,7 @@ use std::marker::Model;
 /// bytes below that is covered. At most 1,024 groups are open: a fragment that would open one more gives
 /// up the one whose first fragment has the lowest place.
 ///
-/// What a joiner holds is told by the events that it stands for: the fragments that were put and the
+/// What a joiner holds is stated by the events that it stands for: the fragments that were put and the
 /// keys that were flushed, the latest first.
 #[derive(Drop)]
 pub struct Joiner {
@@ -64,7 +64,7 @@ impl Joiner {
         }
     }
 
-    /// Puts a fragment at a clock: its header, all of its data, and what is told of its frame. Its place
+    /// Puts a fragment at a clock: its header, all of its data, and what is known of its frame. Its place
     /// is above those of all fragments that were put before. Groups that are too old are dropped.
     ///
     /// The answer is the datagram if the fragment's group is complete with it. `Memory` comes if

@@ -1,5 +1,5 @@
 -- Runs whose packets have clocks of the same times, and the same interfaces, units, lengths and bytes, have the same
--- report, but for the lines of the files: what is told of files and of places in them may differ.
+-- report, but for the lines of the files: what is reported of files and of places in them may differ.
 use Rattle.std.proofs.Common.{arith, ◌≡◌, ℕ, ◌+◌, List, ◌∷◌, ◌++◌, length, refl, ◌∙◌, ap, Option}
 use Rattle.std.proofs.lemmas.List.Elements.{length_all_zip}
 use Rattle.std.specs.List.{AllZip}

@@ -1,4 +1,5 @@
--- Lists of packets that are written alike, if nothing is refused, have the same packets but for what is told of files.
+-- Lists of packets that are written alike, if nothing is refused, have the same packets but for what is reported of
+-- files.
 use Rattle.std.proofs.Common.{arith, ◌≡◌, ℕ, Bool, false, List, [], ◌∷◌, refl, Option, Some, None}
 use Rattle.std.specs.List.{AllZip}
 use Rattle.std.specs.Prelude.{is_none, unwrap_or, if◌then◌else◌}

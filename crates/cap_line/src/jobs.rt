@@ -47,7 +47,7 @@ pub struct Job<'a> {
     pub to: Option<Format>,
     /// The file that is written, if one was named. `-` is standard output.
     pub out: Option<&'a str>,
-    /// Whether it is told, also where standard error is no terminal, which file a fault is of and why.
+    /// Whether a second line says, also where standard error is no terminal, which file a fault is of and why.
     pub explain: bool,
     /// Whether the file that is written takes its name only once all is done. Standard output has none.
     pub whole: bool,

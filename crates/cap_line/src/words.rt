@@ -151,7 +151,8 @@ pub fn parse<'a, S: AsStr>(alloc: Global, words: &'a [S]) -> Result<Job<'a>, Lin
 }
 
 /// What is said of words that give no job: help, the version, or a message that names the wrong word, in which what a
-/// terminal wouldn't show is told by its code. Nothing is said of words that give a job or name the wrong files, nor if
+/// terminal wouldn't show is shown as its code. Nothing is said of words that give a job or name the wrong files, nor
+/// if
 /// a growth was refused.
 pub fn message<'a, S: AsStr>(alloc: Global, words: &'a [S]) -> Option<String>
     ensures refused { IfSome result (λ text. IsRefused (map S.text words.entry.now)

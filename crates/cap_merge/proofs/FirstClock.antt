@@ -1,4 +1,4 @@
--- What is told of the clock of the item that comes first.
+-- What is known of the clock of the item that comes first.
 use Rattle.std.proofs.Common.{◌≡◌, ℕ, ◌≤◌, true, List, length, map, Option, Some, subst}
 use Rattle.std.specs.Prelude.{IsTrue, IfSome, ◌<ℤ◌, pos, ◌^◌}
 use Rattle.cap_time.specs.declared.stamps.Stamp.{Stamp}

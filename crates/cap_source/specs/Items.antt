@@ -73,7 +73,7 @@ after progress contents.Other =
       first = progress.first;
     }
 
--- what is told of a packet in that block, and its captured bytes in the block's body
+-- what is known of a packet in that block, and its captured bytes in the block's body
 abbrev pub meta_in : ℕ → Progress → Block → Packet → Meta
 meta_in file progress block p =
     record {
@@ -177,7 +177,7 @@ interface_of header =
       offset = pos 0;
     }
 
--- what is told of a record's packet
+-- what is known of a record's packet
 abbrev pub meta_of : ℕ → Interface → Record → Meta
 meta_of file interface r =
     record {

@@ -12,7 +12,7 @@ use cap_time::Interface;
 const LIST_LIMIT: usize = 0x100_0000_0000;
 
 /// The packets of one file, in memory, as a feed that never fails: packets of one interface and without bytes, of which
-/// the times are told. A packet's offset is its place in the list, from 0 on.
+/// the times are known. A packet's offset is its place in the list, from 0 on.
 #[derive(Drop)]
 pub struct Listed {
     file: u32,

@@ -1,4 +1,4 @@
-//! What is told of a packet beside its bytes.
+//! What is known of a packet beside its bytes.
 ghost use Rattle.std.specs.Prelude.{◌≡◌, ◌<ℤ◌, ◌^◌, pos, IfSome};
 
 use cap_time::{Interface, Stamp};
@@ -12,7 +12,7 @@ pub enum Format {
     Pcapng,
 }
 
-/// What is told of a packet beside its captured bytes.
+/// What is known of a packet beside its captured bytes.
 #[derive(Clone, Copy, Debug, PartialEq, Eq)]
 pub struct Meta {
     /// Where its record or block begins, in bytes.

@@ -1,4 +1,4 @@
-//! What is told of capture files: the lines of the files, and the conversations of their datagrams.
+//! What is reported of capture files: the lines of the files, and the conversations of their datagrams.
 #![tactic(auto)]
 
 mod counts;

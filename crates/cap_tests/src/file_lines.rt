@@ -30,7 +30,7 @@ const TWO_LINES: &str = "files 2\n\
     file 1 pcap packets 2 bytes 0 truncated 0 skipped 0 first 1+0/1000000 last 5+0/1000000\n\
     file 2 pcapng packets 1 bytes 4 truncated 0 skipped 1 first 2+500000/1000000 last 2+500000/1000000\n";
 
-// Files, whether a cut end is dropped, and what is told of them.
+// Files, whether a cut end is dropped, and what is reported of them.
 type Told = (&'static [File], Tail, &'static str);
 
 const TOLD: [Told; 7] = [
@@ -56,7 +56,7 @@ fn tell<R: Source, W: Sink>(
     file_lines(alloc, sources, tail, writer)
 }
 
-// What is told of files by `piece` bytes at a time.
+// What is reported of files by `piece` bytes at a time.
 fn tells(rt: &impl Abort, alloc: Global, row: &Told, piece: usize)
     requires { 1 ≤ piece }
 {

@@ -117,7 +117,7 @@ pub(crate) fn merged_of(
     merge_files(alloc, sources, Tail::Refuse).expect(rt, "a run")
 }
 
-/// That a read fails before the first packet, which is told so and comes again.
+/// That a read fails before the first packet, which is reported so, and again.
 pub(crate) fn fails_twice<F: PacketFeed>(rt: &impl Abort, mut feed: F, fault: Fault) {
     same!(rt; feed.head(), Err(fault));
     same!(rt; feed.head(), Err(fault));

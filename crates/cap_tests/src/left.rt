@@ -172,7 +172,7 @@ fn a_packet_runs_back(rt: HostRuntime) {
     }
 }
 
-// How a run ended, what is left, and what is told of it.
+// How a run ended, what is left, and what is known of it.
 const TOLD: [(Outcome, [u128; 3], &str); 10] = [
     (Outcome::Done, [0, 0, 0], ""),
     (Outcome::Done, [1, 0, 0], "not carried on: 1 block\n"),
@@ -202,7 +202,7 @@ const TOLD: [(Outcome, [u128; 3], &str); 10] = [
     (Outcome::Line(LineFault::Help), [12, 1, 1], ""),
 ];
 
-// What is told of what is left.
+// What is printed of what is left.
 fn tells(rt: &impl Abort, outcome: &Outcome, counts: [u128; 3], text: &str) {
     let [skipped, named, ran_back] = counts;
     let left = Left {

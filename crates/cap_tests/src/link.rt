@@ -79,7 +79,7 @@ fn carries_none(rt: &impl Abort, link: u16, seen: Option<&[u8]>, original: u32, 
     holds!(rt; seen == Some(class), link);
 }
 
-// What is told of a packet of that link type and original length.
+// What is known of a packet of that link type and original length.
 fn meta_of(rt: &impl Abort, link: u16, original: u32) -> Meta {
     let resolution = Resolution::from_code(6).expect(rt, "the code of microseconds");
     Meta {

@@ -1,4 +1,4 @@
-//! Outcomes and what is told of them.
+//! Outcomes and what is printed of them.
 
 use crate::checks::same;
 use crate::files::room_of;
@@ -16,7 +16,7 @@ const SECOND_FILE: Refusal = Refusal {
     rule: Rule::BlockTrailer,
 };
 
-// What is told of each outcome but the usage, and the status.
+// What is printed of each outcome but the usage, and the status.
 const TOLD: [(Outcome, &str, u8); 11] = [
     (Outcome::Done, "", 0),
     (
@@ -42,7 +42,7 @@ const TOLD: [(Outcome, &str, u8); 11] = [
     (Outcome::Line(LineFault::Memory), "fault: memory\n", 1),
 ];
 
-// What is told of an outcome in that much room, and its status.
+// What is printed of an outcome in that much room, and its status.
 fn tells(rt: &impl Abort, alloc: Global, room: usize, outcome: Outcome, text: &str, status: u8) {
     let mut writer = room_of(rt, alloc, room);
     let answer = outcome_line(&outcome, &mut writer);
@@ -82,7 +82,7 @@ const HELP: Outcome = Outcome::Line(LineFault::Help);
 
 const MISUSE: Outcome = Outcome::Line(LineFault::Line);
 
-// An outcome, the room for what is printed, how it ends, what is printed and what is told.
+// An outcome, the room for what is printed, how it ends, what is printed on either stream.
 type Told = (Outcome, usize, Outcome, &'static [u8], &'static [u8]);
 
 const SAID_TO_TWO: [Told; 3] = [

@@ -1,4 +1,4 @@
--- What is told at a terminal beside the line of a fault.
+-- What is printed at a terminal beside the line of a fault.
 use Rattle.std.specs.Prelude.{◌≡◌, ◌++◌, All, Bool, List, ℕ, chars, codes, true, false}
 use Rattle.cap_bytes.specs.declared.faults.Fault.{Fault}
 use Rattle.cap_bytes.specs.declared.faults.Fault.TheVariants as faults

@@ -1,4 +1,4 @@
--- How a run ends: its status, and what is told of it.
+-- How a run ends: its status, and what is printed of it.
 use Rattle.std.specs.Prelude.{◌≡◌, ℕ, List, [], ◌++◌, codes, decimal, Bool, true, false, Result, Ok, Err}
 use Rattle.cap_bytes.specs.Rules.{rule_number, rule_name}
 use Rattle.cap_bytes.specs.declared.faults.Fault.{Fault}
@@ -47,14 +47,14 @@ read_text file offset = codes "fault: read file " ++ decimal file ++ codes " off
 abbrev pub open_text : ℕ → List ℕ
 open_text file = codes "fault: open file " ++ decimal file ++ codes "\n"
 
--- what is told of a fault
+-- what is printed of a fault
 abbrev pub fault_text : Fault → List ℕ
 fault_text (Refused refusal) = refusal_text refusal
 fault_text (Read file offset) = read_text file offset
 fault_text Write = codes "fault: write\n"
 fault_text Memory = codes "fault: memory\n"
 
--- what is told of a command line that wasn't run: the usage for help and for one that isn't of capt
+-- what is printed of a command line that wasn't run: the usage for help and for one that isn't of capt
 abbrev pub line_fault_text : LineFault → List ℕ
 line_fault_text lines.Help = USAGE.now
 line_fault_text lines.Line = USAGE.now
@@ -63,7 +63,7 @@ line_fault_text lines.Input = codes "fault: input\n"
 line_fault_text lines.Output = codes "fault: output\n"
 line_fault_text lines.Memory = codes "fault: memory\n"
 
--- what is told of an outcome
+-- what is printed of an outcome
 abbrev pub outcome_text : Outcome → List ℕ
 outcome_text outcomes.Done = []
 outcome_text (outcomes.Line fault) = line_fault_text fault
@@ -87,7 +87,7 @@ is_help (outcomes.Fault fault) = false
 is_help (outcomes.Open file) = false
 is_help outcomes.Create = false
 
--- what is told of an outcome if that is said of words that give no job
+-- what is printed of an outcome if that is said of words that give no job
 abbrev pub told_line : List ℕ → LineFault → List ℕ
 told_line said lines.Help = said
 told_line said lines.Line = said

@@ -208,8 +208,8 @@ fn write_file<R: Source, W: Sink>(
 }
 
 /// Writes what `convert_to` writes, and answers what it answers. `left` says how many blocks of the file and names of
-/// its interfaces aren't carried on; no packet is told as one that ran back, since each stays where it was. After a
-/// fault nothing is told.
+/// its interfaces aren't carried on; no packet is counted as one that ran back, since each stays where it was. After a
+/// fault `left` says nothing.
 pub fn convert_and_count<R: Source, W: Sink>(
     alloc: Global,
     source: R,
@@ -312,7 +312,7 @@ pub(crate) fn merge_with<R: Source, W: Sink>(
 
 /// Writes what `merge_to` writes, and answers what it answers. `left` says how many blocks of the files and names of
 /// their interfaces aren't carried on, and how many packets had a time below the greatest so far of their file. After a
-/// fault nothing is told.
+/// fault `left` says nothing.
 pub fn merge_and_count<R: Source, W: Sink>(
     alloc: Global,
     sources: Vec<R>,
@@ -367,7 +367,7 @@ pub(crate) fn join_with<R: Source, W: Sink>(
 
 /// Writes what `join_to` writes, and answers what it answers. `left` says how many blocks of the files and names of
 /// their interfaces aren't carried on, and how many packets had a time below the greatest so far of their file. After a
-/// fault nothing is told.
+/// fault `left` says nothing.
 pub fn join_and_count<R: Source, W: Sink>(
     alloc: Global,
     sources: Vec<R>,

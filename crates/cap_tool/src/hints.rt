@@ -1,4 +1,4 @@
-//! What is told at a terminal beside the line of a fault: the file's name, and why.
+//! What is printed at a terminal beside the line of a fault: the file's name, and why.
 ghost use Rattle.std.specs.Prelude.{IfSome, IsSome, IsTrue, string_bytes};
 ghost use Rattle.cap_tool.specs.Hints.{IsHintLine, is_of_file, is_of_files, is_of_names};
 
@@ -67,7 +67,7 @@ fn name_of<'a>(job: &Job<'a>, file: u32) -> Option<&'a str> {
     job.files.get((file as usize).checked_sub(1)?).copied()
 }
 
-// `  33 captures are too many`: what a terminal wouldn't show is told by its code.
+// `  33 captures are too many`: what a terminal wouldn't show is shown as its code.
 fn told(alloc: Global, text: &str) -> Option<String>
     ensures { IfSome result (λ line. IsHintLine (string_bytes line)) }
 {
@@ -242,7 +242,7 @@ fn names_line(alloc: Global, fault: LineFault) -> Option<String>
 
 /// The line that a terminal shows after the line of a fault: the name of the file, and what the system says
 /// of it, or what the rule means that is broken; of a command line, what is wrong with the files that it names. What a
-/// terminal wouldn't show of a name is told by its code. `job` is what was run, if the words of the command line gave
+/// terminal wouldn't show of a name is shown as its code. `job` is what was run, if the words of the command line gave
 /// one. There is no line if the fault is of no file, if it isn't known why a write failed, or if memory runs out.
 pub fn hint<R: Files<File = File>>(
     files: &R,

@@ -86,7 +86,7 @@ fn job_with<R: Source, W: Sink>(
 }
 
 /// Does what `job_to` does, and answers what it answers. `left` says what `convert_and_count`, `merge_and_count` and
-/// `join_and_count` say of theirs, and nothing of other tasks. After a fault nothing is told.
+/// `join_and_count` say of theirs, and nothing of other tasks. After a fault `left` says nothing.
 pub fn job_and_count<R: Source, W: Sink>(
     alloc: Global,
     job: &Job<'_>,

@@ -17,7 +17,7 @@ pub struct Left {
     pub ran_back: u128,
 }
 
-// Puts a label and a count before what was put, and what is counted behind it, unless the count is 0.
+// Puts a label and a count before what was put, and what is counted after it, unless the count is 0.
 fn prepend_count(line: &mut Line, label: &[u8], count: u128, one: &[u8], many: &[u8])
     requires one { length label.now + length one.now + 40 ≤ room_in line.old }
     requires many { length label.now + length many.now + 40 ≤ room_in line.old }

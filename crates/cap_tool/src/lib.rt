@@ -1,5 +1,5 @@
 //! What the commands of `capt` do over readers and writers, and a run of the program: its files and standard streams,
-//! what is shown of it while it lasts, how it ends, and what a terminal is told of it.
+//! what is shown of it while it lasts, how it ends, and what a terminal shows of it.
 #![tactic(auto)]
 
 mod blocks;

@@ -1,4 +1,4 @@
-//! How a run ends: its status, and what is told of it.
+//! How a run ends: its status, and what is printed of it.
 ghost use Rattle.std.specs.Prelude.{◌≡◌, ◌≤◌, ◌++◌, length, is_err, IsTrue, IsFalse, IsOk, IsErr, IsOkUnless};
 ghost use Rattle.cap_bytes.specs.Device.{Puts, WriterKeeps, writer_of};
 ghost use Rattle.cap_print.specs.Lines.{text_in};
@@ -130,7 +130,7 @@ pub fn fault_line(fault: Fault) -> Line
     }
 }
 
-// What is told of a command line that wasn't run.
+// What is printed of a command line that wasn't run.
 fn line_fault_text(fault: LineFault) -> &'static [u8]
     ensures { result.now ≡ line_fault_text fault }
 {
@@ -143,7 +143,7 @@ fn line_fault_text(fault: LineFault) -> &'static [u8]
     }
 }
 
-/// Writes what is told of an outcome: nothing of a run that is done, the usage for help and for a
+/// Writes what is printed of an outcome: nothing of a run that is done, the usage for help and for a
 /// line that isn't of capt, and one line for each other. Answers `Fault::Write`, and no other
 /// fault, if the writer failed: a prefix of the text is written then.
 pub fn outcome_line<W: Sink>(outcome: &Outcome, writer: &mut W) -> Result<(), Fault>
@@ -161,7 +161,7 @@ pub fn outcome_line<W: Sink>(outcome: &Outcome, writer: &mut W) -> Result<(), Fa
     }
 }
 
-// Writes what is told of an outcome if something else than the usage is said of words that give no job.
+// Writes what is printed of an outcome if something else than the usage is said of words that give no job.
 fn put_told<W: Sink>(outcome: &Outcome, said: &[u8], writer: &mut W) -> Result<(), Fault>
     ensures text { IsTrue (W.tells_held writer.old)
         → Puts (W.held writer.old) result (W.held writer.new) (told_text said.now outcome.now) }
@@ -173,7 +173,7 @@ fn put_told<W: Sink>(outcome: &Outcome, said: &[u8], writer: &mut W) -> Result<(
     }
 }
 
-/// Tells an outcome: help on `output`, all else on `faults`. `said` is what is told of help, and of a line
+/// Tells an outcome: help on `output`, all else on `faults`. `said` is what is printed of help, and of a line
 /// that isn't of capt. Answers how the run ends: by `Fault::Write` if help could not be written, which is
 /// told then, else by the same outcome. A failure of `faults` changes nothing.
 pub fn tell<O: Sink, E: Sink>(

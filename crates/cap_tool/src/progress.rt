@@ -66,7 +66,7 @@ fn prepend_seconds(line: &mut Line, label: &[u8], seconds: u128)
     }
 }
 
-// Puts how long the rest will take, if that can be told.
+// Puts how long the rest will take, if that is known.
 fn prepend_left(line: &mut Line, read: u64, total: Option<u64>, millis: u64)
     requires { 51 ≤ room_in line.old }
     ensures text { text_in line.new ≡ left_text read total millis ++ text_in line.old }

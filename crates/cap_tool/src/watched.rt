@@ -6,7 +6,7 @@ use crate::progress::Progress;
 use cap_bytes::{Broken, Device, Sink, Source};
 use std::time::Clock;
 
-/// A device that does what `inner` does. Of a reader the progress is told how many bytes came, and of a writer
+/// A device that does what `inner` does. Of a reader the progress learns how many bytes came, and of a writer
 /// that something is about to be seen.
 #[derive(Drop)]
 pub struct Watched<'a, T, C: Clock> {

@@ -52,7 +52,7 @@ fn replaceable<R: Files<File = File>>(
     Ok(Some(metadata.permissions()))
 }
 
-// Creates a file that wasn't there, of the name of the target with a number behind it.
+// Creates a file that wasn't there, of the name of the target with a number after it.
 fn create_new<R: Files<File = File>>(
     files: &R,
     alloc: Global,

@@ -97,7 +97,7 @@ events_at not_ipv4 whole clock stamped events = events
 events_at short whole clock stamped events = events
 events_at ends whole clock stamped events = events
 
--- what is told of a packet's frame, that has a place in the run
+-- what is known of a packet's frame, that has a place in the run
 abbrev pub stamped_of : ℕ → Meta → Stamped
 stamped_of place meta = record { time = meta_time meta; place = place; original = meta.original }
 
@@ -122,7 +122,8 @@ raw_interface interface = record {
       interface.offset;
 }
 
--- what is told of a datagram as one packet of that many bytes: it has the place, the time and the interface's number of
+-- what is known of a datagram as one packet of that many bytes: it has the place, the time and the interface's number
+-- of
 -- the packet that completed it
 abbrev pub datagram_meta : Meta → ℕ → Meta
 datagram_meta meta size = record meta { interface = raw_interface meta.interface; captured = size; original = size }

@@ -21,7 +21,7 @@ abbrev pub is_origin : Origin → Origin → Bool
 is_origin a b = (a.0 == b.0) && (a.1 == b.1)
 
 -- A packet as it is written: the number of its interface, the interface, its time in the interface's
--- units, how many bytes were captured of it, as is told, and how many it had, and the captured bytes.
+-- units, how many bytes were captured of it, and how many it had, and the captured bytes.
 pub record Numbered : Type 0 where
   pub number : ℕ
   pub interface : Interface

@@ -102,7 +102,7 @@ fn fill_answered(packet: &mut Vec<u8>, arrived: Arrived<'_>) -> Result<bool, Fau
     }
 }
 
-// What is told of a packet's frame.
+// What is known of a packet's frame.
 fn stamped_of(run: &PlacedPacket<'_>) -> Stamped
     ensures { result ≡ stamped_in run.now }
 {

@@ -12,7 +12,7 @@ use indexmap::IndexSet;
 /// and how many interface blocks of the file stand before the interface's own.
 pub(crate) type Origins = IndexSet<(u32, u64)>;
 
-/// What is told of a file before its first packet.
+/// What is known of a file before its first packet.
 #[derive(Clone, Copy)]
 pub(crate) struct FileStart {
     /// The number of the file.

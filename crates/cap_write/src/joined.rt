@@ -30,7 +30,7 @@ use std::alloc::Global;
 // LINKTYPE_RAW: no link header, an IPv4 or IPv6 packet.
 const RAW: u16 = 101;
 
-// What is told of a datagram of that many bytes, written as one packet; that packet of the run completed it.
+// What is known of a datagram of that many bytes, written as one packet; that packet of the run completed it.
 fn datagram_meta(meta: &Meta, size: u32) -> Meta
     ensures { result ≡ datagram_meta meta.now size }
 {

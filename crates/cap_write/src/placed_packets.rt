@@ -14,7 +14,7 @@ pub(crate) struct PlacedPacket<'a> {
     pub place: u64,
     /// Its clock.
     pub clock: Option<Stamp>,
-    /// What is told of it.
+    /// What is known of it.
     pub meta: &'a Meta,
     /// Its captured bytes.
     pub frame: &'a [u8],

@@ -133,7 +133,7 @@ fn work<R: Files<File = File> + Clock + AllocGlobal>(
         Err(outcome) => return Err(Stop::from(outcome)),
     };
     let progress = Progress::new(rt, screen, is_terminal, inputs.size);
-    // what can't be told by a size, as a pipe, may let a read wait
+    // what has no size, as a pipe, may let a read wait
     let progress = match inputs.size {
         Some(_) => progress,
         None => progress.with_output(&output),
@@ -228,7 +228,8 @@ fn explain<R: Files<File = File> + AllocGlobal>(
     }
 }
 
-// Tells how a run ended, and more of it if that is asked for: `said` is what is told of words that give no job. Answers
+// Tells how a run ended, and more of it if that is asked for: `said` is what is printed of words that give no job.
+// Answers
 // how the program ends: as the run did, unless help could not be written.
 fn finish<R: Files<File = File> + AllocGlobal>(
     rt: &R,

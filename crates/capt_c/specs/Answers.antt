@@ -1,4 +1,4 @@
--- How a call's answer is told in numbers.
+-- A call's answer in numbers.
 use Rattle.std.specs.Prelude.{ℕ, Bool, true, false, Result, Ok, Err}
 use Rattle.cap_bytes.specs.Rules.{rule_number}
 use Rattle.cap_bytes.specs.declared.faults.Fault.{Fault}

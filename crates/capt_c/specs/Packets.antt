@@ -1,4 +1,4 @@
--- What is told of a packet in numbers, and what a call for the next one does.
+-- A packet in numbers, and what a call for the next one does.
 use Rattle.std.specs.Prelude.{◌≡◌, ℕ, ◌^◌, ◌≤◌, length, take, ℤ, pos, ◌+ℤ◌, ◌*ℤ◌, List, [], ◌∷◌, Bool, true, false}
 use Rattle.std.specs.Prelude.{IsTrue, Option, Some, None, IfSome, Result, Ok, Err}
 use Rattle.cap_bytes.specs.declared.faults.Fault.{Fault}
@@ -11,14 +11,14 @@ use Rattle.cap_time.specs.declared.resolutions.Interface.{Interface}
 use Rattle.cap_time.specs.Stamp.{stamp_in, seconds_of, numerator_of, denominator_of}
 use Rattle.capt_c.specs.declared.packets.Packet.{Packet}
 
--- the time of that many units of an interface in four numbers; none is told by a denominator of 0
+-- the time of that many units of an interface in four numbers; none has a denominator of 0
 abbrev pub ShowsTime : Option ℕ → Interface → ℤ → ℕ → ℕ → ℕ → Type 0
 ShowsTime None interface seconds carry numerator denominator = denominator ≡ 0
 ShowsTime (Some units) interface seconds carry numerator denominator =
     (seconds +ℤ pos carry *ℤ pos (2 ^ 64) ≡ seconds_of (stamp_in units interface))
     × (numerator ≡ numerator_of (stamp_in units interface)) × (denominator ≡ denominator_of (stamp_in units interface))
 
--- a packet is told by these numbers
+-- a packet is these numbers
 pub record ShowsFields (meta : Meta) (p : Packet) : Type 0 where
   pub offset : p.offset ≡ meta.offset
   pub instance : p.instance ≡ meta.instance
@@ -39,7 +39,8 @@ head_answer heads.End = Ok false
 abbrev pub AgreesWithKnown : Option Head → Result Bool Fault → Type 0
 AgreesWithKnown known answer = IfSome known (λ head. answer ≡ head_answer head)
 
--- The next packet was told and passed, or it is known that there is none. If the bytes of the capture are known, it was
+-- The next packet was returned and passed, or it is known that there is none. If the bytes of the capture are known,
+-- it was
 -- the next of its packets, and the refusal is the one that ends them. After a refused growth the packets to come are
 -- the same.
 abbrev pub LeavesPacket : Feed → Result Bool Fault → Packet → Feed → Type 0

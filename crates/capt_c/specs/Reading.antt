@@ -34,7 +34,8 @@ abbrev pub place_of_step : Result Bool Fault → Place
 place_of_step (Ok found) = nowhere
 place_of_step (Err fault) = place_of_fault fault
 
--- A capture is open of which no packet was told; or no memory was found. `told` says whether its bytes are known, which
+-- A capture is open of which no packet was returned; or no memory was found. `told` says whether its bytes are known,
+-- which
 -- are `bytes` then, and `can_fail` whether its reads can fail.
 abbrev pub OpensCapture : (CaptureReader → Feed) → Tail → Bool → List ℕ → Bool → ℕ → Option Held → Type 0
 OpensCapture feed tail told bytes can_fail status None = status ≡ 5
@@ -76,7 +77,7 @@ pub record ShowsEnding (ending : Ending) (end : End) : Type 0 where
   pub format : end.is_pcapng ≡ is_pcapng_format ending.format
   pub was_cut : end.was_cut ≡ ending.was_cut
 
--- What is told of a feed of one file if that is answered for what comes next: how the file ended, if that is the end.
+-- What is known of a feed of one file if that is answered for what comes next: how the file ended, if that is the end.
 abbrev pub EndTold : Feed → Result Head Fault → ℕ → End → Type 0
 EndTold feed (Ok (heads.Packet meta)) status end = status ≡ 6
 EndTold feed (Ok (heads.Refused refusal)) status end = status ≡ 6

@@ -1,4 +1,4 @@
-//! Packets that are told many at a time.
+//! Several packets in one call.
 ghost use Rattle.std.specs.Prelude.{◌≡◌, ◌≤◌, ◌<◌, IsTrue, length, take};
 ghost use Rattle.cap_source.specs.Feed.{FeedKeeps};
 ghost use Rattle.capt_c.specs.Packets.{StepsMany, Told};

@@ -1,4 +1,4 @@
-//! The names of rules, what is told of a fault, and the version.
+//! The names of rules, what is printed of a fault, and the version.
 ghost use Rattle.std.specs.Prelude.{◌≡◌, ◌<◌, ◌⊎◌, IfSome, None, Some, length, codes};
 ghost use Rattle.cap_bytes.specs.Rules.{rule_number};
 ghost use Rattle.cap_bytes.specs.declared.faults.Fault.{Fault};

@@ -1,4 +1,4 @@
-//! What bytes come from and go to, numbers in them, and the faults that are told of them.
+//! What bytes come from and go to, numbers in them, and their faults.
 
 pub use cap_bytes::{
     Broken, Device, FILE_LIMIT, Fault, Order, PACKET_LIMIT, Pieces, Refusal, Room, Rule, Sink,

@@ -8,7 +8,7 @@ use Rattle.cap_bytes.specs.declared.faults.Rule.{Rule}
 use Rattle.cap_bytes.specs.declared.faults.Tail.{Tail}
 use Rattle.cap_bytes.specs.declared.stops.Stop.{Stop}
 
--- A read fails while a piece is looked for, or failed before: it is told with the piece's own offset.
+-- A read fails while a piece is looked for, or failed before: it is reported with the piece's own offset.
 pub record ParsingFails (old : WindowState) (file offset : ℕ) (new : WindowState) : Type 0 where
   pub file_is : file ≡ old.file
   pub again : IfSome old.broken (λ first. offset ≡ first)
@@ -24,7 +24,7 @@ pub record SeesStop (inside : Bool) (fault : Option Rule) (tail : Tail) (stop : 
     pub is_stop : IsStopAt inside tail old.file old.offset stop
     pub told_stop : IsTrue old.told → stop_where inside tail old.file old.offset (coming old) fault ≡ Some stop
 
--- The fault of a look: that of a growth to `size` bytes at most comes only if there is less room than is told.
+-- The fault of a look: that of a growth to `size` bytes at most comes only if there is less room than that.
 abbrev pub FailsBy : ℕ → Type 0 → WindowState → Fault → WindowState → Type 0
 FailsBy size Lacks old (Read file offset) new = ParsingFails old file offset new
 FailsBy size Lacks old Memory new = WindowShows old new × (old.room < size) × (IsTrue old.told → Lacks)

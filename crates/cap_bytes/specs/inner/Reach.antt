@@ -7,7 +7,7 @@ use Rattle.cap_bytes.specs.declared.faults.Fault.TheVariants.{Refused, Read, Wri
 
 -- A file was read up to `read`, and its next piece begins at `offset`. Its device gives `most` bytes at a time at most,
 -- if it tells that; `told` says whether it tells the bytes to come, and `broken` is the offset with which a read that
--- failed was told, once one has.
+-- failed was reported, once one has.
 pub record Position : Type 0 where
   pub offset : ℕ
   pub read : ℕ

@@ -135,7 +135,7 @@ pub record GivesStop {K : Type 0} (inside : Bool) (fault : Option Rule) (stop : 
   pub first : IfNone old.stop (ReaderStops inside fault stop old new)
 
 -- What a call for a piece answers: a piece that comes in this way, what ended the pieces, or a fault, that of a growth
--- to `size` bytes only if there is less room than is told.
+-- to `size` bytes only if there is less room than that.
 abbrev pub GivesNextPiece : {K P : Type 0} → (P → Type 0) → Bool → Option Rule → ℕ → Type 0 → ReaderState K
     → Result (Option P) Fault → ReaderState K → Type 0
 GivesNextPiece Comes inside fault size Lacks old (Ok (Some piece)) new = Comes piece

@@ -144,7 +144,7 @@ Skips n old (Err Memory) new = WindowShows old new × (old.room < 12)
 Skips n old (Err Write) new = ⊥
 Skips n old (Err (Refused refusal)) new = ⊥
 
--- A read that failed is told with that offset.
+-- A read that failed is reported with that offset.
 pub record FailsAt (offset : ℕ) (old new : WindowState) : Type 0 where
   pub file : new.file ≡ old.file
   pub offset_same : new.offset ≡ old.offset

@@ -12,7 +12,7 @@ use Rattle.cap_write.specs.Numbering.{numbered, refusal_in}
 abbrev pub IsOneToOne : (Origin → Origin → Type 0) → Type 0
 IsOneToOne R = (a b c d : Origin) → R a b → R c d → is_origin b d ≡ is_origin a c
 
--- what is told of a packet, under another origin of its interface
+-- what is known of a packet, under another origin of its interface
 pub record IsRenamed (R : Origin → Origin → Type 0) (m n : Meta) : Type 0 where
   pub origin : R (origin_of m) (origin_of n)
   pub interface : n.interface ≡ m.interface

@@ -36,7 +36,7 @@ pub record NumbersFit (n : Numbered) : Type 0 where
   pub original : n.original < 2 ^ 32
   pub frame : length n.frame ≤ 262144
 
--- what is told of a written packet that is read again, which begins there
+-- what is known of a written packet that is read again, which begins there
 abbrev pub meta_again : ℕ → ℕ → Numbered → Meta
 meta_again file offset n =
     record {

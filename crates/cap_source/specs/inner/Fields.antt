@@ -15,7 +15,7 @@ pub record FitsInterface (i : Interface) : Type 0 where
   pub snaplen : i.snaplen < 2 ^ 32
   pub offset : FitsSigned w64 i.offset
 
--- Some bytes are the captured ones of a packet: as many as are told, within the limit.
+-- Some bytes are the captured ones of a packet: as many as the record says, within the limit.
 pub record IsFrame (meta : Meta) (bytes : List ℕ) : Type 0 where
   pub captured : length bytes ≡ meta.captured
   pub limit : meta.captured ≤ 262144

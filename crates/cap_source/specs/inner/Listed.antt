@@ -11,7 +11,7 @@ use Rattle.cap_source.specs.declared.packets.Format.TheVariants.{Pcap}
 use Rattle.cap_source.specs.declared.packets.Meta.{Meta}
 use Rattle.cap_time.specs.declared.resolutions.Interface.{Interface}
 
--- what is told of the packet at that place of a list
+-- what is known of the packet at that place of a list
 abbrev pub listed_meta : ℕ → Interface → ℕ → ℕ → Meta
 listed_meta file interface place units =
     record {

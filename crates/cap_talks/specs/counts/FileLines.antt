@@ -35,7 +35,7 @@ abbrev pub file_text : ℕ → Counts → Option Ending → List ℕ
 file_text file counts None = line_text file counts.format counts counts.skipped false
 file_text file counts (Some ending) = line_text file (Some ending.format) counts ending.skipped ending.was_cut
 
--- how the file of that number has ended, if that is told
+-- how the file of that number has ended, if that is known
 abbrev pub ending_at : Option (ℕ → FileEnd) → ℕ → Option Ending
 ending_at None file = None
 ending_at (Some endings) file = Some (endings file).ending
@@ -44,7 +44,7 @@ ending_at (Some endings) file = Some (endings file).ending
 abbrev pub files_text : ℕ → List ℕ
 files_text count = codes "files " ++ decimal count ++ codes "\n"
 
--- what is counted of files, with how each has ended, if that is told, from that number on
+-- what is counted of files, with how each has ended, if that is known, from that number on
 abbrev pub ended_from : Option (ℕ → FileEnd) → ℕ → List Counts → List Counted
 ended_from endings file [] = []
 ended_from endings file (counts ∷ rest) = record { counts = counts; ending = ending_at endings file }

@@ -15,7 +15,7 @@ use Rattle.cap_time.specs.declared.stamps.Stamp.{Stamp}
 use Rattle.cap_talks.specs.declared.table.classes.Class.{Class}
 use Rattle.cap_talks.specs.declared.table.classes.Class.TheVariants as class
 
--- A packet that was taken: its clock, what is told of it, and its captured bytes.
+-- A packet that was taken: its clock, what is known of it, and its captured bytes.
 pub record Taken : Type 0 where
   pub clock : Option Stamp
   pub meta : Meta
@@ -43,7 +43,7 @@ look_at not_ipv4 whole stamped = plain class.NotIpv4
 look_at short whole stamped = plain class.Short
 look_at ends whole stamped = plain class.Cut
 
--- what is told of a packet's frame, that has a place in the run
+-- what is known of a packet's frame, that has a place in the run
 abbrev pub stamped_of : ℕ → Meta → Stamped
 stamped_of place meta = record { time = meta_time meta; place = place; original = meta.original }
 

@@ -14,12 +14,12 @@ use Rattle.cap_talks.specs.declared.table.classes.Class.{Class}
 use Rattle.cap_talks.specs.declared.table.classes.ClassCounts.{ClassCounts}
 use Rattle.cap_talks.specs.declared.table.units.CountedUnit.{CountedUnit}
 
--- what is told of the packets of one file, in their order
+-- what is known of the packets of one file, in their order
 abbrev pub metas_of : ℕ → List Taken → List Meta
 metas_of file [] = []
 metas_of file (x ∷ xs) = metas_of file xs ++ (if x.meta.file == file then x.meta ∷ [] else [])
 
--- the line of a file: how it ended is told once all have
+-- the line of a file: how it ended is known once all have
 abbrev pub file_line : Option (ℕ → FileEnd) → List Taken → ℕ → List ℕ
 file_line endings xs file = file_text file (counted (metas_of file xs)) (ending_at endings file)
 
@@ -62,6 +62,6 @@ body_text xs = body_by xs (classes xs) (counted_units xs) (joined_in xs) (given_
 unfoldable pub files_part : ℕ → Option (ℕ → FileEnd) → List Taken → List ℕ
 files_part count endings xs = files_text count ++ flat_map (file_line endings xs) (range_with_len 1 count)
 
--- The report over the packets that were taken of `count` files: how these ended is told once all have.
+-- The report over the packets that were taken of `count` files: how these ended is known once all have.
 abbrev pub text_of : ℕ → Option (ℕ → FileEnd) → List Taken → List ℕ
 text_of count endings xs = files_part count endings xs ++ body_text xs

@@ -9,7 +9,7 @@ use crate::counts::file_lines::{file_line, files_line};
 use cap_bytes::{Fault, Sink, put_all};
 use cap_source::Ending;
 
-/// What is counted of a file, and how it has ended, if that is told.
+/// What is counted of a file, and how it has ended, if that is known.
 #[derive(Clone, Copy, Default)]
 pub struct Counted {
     /// What is counted of its packets, as far as they were taken.

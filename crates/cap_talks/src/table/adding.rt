@@ -19,7 +19,7 @@ use cap_join::{Datagram, Stamped};
 use cap_source::Meta;
 use cap_time::Stamp;
 
-/// What is told of a packet's frame, which has that place in the run and that time.
+/// What is known of a packet's frame, which has that place in the run and that time.
 #[inline(always)]
 pub(crate) fn stamped_of(place: u64, time: Option<Stamp>, meta: &Meta) -> Stamped
     requires time { time ≡ meta_time meta.now }

@@ -61,7 +61,7 @@ pub(crate) fn look<'a>(meta: &Meta, frame: &'a [u8]) -> Seen<'a>
     }
 }
 
-/// The class of a packet in a report of it alone, by what is told of it and its captured bytes: `Unjoined` of a
+/// The class of a packet in a report of it alone, by what is known of it and its captured bytes: `Unjoined` of a
 /// fragment, since only with others it makes a datagram. RFC 791, 3.1 and 3.2; RFC 768; RFC 9293, 3.1.
 #[tactic(auto, unfolding(crate::specs::table::Classes::lone_class))]
 pub fn packet_class(meta: &Meta, frame: &[u8]) -> Class

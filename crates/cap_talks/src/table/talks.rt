@@ -32,7 +32,7 @@ pub enum TalksFault {
 /// The conversations of counted units: those of a protocol between two ends, whichever of them is the
 /// source. Each has a row, which counts its units; rows stand in the order of their first units.
 ///
-/// What a table holds is told by the units that it stands for.
+/// What a table holds is stated by the units that it stands for.
 #[derive(Drop)]
 pub struct Talks {
     rows: IndexMap<PackedKey, TalkRow>,

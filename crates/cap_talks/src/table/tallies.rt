@@ -1,4 +1,4 @@
-//! What is counted of packets, besides what is told of files.
+//! What is counted of packets, besides what is reported of files.
 ghost use Rattle.std.specs.Prelude.{◌≡◌, ℕ, false, ◌+◌, ◌++◌, IsOkUnless, max, ◌≤◌, ◌<◌, ◌^◌, List, []};
 ghost use Rattle.std.specs.Prelude.{◌∷◌, length, IsTrue, IsSome, OnOk, OnErr, IfOk, IfErr, Option, Some, None};
 ghost use Rattle.std.specs.Prelude.{Err, if◌then◌else◌};

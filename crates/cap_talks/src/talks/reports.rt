@@ -78,7 +78,7 @@ fn report_merged<F: PacketFeed, W: Sink>(
 ///
 /// The whole report is written, or nothing: `Refused` is the first refusal in that order, of a file or of the
 /// packet that would open the 1,048,577th conversation (rule 16, talk-limit). Nothing is written either if a
-/// read fails, which is told by file and offset, or a growth is refused. After `Write` a prefix of the report
+/// read fails, which is reported by file and offset, or a growth is refused. After `Write` a prefix of the report
 /// is written.
 pub fn report<R: Source, W: Sink>(
     alloc: Global,

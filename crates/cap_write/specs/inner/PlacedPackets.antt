@@ -7,7 +7,7 @@ use Rattle.cap_source.specs.Feed.{Item}
 use Rattle.cap_write.specs.Joined.{items_of_packet, stamped_of}
 use Rattle.cap_write.specs.declared.placed_packets.PlacedPacket.{PlacedPacket}
 
--- what is told of its frame
+-- what is known of its frame
 abbrev pub stamped_in : PlacedPacket → Stamped
 stamped_in run = stamped_of run.place run.meta.now
 

@@ -28,7 +28,7 @@ TakesAll old (Err (Read file offset)) new = ⊤
 TakesAll old (Err Write) new = ⊥
 TakesAll old (Err Memory) new = IsAtPacket (merged_feed new.parts).known
 
--- The report of the run of that many files is told.
+-- The report of the run of that many files is written.
 abbrev pub TellsReport : ℕ → List Part → List ℕ → Result (Unit {0}) Fault → List ℕ → Type 0
 TellsReport count ps held result new =
     Tells (report_text count (merged_feed ps).endings (run_of ps)) (report_refusal (run_of ps)) held result new

@@ -5,7 +5,7 @@ use Rattle.cap_merge.specs.inner.View.{parts_of}
 use Rattle.cap_talks.specs.counts.FileLines.{ended_from}
 use Rattle.cap_talks.proofs.table.tables.with_endings.Given as goal
 
--- what is told of the files so far, and of those that follow, is the whole
+-- what is known of the files so far, and of those that follow, is the whole
 abbrev pub invariant-loop-place : goal.invariant-loop-place
 invariant-loop-place g l = record {
   made :
