@@ -1,6 +1,7 @@
 //! A line, and what is put before it.
 ghost use Rattle.std.specs.Prelude.{◌≡◌, ◌+◌, ◌*◌, ◌≤◌, ◌++◌, [], codes, decimal, drop, length, option_map};
 ghost use Rattle.std.specs.Fmt.{signed_decimal};
+ghost use Rattle.cap_print.specs.Times.{time_json, time_text};
 ghost use Rattle.cap_time.specs.Stamp.{printed_of};
 ghost use Rattle.hex.specs.Hex.{encode_lower};
 
@@ -50,7 +51,7 @@ pub struct Line {
 }
 
 impl Line {
-    ghost use Rattle.cap_print.specs.Lines.{room_in, text_in, time_text};
+    ghost use Rattle.cap_print.specs.Lines.{room_in, text_in};
 
     /// An empty line.
     pub fn new() -> Line
@@ -168,5 +169,35 @@ impl Line {
                 self.prepend_seconds(label, stamp.seconds());
             }
         }
+    }
+
+    /// Puts a label and a time as `[SEC,NUM,DEN]`, or `null` if there is none.
+    pub fn prepend_time_array(&mut self, label: &[u8], time: Option<Stamp>)
+        requires { length label.now + 84 ≤ room_in self.old }
+        ensures text { text_in self.new ≡ label.now ++ time_json (option_map printed_of time) ++ text_in self.old }
+        ensures room { room_in self.old ≤ room_in self.new + length label.now + 84 }
+    {
+        match time {
+            None => self.prepend_text(b"null"),
+            Some(stamp) => {
+                self.prepend_text(b"]");
+                self.prepend_field(b",", stamp.denominator());
+                self.prepend_field(b",", stamp.numerator());
+                self.prepend_seconds(b"[", stamp.seconds());
+            }
+        }
+        self.prepend_text(label);
+    }
+
+    /// Puts a label and some bytes as a string of lower case hex digits.
+    pub fn prepend_hex_string(&mut self, label: &[u8], bytes: &[u8])
+        requires { length label.now + 2 * length bytes.now + 2 ≤ room_in self.old }
+        ensures text { text_in self.new
+            ≡ label.now ++ codes "\"" ++ encode_lower bytes.now ++ codes "\"" ++ text_in self.old }
+        ensures room { room_in self.new + length label.now + 2 * length bytes.now + 2 ≡ room_in self.old }
+    {
+        self.prepend_text(b"\"");
+        self.prepend_hex(b"\"", bytes);
+        self.prepend_text(label);
     }
 }

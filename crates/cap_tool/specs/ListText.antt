@@ -9,7 +9,7 @@ use Rattle.cap_time.specs.Stamp.{time_in}
 use Rattle.cap_time.specs.Time.{Printed, printed_form}
 use Rattle.cap_time.specs.declared.resolutions.Interface.{Interface}
 use Rattle.cap_source.specs.Feed.{refusal_of}
-use Rattle.cap_print.specs.Lines.{time_text}
+use Rattle.cap_print.specs.Times.{time_text}
 use Rattle.cap_tool.specs.Lines.{data_text}
 
 -- a time in the form of its own interface, if there is one

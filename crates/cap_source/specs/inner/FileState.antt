@@ -35,7 +35,7 @@ use Rattle.cap_source.specs.declared.readers.Next.TheVariants as nexts
 -- file was read. The next record or block begins at `offset` or later. The file was read up to `read`, and its device
 -- gives `most` bytes at a time at most, if it tells that. `lent` is what the reader lends of the one that was given
 -- last. `stops` says that the reader has come to an end. `broken` is where the header, the record or the block begins
--- in which a read failed, once one has. `counted_blocks` blocks were counted.
+-- in which a read failed, once one has. `counted` blocks were counted.
 pub record FileState : Type 0 where
   pub file : ℕ
   pub told : Bool

@@ -1,7 +1,7 @@
 -- The lines of files that were counted.
 use Rattle.std.specs.Prelude.{ℕ, ◌+◌, Bool, true, false, List, [], ◌∷◌, ◌++◌, codes, decimal, Option, Some, None}
 use Rattle.std.specs.Prelude.{option_map}
-use Rattle.cap_print.specs.Lines.{time_text}
+use Rattle.cap_print.specs.Times.{time_text}
 use Rattle.cap_source.specs.declared.feeds.Ending.{Ending}
 use Rattle.cap_source.specs.declared.feeds.FileEnd.{FileEnd}
 use Rattle.cap_source.specs.declared.packets.Format.{Format}

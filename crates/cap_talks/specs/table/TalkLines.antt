@@ -2,7 +2,7 @@
 use Rattle.std.specs.Prelude.{ℕ, ◌/◌, ◌%◌, ◌^◌, ◌==◌, List, [], ◌∷◌, ◌++◌, codes, decimal, Option, Some, None}
 use Rattle.std.specs.Prelude.{option_map, slice_get, if◌then◌else◌}
 use Rattle.std.specs.Option.{option_map_or}
-use Rattle.cap_print.specs.Lines.{time_text}
+use Rattle.cap_print.specs.Times.{time_text}
 use Rattle.cap_time.specs.Stamp.{printed_of}
 use Rattle.cap_talks.specs.table.Talks.{Talk}
 use Rattle.cap_talks.specs.declared.table.rows.TalkKey.{TalkKey}

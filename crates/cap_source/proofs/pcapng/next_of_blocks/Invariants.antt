@@ -13,7 +13,7 @@ invariant-loop-known g l = record {
   reads : ReadsTo (pcapng_state l.initial.reader (progress_of l.initial.reached))
       (pcapng_state l.reader (progress_of l.reached));
   room : IsTrue (has_room l.reader.broken l.reached);
-  counted_blocks : counted_blocks (progress_of l.reached) ≤ l.reader.offset;
+  counted : counted_blocks (progress_of l.reached) ≤ l.reader.offset;
   free : l.reader.stop ≡ None;
   limit : l.reader.offset ≤ 2 ^ 40;
 }

@@ -1,5 +1,5 @@
 use Rattle.std.specs.Prelude.{option_map}
-use Rattle.cap_print.specs.Lines.{time_text}
+use Rattle.cap_print.specs.Times.{time_text}
 use Rattle.cap_time.specs.Stamp.{printed_of}
 use Rattle.cap_talks.specs.table.TalkLines.{protocol_text, end_text, traffic_text}
 use Rattle.cap_talks.proofs.TalkPrinting.{line_parts}
