@@ -1,10 +1,12 @@
 //! What each command writes and answers, over readers and writers in memory.
 mod blocks;
+mod blocks_json;
 mod captures;
 mod convert;
 mod jobs;
 mod join;
 mod list;
+mod list_json;
 mod merge;
 
 use crate::checks::same;

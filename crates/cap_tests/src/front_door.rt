@@ -16,8 +16,8 @@ pub use libcapt::read::{
 pub use libcapt::report::{Held, Step, Table, file_lines, report};
 pub use libcapt::time::{Interface, Resolution, Stamp, Unit};
 pub use libcapt::tool::{
-    Job, LineFault, blocks_to, convert_to, join_to, join_to_pcap, list_to, merge_to, merge_to_pcap,
-    parse,
+    Job, LineFault, blocks_json_to, blocks_to, convert_to, join_to, join_to_pcap, list_json_to,
+    list_to, merge_to, merge_to_pcap, parse,
 };
 pub use libcapt::write::{
     put_header, put_interface, put_packet, put_record, put_section, to_pcap, to_pcapng,

@@ -14,8 +14,8 @@ pub use cap_source::{Capture, Ending, FeedHeld, Format, Head, Meta, PacketFeed};
 pub use cap_talks::{Held, Step, Table, file_lines, report};
 pub use cap_time::{Interface, Resolution, Stamp, Unit};
 pub use cap_tool::{
-    Job, LineFault, blocks_to, convert_to, join_to, join_to_pcap, list_to, merge_to, merge_to_pcap,
-    parse,
+    Job, LineFault, blocks_json_to, blocks_to, convert_to, join_to, join_to_pcap, list_json_to,
+    list_to, merge_to, merge_to_pcap, parse,
 };
 pub use cap_write::{
     to_pcap, to_pcapng, write_joined, write_joined_pcap, write_merged, write_merged_pcap,

@@ -1,6 +1,6 @@
 -- Going through the blocks of a file.
-use Rattle.std.proofs.Common.{◌≡◌, ℕ, ◌≤◌, ◌∷◌, [], Bool, IsTrue, Option, Some, None, Result, Ok, Err, refl, sym, ◌∙◌}
-use Rattle.std.proofs.Common.{subst, arith}
+use Rattle.std.proofs.Common.{◌≡◌, ℕ, ◌≤◌, List, ◌∷◌, [], Bool, IsTrue, Option, Some, None, Result, Ok, Err, refl, sym}
+use Rattle.std.proofs.Common.{◌∙◌, subst, arith}
 use Rattle.std.specs.Prelude.{IfSome, IfNone, IsSome}
 use Rattle.cap_blocks.specs.inner.Reader.{GivesBlock, GivesNextBlock}
 use Rattle.cap_blocks.specs.declared.blocks.Block.{Block}
@@ -30,8 +30,8 @@ lasts-stop inside fault stop old new g = by old.stop g.again g.first
     by None again first = record { broken = first.goes.after ∙ sym first.goes.before; failed = first.goes.failed }
     by (Some s) again first = subst (BlockWalkLasts old) (sym again.1) (record { broken = refl; failed = refl })
 
-module _ (old mid new : ReaderState Order) (fo fm : Bool) (from m : Writer) (n : ℕ)
-    (p : Printing old mid fo fm from m n) where
+module _ (line_of : ℕ → Block → List ℕ) (old mid new : ReaderState Order) (fo fm : Bool) (from m : Writer) (n : ℕ)
+    (p : Printing line_of old mid fo fm from m n) where
   pub walks-fault : (fault : Fault) → GivesNextBlock mid (Err fault) new
       → WalksBlocks {A = Unit {0}} old (Err fault) new
   walks-fault (Refused refusal) g = (g.stop_is, lasts-trans old mid new p.lasts (lasts-stop _ _ _ mid new g))

@@ -4,3 +4,4 @@ pub mod BlockListing
 pub mod BlockWalking
 pub mod Listing
 pub mod Telling
+pub mod Pieces

@@ -1,5 +1,5 @@
 -- What `capt blocks` prints.
-use Rattle.std.specs.Prelude.{ℕ, ◌+◌, List, [], ◌∷◌, ◌++◌, codes, decimal, Option, Some, None}
+use Rattle.std.specs.Prelude.{ℕ, ◌+◌, List, [], ◌∷◌, ◌++◌, codes, Option, Some, None}
 use Rattle.hex.specs.Hex.{encode_lower}
 use Rattle.cap_bytes.specs.Number.{bytes_of}
 use Rattle.cap_bytes.specs.declared.faults.Refusal.{Refusal}
@@ -9,6 +9,8 @@ use Rattle.cap_bytes.specs.declared.numbers.Order.TheVariants.{Big, Little}
 use Rattle.cap_bytes.specs.Items.{PieceItem, given, stopped}
 use Rattle.cap_blocks.specs.Split.{block_items_from}
 use Rattle.cap_blocks.specs.declared.blocks.Block.{Block}
+use Rattle.cap_print.specs.Facts.{Facts, line_in, number, one, word}
+use Rattle.cap_print.specs.declared.forms.Form.TheVariants.{Json, Text}
 use Rattle.cap_bytes.specs.declared.stops.Stop.{Stop}
 use Rattle.cap_bytes.specs.declared.stops.Stop.TheVariants as stops
 
@@ -21,17 +23,32 @@ order_text Little = codes "little"
 abbrev pub kind_text : ℕ → List ℕ
 kind_text kind = encode_lower (bytes_of Big 4 kind)
 
--- the line of the block number n
-abbrev pub block_text : ℕ → Block → List ℕ
-block_text n block =
-    codes "block " ++ decimal n ++ codes " offset " ++ decimal block.offset ++ codes " order " ++ order_text block.order
-    ++ codes " kind " ++ kind_text block.kind ++ codes " total " ++ decimal block.total ++ codes "\n"
+-- the facts of the block number n
+abbrev pub block_facts : ℕ → Block → Facts
+block_facts n block = record {
+  kind = codes "block";
+  fields =
+      one (record { label = codes " "; key = codes "n"; value = number n })
+      ∷ one (record { label = codes " offset "; key = codes "offset"; value = number block.offset })
+      ∷ one (record { label = codes " order "; key = codes "order"; value = word (Some (order_text block.order)) })
+      ∷ one (record { label = codes " kind "; key = codes "kind"; value = word (Some (kind_text block.kind)) })
+      ∷ one (record { label = codes " total "; key = codes "total"; value = number block.total })
+      ∷ [];
+}
 
--- the lines of the blocks of a pcapng file, from the number n on
-unfoldable pub block_lines : ℕ → List (PieceItem Block) → List ℕ
-block_lines n [] = []
-block_lines n (given block body ∷ items) = block_text n block ++ block_lines (n + 1) items
-block_lines n (stopped stop ∷ items) = []
+-- the line of the block number n in text
+abbrev pub block_text : ℕ → Block → List ℕ
+block_text n block = line_in Text (block_facts n block)
+
+-- the line of the block number n in JSON
+abbrev pub block_json : ℕ → Block → List ℕ
+block_json n block = line_in Json (block_facts n block)
+
+-- the lines of the blocks of a pcapng file, numbered from n on; `line` gives the line of each
+unfoldable pub block_lines : (ℕ → Block → List ℕ) → ℕ → List (PieceItem Block) → List ℕ
+block_lines line n [] = []
+block_lines line n (given block body ∷ items) = line n block ++ block_lines line (n + 1) items
+block_lines line n (stopped stop ∷ items) = []
 
 -- the refusal that ends the blocks, if one does
 abbrev pub refusal_of_stop : Stop → Option Refusal
@@ -44,9 +61,14 @@ blocks_refusal [] = None
 blocks_refusal (given block body ∷ items) = blocks_refusal items
 blocks_refusal (stopped stop ∷ items) = refusal_of_stop stop
 
--- what `blocks` prints of a file with those bytes, and the refusal that it then answers, if there is one
+-- what `blocks` prints of a file with those bytes
 abbrev pub block_list : Tail → List ℕ → List ℕ
-block_list tail bytes = block_lines 1 (block_items_from None tail 1 0 bytes)
+block_list tail bytes = block_lines block_text 1 (block_items_from None tail 1 0 bytes)
 
+-- what `blocks --json` prints of a file with those bytes
+abbrev pub block_list_json : Tail → List ℕ → List ℕ
+block_list_json tail bytes = block_lines block_json 1 (block_items_from None tail 1 0 bytes)
+
+-- the refusal that ends `blocks` of a file with those bytes in either form, if there is one
 abbrev pub block_refusal : Tail → List ℕ → Option Refusal
 block_refusal tail bytes = blocks_refusal (block_items_from None tail 1 0 bytes)

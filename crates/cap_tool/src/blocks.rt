@@ -1,14 +1,15 @@
-//! `capt blocks`: one line for each block of a pcapng file, as it is found.
+//! `capt blocks`, in text and in JSON: one line for each block of a pcapng file, as it is found.
 ghost use Rattle.std.specs.Prelude.{◌∷◌, [], IsTrue};
 ghost use Rattle.cap_blocks.specs.inner.Reader.{GivesNextBlock, TakesBlock, blocks_to_come};
 ghost use Rattle.cap_tool.specs.inner.BlockWalk.{WalksBlocks};
-ghost use Rattle.cap_tool.specs.BlockText.{block_lines, block_list, block_refusal, blocks_refusal};
+ghost use Rattle.cap_tool.specs.BlockText.{block_json, block_lines, block_list, block_list_json, block_refusal};
+ghost use Rattle.cap_tool.specs.BlockText.{block_text, blocks_refusal};
 ghost use Rattle.cap_bytes.specs.Device.{WriterKeeps, writer_of};
 ghost use Rattle.cap_bytes.specs.Printing.{Prints, is_write};
 ghost use Rattle.cap_bytes.specs.inner.Reader.{ReaderKeeps};
 ghost use Rattle.cap_source.specs.ReadFaults.{FailsOf};
 
-use crate::lines::write_block;
+use crate::lines::{write_block, write_block_json};
 use cap_blocks::{Block, BlockReader};
 use cap_bytes::{Fault, Sink, Source, Tail, Window, put_all};
 use cap_print::Line;
@@ -33,7 +34,7 @@ fn print_blocks<R: Source, W: Sink>(
     writer: &mut W,
 ) -> Result<(), Fault>
     ensures text { IsTrue reader.old.told → IsTrue (W.tells_held writer.old)
-        → Prints (block_lines 1 (blocks_to_come reader.old)) (blocks_refusal (blocks_to_come reader.old))
+        → Prints (block_lines block_text 1 (blocks_to_come reader.old)) (blocks_refusal (blocks_to_come reader.old))
         (W.held writer.old) result (W.held writer.new) }
     ensures writer { WriterKeeps (writer_of W.Sink writer.old) (is_write result) (writer_of W.Sink writer.new) }
     ensures walks { WalksBlocks reader.old result reader.new }
@@ -65,4 +66,44 @@ pub fn blocks_to<R: Source, W: Sink>(
 {
     let mut reader = BlockReader::new(Window::new(alloc, source, 1), tail);
     print_blocks(&mut reader, writer)
+}
+
+// Prints the blocks that a reader still gives in JSON, the first of which has the number 1.
+fn print_json_blocks<R: Source, W: Sink>(
+    reader: &mut BlockReader<R>,
+    writer: &mut W,
+) -> Result<(), Fault>
+    ensures text { IsTrue reader.old.told → IsTrue (W.tells_held writer.old)
+        → Prints (block_lines block_json 1 (blocks_to_come reader.old)) (blocks_refusal (blocks_to_come reader.old))
+        (W.held writer.old) result (W.held writer.new) }
+    ensures writer { WriterKeeps (writer_of W.Sink writer.old) (is_write result) (writer_of W.Sink writer.new) }
+    ensures walks { WalksBlocks reader.old result reader.new }
+{
+    let mut line = Line::new();
+    let mut number = 1u64;
+    while let Some(block) = take_block(reader)? {
+        write_block_json(&mut line, number, &block);
+        put_all(writer, line.as_slice())?;
+        number += 1;
+    }
+    Ok(())
+}
+
+/// Prints a JSON object on a line of its own for each block of a pcapng file, each as it is found, up to the first
+/// refusal, which it returns. It returns `Read` if a read fails, `Write` if a write does, `Memory` if a growth is
+/// refused; then a prefix of those lines is written.
+pub fn blocks_json_to<R: Source, W: Sink>(
+    alloc: Global,
+    source: R,
+    tail: Tail,
+    writer: &mut W,
+) -> Result<(), Fault>
+    ensures text { IsTrue (R.tells_coming source) → IsTrue (W.tells_held writer.old)
+        → Prints (block_list_json tail (R.coming source)) (block_refusal tail (R.coming source))
+        (W.held writer.old) result (W.held writer.new) }
+    ensures writer { WriterKeeps (writer_of W.Sink writer.old) (is_write result) (writer_of W.Sink writer.new) }
+    ensures read { FailsOf (R.can_fail source ∷ []) result }
+{
+    let mut blocks = BlockReader::new(Window::new(alloc, source, 1), tail);
+    print_json_blocks(&mut blocks, writer)
 }

@@ -1,8 +1,9 @@
 //! The lines of packets and blocks.
-ghost use Rattle.std.specs.Prelude.{◌≡◌, ◌+◌, ◌≤◌, ◌++◌, length, option_map};
+ghost use Rattle.std.specs.Prelude.{◌≡◌, ◌+◌, ◌≤◌, ◌++◌, length, option_map, take};
+ghost use Rattle.cap_print.specs.Facts.{bytes_text};
 ghost use Rattle.cap_print.specs.Lines.{room_in, text_in};
-ghost use Rattle.cap_tool.specs.BlockText.{block_text, kind_text, order_text};
-ghost use Rattle.cap_tool.specs.Lines.{data_text};
+ghost use Rattle.cap_tool.specs.BlockText.{block_json, block_text, kind_text, order_text};
+ghost use Rattle.cap_tool.specs.inner.PacketJson.{packet_head};
 ghost use Rattle.cap_time.specs.Stamp.{printed_of};
 ghost use Rattle.cap_tool.specs.ListText.{packet_text, printed_in};
 
@@ -17,7 +18,7 @@ use std::cmp::min;
 #[inline(always)]
 fn prepend_data(line: &mut Line, label: &[u8], bytes: &[u8])
     requires { length label.now + 32 ≤ room_in line.old }
-    ensures text { text_in line.new ≡ label.now ++ data_text bytes.now ++ text_in line.old }
+    ensures text { text_in line.new ≡ label.now ++ bytes_text (take 16 bytes.now) ++ text_in line.old }
     ensures room { room_in line.old ≤ room_in line.new + length label.now + 32 }
 {
     if bytes.is_empty() {
@@ -50,6 +51,21 @@ pub(crate) fn write_packet(line: &mut Line, n: u64, meta: &Meta, bytes: &[u8])
     line.prepend_time(b" time ", stamp_of(meta));
     line.prepend_field(b" offset ", meta.offset);
     line.prepend_field(b"packet ", n);
+}
+
+/// Makes a line the packet number n, from 1, in JSON, up to the digits of its bytes:
+/// `{"type":"packet","n":N,"offset":O,"time":T,"captured":C,"original":G,"link":L,"data":"`.
+pub(crate) fn write_packet_head(line: &mut Line, n: u64, meta: &Meta)
+    ensures { text_in line.new ≡ packet_head n meta.now }
+{
+    line.clear();
+    line.prepend_text(b",\"data\":\"");
+    line.prepend_field(b",\"link\":", u64::from(meta.interface.link));
+    line.prepend_field(b",\"original\":", u64::from(meta.original));
+    line.prepend_field(b",\"captured\":", u64::from(meta.captured));
+    line.prepend_time_array(b",\"time\":", stamp_of(meta));
+    line.prepend_field(b",\"offset\":", meta.offset);
+    line.prepend_field(b"{\"type\":\"packet\",\"n\":", n);
 }
 
 // Puts a label and the order of a block's numbers.
@@ -89,4 +105,18 @@ pub(crate) fn write_block(line: &mut Line, n: u64, block: &Block)
     prepend_order(line, b" order ", block.order);
     line.prepend_field(b" offset ", block.offset);
     line.prepend_field(b"block ", n);
+}
+
+/// Makes a line the block number n, from 1, in JSON:
+/// `{"type":"block","n":N,"offset":O,"order":"little","kind":"0a0d0d0a","total":T}`, or `"order":"big"`.
+pub(crate) fn write_block_json(line: &mut Line, n: u64, block: &Block)
+    ensures { text_in line.new ≡ block_json n block.now }
+{
+    line.clear();
+    line.prepend_text(b"}\n");
+    line.prepend_field(b"\",\"total\":", u64::from(block.total));
+    prepend_kind(line, b"\",\"kind\":\"", block.kind);
+    prepend_order(line, b",\"order\":\"", block.order);
+    line.prepend_field(b",\"offset\":", block.offset);
+    line.prepend_field(b"{\"type\":\"block\",\"n\":", n);
 }

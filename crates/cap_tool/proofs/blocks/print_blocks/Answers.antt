@@ -14,7 +14,7 @@ returns-in_err-block-clause-text g c = λ t w.
     let i = c.loop-block.invariant in
     let old = c.loop-block.reader in
     let new = c.take_block.new.reader in
-    rw (p.1, p.2) (Prints-block_fault c.in_err-block.field-0.0 _ _ _ _ c.loop-block.n old new (i.lines t) w
+    rw (p.1, p.2) (Prints-block_fault block_text c.in_err-block.field-0.0 _ _ _ _ c.loop-block.n old new (i.lines t) w
     (i.refusal_same t)
     (c.in_err-block.ensures.items (i.told t)))
 
@@ -28,9 +28,9 @@ returns-in_err-put_all-clause-text g c = λ t w.
     ∙ c.write_block.ensures in
     let items : TakesBlock old (Ok (Some c.in-Some.block)) new =
     rw c.in-Some.is at (c.in_ok-block.ensures.items (i.told t)) in
-    let behind = block_lines (c.loop-block.n + 1) (blocks_to_come new) in
-    let split : block_lines c.loop-block.n (blocks_to_come old) ≡ c.as_slice.result.now ++ behind =
-    block_lines-given c.loop-block.n c.in-Some.block _ (blocks_to_come old) (blocks_to_come new) items
+    let behind = block_lines block_text (c.loop-block.n + 1) (blocks_to_come new) in
+    let split : block_lines block_text c.loop-block.n (blocks_to_come old) ≡ c.as_slice.result.now ++ behind =
+    block_lines-given block_text c.loop-block.n c.in-Some.block _ (blocks_to_come old) (blocks_to_come new) items
     ∙ ap (λ l. l ++ behind) (sym line_is) in
     let wrote = c.in_err-put_all.ensures.bytes (i.writer_told w) in
     rw (p.1, p.2, c.in_err-put_all.ensures.fault)
@@ -43,8 +43,8 @@ loop-block-preserved g c =
     let new = c.take_block.new.reader in
     let e = c.in_ok-put_all.ensures in
     let gives : GivesBlock old c.in-Some.block new = rw c.in-Some.is at c.in_ok-block.ensures.answer in
-    Printing-more c.args.reader.now old new _ _ _ _ _ _ c.loop-block.n c.in-Some.block _ c.as_slice.result.now
-    i gives c.in_ok-block.ensures.keeps
+    Printing-more block_text c.args.reader.now old new _ _ _ _ _ _ c.loop-block.n c.in-Some.block _
+    c.as_slice.result.now i gives c.in_ok-block.ensures.keeps
     (λ t. rw c.in-Some.is at (c.in_ok-block.ensures.items t))
     (c.as_slice.ensures.value ∙ c.write_block.ensures)
     e.bytes e.writer.told e.writer.cannot (search rules)
@@ -55,26 +55,26 @@ returns-clause-text g c = λ t w.
     let old = c.loop-block.reader in
     let new = c.take_block.new.reader in
     let took : TakesBlock old (Ok None) new = rw c.in_default.is at (c.in_ok-block.ensures.items (i.told t)) in
-    Prints-block_end _ _ _ _ c.loop-block.n old new (i.lines t) w (i.refusal_same t) took
+    Prints-block_end block_text _ _ _ _ c.loop-block.n old new (i.lines t) w (i.refusal_same t) took
 
 pub loop-block-init : goal.loop-block-init
-loop-block-init g c = Printing-none c.args.reader.now _ _
+loop-block-init g c = Printing-none block_text c.args.reader.now _ _
 
 pub returns-in_err-block-clause-walks : goal.returns-in_err-block-clause-walks
 returns-in_err-block-clause-walks g c =
     let p = err_from_is_err_and c.from_residual.result c.from_residual.ensures.1 in
     rw (p.1, p.2)
-    (walks-fault _ c.loop-block.reader c.take_block.new.reader _ _ _ _ c.loop-block.n c.loop-block.invariant
+    (walks-fault block_text _ c.loop-block.reader c.take_block.new.reader _ _ _ _ c.loop-block.n c.loop-block.invariant
     c.in_err-block.field-0.0 c.in_err-block.ensures.answer)
 
 pub returns-in_err-put_all-clause-walks : goal.returns-in_err-put_all-clause-walks
 returns-in_err-put_all-clause-walks g c =
     let p = err_from_is_err_and c.from_residual-in_err-put_all.result c.from_residual-in_err-put_all.ensures.1 in
     rw (p.1, p.2, c.in_err-put_all.ensures.fault)
-    (lasts-given _ c.loop-block.reader c.take_block.new.reader _ _ _ _ c.loop-block.n c.loop-block.invariant
+    (lasts-given block_text _ c.loop-block.reader c.take_block.new.reader _ _ _ _ c.loop-block.n c.loop-block.invariant
     c.in-Some.block (rw c.in-Some.is at c.in_ok-block.ensures.answer))
 
 pub returns-clause-walks : goal.returns-clause-walks
 returns-clause-walks g c =
-    walks-end _ c.loop-block.reader c.take_block.new.reader _ _ _ _ c.loop-block.n c.loop-block.invariant
+    walks-end block_text _ c.loop-block.reader c.take_block.new.reader _ _ _ _ c.loop-block.n c.loop-block.invariant
     (rw c.in_default.is at c.in_ok-block.ensures.answer)

@@ -1,11 +1,12 @@
 use Rattle.std.proofs.Common.{◌-◌, ◌^◌}
 use Rattle.cap_tool.proofs.BlockListing.{Printing}
+use Rattle.cap_tool.specs.BlockText.{block_text}
 use Rattle.cap_tool.proofs.blocks.print_blocks.Given as goal
 
 -- the lines of the blocks that were given are written, and those of the others are to be
 abbrev pub invariant-loop-block : goal.invariant-loop-block
 invariant-loop-block g l =
-    Printing l.fn.reader l.reader (g.W.Device.has_failed l.fn.writer) (g.W.Device.has_failed l.writer)
+    Printing block_text l.fn.reader l.reader (g.W.Device.has_failed l.fn.writer) (g.W.Device.has_failed l.writer)
     (record {
       told = g.W.Sink.tells_held l.fn.writer;
       held = g.W.Sink.held l.fn.writer;

@@ -13,8 +13,9 @@ pub returns-in_err-meta-clause-text : goal.returns-in_err-meta-clause-text
 returns-in_err-meta-clause-text g c = λ t w.
     let p = err_from_is_err_and c.from_residual.result c.from_residual.ensures.1 in
     let i = c.loop-meta.invariant.walk in
-    rw (p.1, p.2) (Prints-fault (plan_of c.loop-meta.n) c.in_err-meta.field-0.0 _ _ _ _
-    (g.F.PacketFeed.feed c.loop-meta.feed) (g.F.PacketFeed.feed c.next_packet.new.feed) (plan_of-is c.loop-meta.n)
+    let n = c.loop-meta.n in
+    rw (p.1, p.2) (Prints-fault (plan_of packet_text n) c.in_err-meta.field-0.0 _ _ _ _
+    (g.F.PacketFeed.feed c.loop-meta.feed) (g.F.PacketFeed.feed c.next_packet.new.feed) (plan_of-is packet_text n)
     (i.text t) w (i.refusal_same t)
     (c.in_err-meta.ensures.items (i.told t)))
 
@@ -29,9 +30,9 @@ returns-in_err-put_all-clause-text g c = λ t w.
     let shows : ShowsItem mid (Ok (Some meta)) shown = rw c.in-Some.is at (c.in_ok-meta.ensures.items (i.told t)) in
     let line_is : c.as_slice.result.now ≡ packet_text n meta shown.frame =
     c.as_slice.ensures.value ∙ (c.write_packet.ensures ∙ ap (packet_text n meta) c.frame.ensures.frame) in
-    let behind = list_lines (n + 1) (drop 1 mid.items) in
-    let split : list_lines n mid.items ≡ c.as_slice.result.now ++ behind =
-    ap (list_lines n) shows.1 ∙ ((plan_of-next n meta shown.frame).text (drop 1 mid.items)
+    let behind = list_lines packet_text (n + 1) (drop 1 mid.items) in
+    let split : list_lines packet_text n mid.items ≡ c.as_slice.result.now ++ behind =
+    ap (list_lines packet_text n) shows.1 ∙ ((plan_of-next packet_text n meta shown.frame).text (drop 1 mid.items)
     ∙ ap (λ l. l ++ behind) (sym line_is)) in
     let wrote = c.in_err-put_all.ensures.bytes (i.writer_told w) in
     rw (p.1, p.2, c.in_err-put_all.ensures.fault)
@@ -57,7 +58,7 @@ loop-meta-preserved g c =
       walk =
           Walking-more _ _ _ _ mid shown new _ _ _ _ _ _ meta (packet_text n meta shown.frame)
           i.walk c.in_ok-meta.ensures.keeps (λ t. rw c.in-Some.is at (c.in_ok-meta.ensures.items t))
-          c.pass.ensures.keeps c.pass.ensures.passes.items (plan_of-next n meta shown.frame)
+          c.pass.ensures.keeps c.pass.ensures.passes.items (plan_of-next packet_text n meta shown.frame)
           (λ w. rw line_is at (e.bytes w))
           e.writer.told e.writer.cannot (search rules);
     }
@@ -69,7 +70,8 @@ returns-clause-text g c = λ t w.
     let mid = g.F.PacketFeed.feed c.loop-meta.feed in
     let shown = g.F.PacketFeed.feed c.next_packet.new.feed in
     let shows : ShowsItem mid (Ok None) shown = rw c.in_default.is at (c.in_ok-meta.ensures.items (i.told t)) in
-    Prints-end (plan_of n) _ _ _ _ mid shown (plan_of-is n) (i.text t) w (i.refusal_same t) shows
+    Prints-end (plan_of packet_text n) _ _ _ _ mid shown (plan_of-is packet_text n) (i.text t) w
+    (i.refusal_same t) shows
 
 pub returns-in_err-meta-clause-walks : goal.returns-in_err-meta-clause-walks
 returns-in_err-meta-clause-walks g c = grind (arith, err_from_is_err_and, Walks-fault)
