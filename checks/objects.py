@@ -1,0 +1,159 @@
+#!/usr/bin/env python3
+"""JSON Lines: what `list`, `blocks`, `info` and `report` print with --json is, object for object and byte for byte, what the text lines of the
+model say of the same files, and Python's json reads each line as those values. Over the files of checks/corpus/, the examples, the worked captures,
+and captures made at random, some of them damaged; `list` also with --data. A refusal and a fault are an object too, with the file's path.
+
+Use: checks/objects.py [PROGRAM [CAPTURES]]     (as after `rt run` or `rt ci` in crates/capt; 10,000 random captures in about a minute)
+"""
+import sys
+
+sys.dont_write_bytecode = True
+
+import json, os, random, re, tempfile
+from concurrent.futures import ThreadPoolExecutor
+
+import model
+from captures import PROGRAM, TOP, VECTORS, Bench, Count, make_shim, run, vector, wanted_of
+from soak import mutated, some_capture
+
+TASKS = ("list", "blocks", "info", "report")
+PROTOCOLS = {"udp": 17, "tcp": 6}
+TIME = re.compile(r"(-?\d+)\+(\d+)/(\d+)")
+
+
+def time_of(word):
+    found = TIME.fullmatch(word)
+    return [int(found[1]), int(found[2]), int(found[3])] if found else None
+
+
+def end_of(word):
+    address, _, port = word.partition(":")
+    return {"address": address, "port": int(port)} if port else {"address": address}
+
+
+def pairs_of(words):
+    """Words by turns a name and a number."""
+    return {name.replace("-", "_"): int(number) for name, number in zip(words[::2], words[1::2])}
+
+
+def object_of(line):
+    """The object of a text line, with its keys in their order."""
+    kind, *words = line.split()
+    if kind == "packet":
+        n, _, offset, _, time, _, captured, _, original, _, link, _, data = words
+        return {"type": kind, "n": int(n), "offset": int(offset), "time": time_of(time), "captured": int(captured), "original": int(original),
+                "link": int(link), "data": "" if data == "-" else data}
+    if kind == "block":
+        n, _, offset, _, order, _, number, _, total = words
+        return {"type": kind, "n": int(n), "offset": int(offset), "order": order, "kind": number, "total": int(total)}
+    if kind == "file":
+        number, form, *sums, _, first, _, last = words[:-1] if words[-1] == "cut" else words
+        return {"type": kind, "file": int(number), "format": form, **pairs_of(sums), "first": time_of(first), "last": time_of(last),
+                "cut": words[-1] == "cut"}
+    if kind == "talk":
+        name, a, b, _, out, out_bytes, _, back, back_bytes, _, first, _, last = words
+        return {"type": kind, "protocol": PROTOCOLS.get(name) or int(name[1:]), "a": end_of(a), "b": end_of(b),
+                "forward": {"packets": int(out), "bytes": int(out_bytes)}, "backward": {"packets": int(back), "bytes": int(back_bytes)},
+                "first": time_of(first), "last": time_of(last)}
+    if kind in ("files", "talks", "joined"):
+        words = [kind, *words]
+    return {"type": kind, **pairs_of(words)}
+
+
+def spelled(value):
+    """An object as capt prints it: no blanks, text as it is."""
+    return json.dumps(value, separators=(",", ":"), ensure_ascii=False) + "\n"
+
+
+def objects_of(text):
+    return "".join(spelled(object_of(line)) for line in text.splitlines())
+
+
+def refused_object(refusal, path):
+    """The object of a refusal as the model has it."""
+    return spelled({"type": "refused", "file": refusal.file, "offset": refusal.offset, "rule": refusal.rule, "name": model.RULES[refusal.rule],
+                    "path": path})
+
+
+def wanted_objects(task, contents, paths, allow_cut, data=None):
+    """The status, standard output and standard error with --json."""
+    text, refusal = model.answer(task, contents, allow_cut)
+    out = objects_of(text)
+    if data is not None:
+        packets = model.File(1, contents[0], allow_cut).packets
+        out = "".join(spelled({**json.loads(line), "data": packet.data[:data].hex()}) for line, packet in zip(out.splitlines(), packets))
+    return 1 if refusal else 0, out.encode(), refused_object(refusal, paths[refusal.file - 1]).encode() if refusal else b""
+
+
+def main():
+    count, program = Count(), sys.argv[1] if len(sys.argv) > 1 else PROGRAM
+    number = int(sys.argv[2]) if len(sys.argv) > 2 else 10_000
+    kept = [os.path.join(TOP, folder, name) for folder in ("checks/corpus", "examples") for name in sorted(os.listdir(os.path.join(TOP, folder)))
+            if name.endswith((".pcap", ".pcapng"))]
+    with tempfile.TemporaryDirectory() as folder:
+        shim = make_shim(folder)
+
+        def holds(bench, task, contents, allow_cut, data=None, faults=None):
+            paths = [bench.name(content) for content in contents]
+            words = [task, "--json", *(["--allow-cut"] if allow_cut else []), *([] if data is None else ["--data", str(data)]), *paths]
+            seen = run(words, program, faults)[:3]
+            wanted = wanted_objects(task, contents, paths, allow_cut, data)
+            count.check(f"capt {' '.join(words)}", seen == wanted, f"wanted {wanted!r:.600}\n  saw {seen!r:.600}")
+            try:
+                for line in (seen[1] + seen[2]).splitlines():
+                    json.loads(line)
+            except ValueError as error:
+                count.check(f"capt {' '.join(words)}", False, error, line[:200])
+
+        def does(content):
+            bench = Bench(tempfile.mkdtemp(dir=folder), program)
+            for task in TASKS:
+                for allow_cut in (False, True):
+                    holds(bench, task, [content], allow_cut, faults=(shim, {"PIECE": 1}) if allow_cut else None)
+            for data in (0, 3, 199, 200, 201, 400, 262_144):
+                holds(bench, "list", [content], False, data)
+
+        def random_one(n):
+            rng, bench = random.Random(f"objects/{n}"), Bench(tempfile.mkdtemp(dir=folder), program)
+            contents = [some_capture(rng) for _ in range(rng.choice([1, 1, 2]))]
+            for place, content in enumerate(contents):
+                for _ in range(rng.choice([0, 0, 0, 1, 2])):
+                    contents[place] = mutated(rng, content, rng.choice(contents))
+            task, allow_cut = rng.choice(("info", "report", "blocks")), rng.random() < 0.5
+            holds(bench, task, contents[:1] if task == "blocks" else contents, allow_cut)
+            holds(bench, "list", contents[:1], allow_cut, rng.choice((None, None, 0, 20, 262_144)))
+            for name in os.listdir(bench.folder):
+                os.remove(os.path.join(bench.folder, name))
+
+        # a packet of the greatest length, shown whole
+        longest = bytes.fromhex("d4c3b2a1020004000000000000000000000004000100000001000000000000000000040000000400") + bytes(range(256)) * 1024
+        with ThreadPoolExecutor(2 * (os.cpu_count() or 2)) as pool:
+            files = [open(path, "rb").read() for path in kept]
+            list(pool.map(does, [*files, *(vector(name) for name in VECTORS), longest, b""]))
+            list(pool.map(random_one, range(number)))
+
+        # a path with what JSON escapes; each fault has its object
+        place = os.path.join(folder, 'a "b"\\\x1bé.pcap')
+        with open(place, "wb") as file:
+            file.write(vector("CARRY_PCAP")[:-1])
+        offset = len(vector("CARRY_PCAP")) - 20
+        told = {"type": "refused", "file": 1, "offset": offset, "rule": 3, "name": "cut", "path": place}
+        seen = run(["info", "--json", place], program)
+        count.check("a path that is escaped", seen == (1, b"", spelled(told).encode()) and json.loads(seen[2]) == told, seen)
+        seen = run(["info", "--json", f"{folder}/none"], program)
+        wanted = {"type": "fault", "fault": "open", "file": 1, "path": f"{folder}/none"}
+        count.check("a file that isn't there", seen == (1, b"", spelled(wanted).encode()), seen)
+        seen = run(["list", "--json", place], program, (shim, {"READ": "3-1"}))[:3]
+        wanted = {"type": "fault", "fault": "read", "file": 1, "offset": 0, "path": place}
+        count.check("a read that fails", seen == (1, b"", spelled(wanted).encode()), seen)
+        with open("/dev/full", "wb") as full:
+            whole = os.path.join(folder, "whole.pcap")
+            with open(whole, "wb") as file:
+                file.write(vector("CARRY_PCAP"))
+            seen = run(["list", "--json", whole], program, stdout=full)
+            count.check("a full disk", (seen[0], seen[2]) == (1, spelled({"type": "fault", "fault": "write"}).encode()), seen)
+    count.end()
+
+
+if __name__ == "__main__":
+    main()
