@@ -10,9 +10,9 @@ returns-in_err-put_all-clause-text g c = λ w.
     let i = c.loop-place.invariant.putting in
     let wrote = c.in_err-put_all.ensures.bytes (i.told w) in
     rw (p.1, p.2, c.in_err-put_all.ensures.fault)
-    (lines-front _ _ (g.W.Sink.held c.put_all.new.writer) c.args.counted.now c.loop-place.place
+    (lines-front c.args.form _ _ (g.W.Sink.held c.put_all.new.writer) c.args.counted.now c.loop-place.place
     c.index-counted-place.result c.as_slice.result.now wrote.0
-    c.index-counted-place.is c.loop-place-test.true (c.as_slice.ensures.value ∙ c.file_line-line.ensures) i w wrote.1)
+    c.index-counted-place.is c.loop-place-test.true (c.as_slice.ensures.value ∙ c.file_line_in-line.ensures) i w wrote.1)
 
 pub loop-place-preserved : goal.loop-place-preserved
 loop-place-preserved g c =
@@ -20,9 +20,9 @@ loop-place-preserved g c =
     record {
       failed = search rules;
       putting =
-          lines-more _ _ _ c.args.counted.now c.loop-place.place c.index-counted-place.result c.as_slice.result.now
+          lines-more c.args.form _ _ _ c.args.counted.now c.loop-place.place c.index-counted-place.result c.as_slice.result.now
           c.index-counted-place.is c.loop-place-test.true (c.as_slice.ensures.value
-          ∙ c.file_line-line.ensures) c.loop-place.invariant.putting
+          ∙ c.file_line_in-line.ensures) c.loop-place.invariant.putting
           e.bytes e.writer.told e.writer.cannot;
     }
 
