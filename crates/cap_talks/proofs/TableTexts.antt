@@ -7,7 +7,8 @@ use Rattle.cap_talks.specs.table.Classes.{classes, counts_of}
 use Rattle.cap_talks.specs.table.CountedUnits.{counted_units, joined_in, given_up_in}
 use Rattle.cap_talks.specs.counts.FileLines.{files_facts}
 use Rattle.cap_talks.specs.counts.FileLines.{ended_from, counted_texts_in}
-use Rattle.cap_talks.specs.table.TakenText.{files_part_in, body_text_in, text_of_in, total_facts, frames_facts, joined_facts}
+use Rattle.cap_talks.specs.table.TakenText.{files_part_in, body_text_in, text_of_in, total_facts, frames_facts}
+use Rattle.cap_talks.specs.table.TakenText.{joined_facts}
 use Rattle.cap_talks.specs.table.TakenText.{taken_bytes, truncated_of}
 use Rattle.cap_talks.specs.table.Taken.{Taken}
 use Rattle.cap_talks.specs.table.Talks.{rows_of}
@@ -29,8 +30,10 @@ files-are form e t xs ended s is = grind (arith, ended-length, lines-counted)
 -- the lines of a tally
 tally-is : (form : Form) (t : TallyState) (xs : List Taken) (next : Option Taken) → TallyStands t xs next
     → tally_text_in form t
-    ≡ line_in form (frames_facts (counts_of (classes xs))) ++ line_in form (joined_facts (joined_in xs) (given_up_in xs))
-    ++ (line_in form (talks_facts (length (rows_of (counted_units xs)))) ++ talk_texts_in form (rows_of (counted_units xs)))
+    ≡ line_in form (frames_facts (counts_of (classes xs))) ++ line_in form (joined_facts (joined_in xs)
+    (given_up_in xs))
+    ++ (line_in form (talks_facts (length (rows_of (counted_units xs)))) ++ talk_texts_in form (rows_of
+    (counted_units xs)))
 unfolding tally_text_in
 tally-is form t xs next s = λ i.
     line_in form (frames_facts (s.classes i)) ++ line_in form (joined_facts (s.joined i) (given-up t xs next s i))

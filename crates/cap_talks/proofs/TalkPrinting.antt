@@ -15,11 +15,13 @@ lines-at : (form : Form) (all : List Talk) (place : ℕ) → place < length all
 lines-at form (t ∷ all) (suc place) within = lines-at form all place (omega arith)
 lines-at form all place within = grind arith
 
-pub lines-none : (form : Form) (all : List Talk) (place : ℕ) → length all ≤ place → talk_texts_in form (drop place all) ≡ []
+pub lines-none : (form : Form) (all : List Talk) (place : ℕ) → length all ≤ place
+    → talk_texts_in form (drop place all) ≡ []
 lines-none form (t ∷ all) (suc place) past = lines-none form all place (omega arith)
 lines-none form all place past = grind (arith, common_steps)
 
-split_at_line : (form : Form) (all : List Talk) (place : ℕ) (line : List ℕ) → place < length all → line ≡ line_at_in form all place
+split_at_line : (form : Form) (all : List Talk) (place : ℕ) (line : List ℕ) → place < length all
+    → line ≡ line_at_in form all place
     → talk_texts_in form (drop place all) ≡ line ++ talk_texts_in form (drop (suc place) all)
 split_at_line form all place line within text = lines-at form all place within
     ∙ ap (λ l. l ++ talk_texts_in form (drop (suc place) all)) (sym text)

@@ -24,7 +24,8 @@ files-counted : (tail : Tail) (file : ℕ) (files : List (List ℕ)) → length 
 files-counted tail file [] = refl
 files-counted tail file (bytes ∷ files) = ap suc (files-counted tail (file + 1) files)
 
-pub info-counted : (form : Form) (tail : Tail) (files : List (List ℕ)) (all : List Counted) → all ≡ counted_files tail 1 files
+pub info-counted : (form : Form) (tail : Tail) (files : List (List ℕ)) (all : List Counted)
+    → all ≡ counted_files tail 1 files
     → line_in form (files_facts (length all)) ++ counted_texts_in form 1 all ≡ info_text_in form tail files
 info-counted form tail files all is = grind (arith, files-counted, texts-counted)
 

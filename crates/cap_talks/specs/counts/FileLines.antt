@@ -1,6 +1,6 @@
 -- The lines of files that were counted.
 use Rattle.std.specs.Prelude.{ℕ, ◌+◌, Bool, false, List, [], ◌∷◌, ◌++◌, codes, Option, Some, None, option_map}
-use Rattle.cap_print.specs.Facts.{Facts, Fact, Field, one, group, Value, number, word, moment, flag, line_in}
+use Rattle.cap_print.specs.Facts.{Facts, one, number, word, moment, flag, line_in}
 use Rattle.cap_print.specs.declared.forms.Form.{Form}
 use Rattle.cap_source.specs.declared.feeds.Ending.{Ending}
 use Rattle.cap_source.specs.declared.feeds.FileEnd.{FileEnd}

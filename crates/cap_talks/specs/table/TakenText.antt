@@ -1,7 +1,7 @@
 -- The report over the packets that were taken so far.
 use Rattle.std.specs.Prelude.{ℕ, List, [], ◌∷◌, ◌++◌, ◌+◌, ◌==◌, nat_lt, codes, length, Option, if◌then◌else◌}
 use Rattle.std.specs.List.{flat_map, range_with_len}
-use Rattle.cap_print.specs.Facts.{Facts, Fact, Field, one, Value, number, line_in}
+use Rattle.cap_print.specs.Facts.{Facts, one, number, line_in}
 use Rattle.cap_print.specs.declared.forms.Form.{Form}
 use Rattle.cap_print.specs.declared.forms.Form.TheVariants.{Text}
 use Rattle.cap_source.specs.declared.feeds.FileEnd.{FileEnd}
@@ -83,8 +83,8 @@ joined_facts joined given_up =
 abbrev pub joined_text : ℕ → ℕ → List ℕ
 joined_text joined given_up = line_in Text (joined_facts joined given_up)
 
--- all lines but those of the files, in a form, by the packets' classes and units, and how many datagrams were joined and how many
--- groups given up
+-- all lines but those of the files, in a form, by the packets' classes and units, and how many datagrams were joined
+-- and how many groups given up
 abbrev pub body_by_in : Form → List Taken → List Class → List CountedUnit → ℕ → ℕ → List ℕ
 body_by_in form xs of_each units joined given_up =
     line_in form (total_facts (length xs) (taken_bytes xs) (truncated_of xs))

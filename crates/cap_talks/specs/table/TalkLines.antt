@@ -2,7 +2,7 @@
 use Rattle.std.specs.Prelude.{ℕ, ◌/◌, ◌%◌, ◌^◌, ◌==◌, List, [], ◌∷◌, ◌++◌, codes, decimal, Option, Some, None}
 use Rattle.std.specs.Prelude.{option_map, slice_get, if◌then◌else◌}
 use Rattle.std.specs.Option.{option_map_or}
-use Rattle.cap_print.specs.Facts.{Facts, Fact, Field, one, group, Value, number, coded, word, moment, line_in}
+use Rattle.cap_print.specs.Facts.{Facts, Fact, Field, one, group, number, coded, word, moment, line_in}
 use Rattle.cap_print.specs.declared.forms.Form.{Form}
 use Rattle.cap_print.specs.declared.forms.Form.TheVariants.{Text}
 use Rattle.cap_time.specs.Stamp.{printed_of}

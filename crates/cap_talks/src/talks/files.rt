@@ -102,8 +102,9 @@ pub fn file_lines<R: Source, W: Sink>(
 ///  "first":[SEC,NUM,DEN],"last":[SEC,NUM,DEN],"cut":false}
 /// ```
 ///
-/// with `null` in place of a time if no packet has one. The faults are those of `file_lines`: of files that are refused the first one's refusal, and nothing is written
-/// then, nor if a read fails or a growth is refused. After `Write` a prefix of the lines is written.
+/// with `null` in place of a time if no packet has one. The faults are those of `file_lines`: if some files are
+/// refused, the refusal of the first one. Nothing is written then, nor if a read fails or a growth is refused. After
+/// `Write` a prefix of the lines is written.
 pub fn file_lines_in<R: Source, W: Sink>(
     alloc: Global,
     sources: Vec<R>,

@@ -12,7 +12,8 @@ returns-in_err-put_all-clause-text g c = λ w.
     let all = c.args.counted.now in
     let line_is = c.as_slice-text.ensures.value ∙ c.files_line_in-line.ensures in
     rw (p.1, p.2)
-    (Prints-head None (g.W.Sink.held c.args.writer.now) (g.W.Sink.held c.put_all.new.writer) (line_in c.args.form (files_facts (length all)))
+    (Prints-head None (g.W.Sink.held c.args.writer.now) (g.W.Sink.held c.put_all.new.writer) (line_in c.args.form
+    (files_facts (length all)))
     (counted_texts_in c.args.form 1 all)
     c.in_err-put_all.field-0.0 c.in_err-put_all.ensures.fault (rw line_is at (c.in_err-put_all.ensures.bytes w)))
 
@@ -21,6 +22,7 @@ returns-clause-text g c = λ w.
     let all = c.args.counted.now in
     let line_is = c.as_slice-text.ensures.value ∙ c.files_line_in-line.ensures in
     Prints-behind None (g.W.Sink.held c.args.writer.now) (g.W.Sink.held c.put_all.new.writer)
-    (g.W.Sink.held c.put_each.new.writer) (line_in c.args.form (files_facts (length all))) (counted_texts_in c.args.form 1 all)
+    (g.W.Sink.held c.put_each.new.writer) (line_in c.args.form (files_facts (length all)))
+    (counted_texts_in c.args.form 1 all)
     c.put_each.result (rw line_is at (c.in_ok-put_all.ensures.bytes w))
     (c.put_each.ensures.text (c.in_ok-put_all.ensures.writer.told w))

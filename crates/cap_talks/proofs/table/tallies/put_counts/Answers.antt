@@ -12,7 +12,8 @@ returns-in_err-put_all-clause-text g c = λ w.
     let line_is = c.as_slice.ensures.value ∙ c.frames_line_in-line.ensures in
     rw (p.1, p.2)
     (Prints-head None (g.W.Sink.held c.args.writer.now) (g.W.Sink.held c.put_all.new.writer)
-    (line_in c.args.form (frames_facts c.args.classes.now)) (line_in c.args.form (joined_facts c.args.joined c.args.given_up))
+    (line_in c.args.form (frames_facts c.args.classes.now)) (line_in c.args.form
+    (joined_facts c.args.joined c.args.given_up))
     c.in_err-put_all.field-0.0 c.in_err-put_all.ensures.fault (rw line_is at (c.in_err-put_all.ensures.bytes w)))
 
 pub returns-clause-text : goal.returns-clause-text
@@ -21,6 +22,8 @@ returns-clause-text g c = λ w.
     let second = c.as_slice-2.ensures.value ∙ c.joined_line_in-line.ensures in
     Prints-behind None (g.W.Sink.held c.args.writer.now) (g.W.Sink.held c.put_all.new.writer)
     (g.W.Sink.held c.put_all-2.new.writer) (line_in c.args.form (frames_facts c.args.classes.now))
-    (line_in c.args.form (joined_facts c.args.joined c.args.given_up)) c.put_all-2.result (rw first at (c.in_ok-put_all.ensures.bytes w))
-    (prints-all (line_in c.args.form (joined_facts c.args.joined c.args.given_up)) _ _ c.put_all-2.result c.put_all-2.ensures.fault
+    (line_in c.args.form (joined_facts c.args.joined c.args.given_up)) c.put_all-2.result (rw first at
+    (c.in_ok-put_all.ensures.bytes w))
+    (prints-all (line_in c.args.form
+    (joined_facts c.args.joined c.args.given_up)) _ _ c.put_all-2.result c.put_all-2.ensures.fault
     (rw second at (c.put_all-2.ensures.bytes (c.in_ok-put_all.ensures.writer.told w))))

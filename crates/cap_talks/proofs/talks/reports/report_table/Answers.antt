@@ -20,7 +20,8 @@ returns-in_err-take_all-clause-writer g c =
 
 pub returns-clause-text : goal.returns-clause-text
 returns-clause-text g c = λ t w.
-    tells-report c.args.form (table_of c.args.table.now) (table_of c.take_all.new.table) (g.W.Sink.held c.args.writer.now)
+    tells-report c.args.form (table_of c.args.table.now) (table_of c.take_all.new.table)
+    (g.W.Sink.held c.args.writer.now)
     (g.W.Sink.held c.write_in.new.writer)
     c.write_in.result t c.requires.stands c.in_ok-take_all.ensures.takes c.write_in.ensures.fault
     (λ xs stands. c.write_in.ensures.text xs stands w)

@@ -24,11 +24,13 @@ returns-in_err-put_files-clause-text g c = λ xs stands w.
     let file_lines = line_in c.args.form (files_facts (length ended)) ++ counted_texts_in c.args.form 1 ended in
     let ended_is = rw (ap (ended_from endings 1) c.files.ensures.files) at (c.as_slice.ensures.value
     ∙ c.with_endings-counted.ensures) in
-    let rest = line_in c.args.form (total_facts t.totals.packets t.totals.bytes t.totals.truncated) ++ tally_text_in c.args.form t.tally in
+    let rest = line_in c.args.form (total_facts t.totals.packets t.totals.bytes t.totals.truncated)
+    ++ tally_text_in c.args.form t.tally in
     rw (p.1, p.2)
     (subst (λ text. Prints {A = Unit {0}} text None (g.W.Sink.held c.args.writer.now) (Err c.in_err-put_files.field-0.0)
     (g.W.Sink.held c.put_files.new.writer))
-    (text-is c.args.form endings t.totals t.tally xs (next_taken (parts_of t.merged)) ended stands.totals stands.tally ended_is)
+    (text-is c.args.form endings t.totals t.tally xs (next_taken
+    (parts_of t.merged)) ended stands.totals stands.tally ended_is)
     (prints-first (g.W.Sink.held c.args.writer.now)
     (g.W.Sink.held c.put_files.new.writer) file_lines rest c.in_err-put_files.field-0.0 c.in_err-put_files.ensures.fault
     (c.in_err-put_files.ensures.text w)))
@@ -49,7 +51,8 @@ returns-in_err-put_all-clause-text g c = λ xs stands w.
     rw (p.1, p.2)
     (subst (λ text. Prints {A = Unit {0}} text None (g.W.Sink.held c.args.writer.now) (Err c.in_err-put_all.field-0.0)
     (g.W.Sink.held c.put_all.new.writer))
-    (text-is c.args.form endings t.totals t.tally xs (next_taken (parts_of t.merged)) ended stands.totals stands.tally ended_is)
+    (text-is c.args.form endings t.totals t.tally xs (next_taken
+    (parts_of t.merged)) ended stands.totals stands.tally ended_is)
     (Prints-behind None (g.W.Sink.held c.args.writer.now) (g.W.Sink.held c.put_files.new.writer)
     (g.W.Sink.held c.put_all.new.writer) file_lines (total ++ tally_text_in c.args.form t.tally)
     (Err c.in_err-put_all.field-0.0) (e.text w).1
@@ -72,7 +75,8 @@ returns-clause-text g c = λ xs stands w.
     let f = c.in_ok-put_all.ensures in
     subst (λ text. Prints {A = Unit {0}} text None (g.W.Sink.held c.args.writer.now) c.put_lines.result
     (g.W.Sink.held c.put_lines.new.writer))
-    (text-is c.args.form endings t.totals t.tally xs (next_taken (parts_of t.merged)) ended stands.totals stands.tally ended_is)
+    (text-is c.args.form endings t.totals t.tally xs (next_taken
+    (parts_of t.merged)) ended stands.totals stands.tally ended_is)
     (Prints-behind None (g.W.Sink.held c.args.writer.now) (g.W.Sink.held c.put_files.new.writer)
     (g.W.Sink.held c.put_lines.new.writer) file_lines (total ++ tally_text_in c.args.form t.tally)
     c.put_lines.result (e.text w).1

@@ -15,13 +15,15 @@ returns-in_err-put_counts-clause-text g c = λ w.
     let p = err_from_is_err_and c.from_residual.result c.from_residual.ensures.1 in
     let t = c.self.inside in
     rw (p.1, p.2)
-    (subst (λ (n : TallyState). Prints {A = Unit {0}} (tally_text_in c.args.form n) None (g.W.Sink.held c.args.writer.now)
+    (subst (λ (n : TallyState). Prints {A = Unit {0}} (tally_text_in c.args.form n) None
+    (g.W.Sink.held c.args.writer.now)
     (Err c.in_err-put_counts.field-0.0) (g.W.Sink.held c.put_counts.new.writer)) c.self.view_is
     (prints-first (g.W.Sink.held c.args.writer.now) (g.W.Sink.held c.put_counts.new.writer)
     (line_in c.args.form (frames_facts t.classes) ++ line_in c.args.form (joined_facts t.joined t.joiner.given_up))
     (line_in c.args.form (talks_facts (length t.talks.rows)) ++ talk_texts_in c.args.form t.talks.rows)
     c.in_err-put_counts.field-0.0 c.in_err-put_counts.ensures.fault
-    (subst (λ n. Prints {A = Unit {0}} (line_in c.args.form (frames_facts t.classes) ++ line_in c.args.form (joined_facts t.joined n)) None
+    (subst (λ n. Prints {A = Unit {0}} (line_in c.args.form (frames_facts t.classes) ++ line_in c.args.form
+    (joined_facts t.joined n)) None
     (g.W.Sink.held c.args.writer.now) (Err c.in_err-put_counts.field-0.0) (g.W.Sink.held c.put_counts.new.writer))
     c.given_up.ensures.value (c.in_err-put_counts.ensures.text w))))
 
@@ -35,5 +37,6 @@ returns-clause-text g c = λ w.
     (g.W.Sink.held c.put_talks.new.writer)
     (line_in c.args.form (frames_facts t.classes) ++ line_in c.args.form (joined_facts t.joined t.joiner.given_up))
     (line_in c.args.form (talks_facts (length t.talks.rows)) ++ talk_texts_in c.args.form t.talks.rows)
-    c.put_talks.result (rw (ap (λ n. line_in c.args.form (joined_facts t.joined n)) c.given_up.ensures.value) at ((e.text w).1))
+    c.put_talks.result (rw (ap (λ n. line_in c.args.form (joined_facts t.joined n)) c.given_up.ensures.value) at
+    ((e.text w).1))
     (c.put_talks.ensures.text (e.writer.told w)))
