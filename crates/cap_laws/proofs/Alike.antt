@@ -17,7 +17,7 @@ use Rattle.cap_source.specs.Feed.{Item, packet, refused}
 use Rattle.cap_talks.specs.table.Classes.{classes, classes_in, groups_of}
 use Rattle.cap_talks.specs.table.CountedUnits.{first_unit, unit_by, unit_at, listed, counted_units}
 use Rattle.cap_talks.specs.talks.ReportText.{with_item, taken_after}
-use Rattle.cap_talks.specs.table.TakenText.{body_text, taken_bytes, truncated_of}
+use Rattle.cap_talks.specs.table.TakenText.{body_text, body_text_in, taken_bytes, truncated_of}
 use Rattle.cap_talks.specs.table.Taken.{Taken, Look, plain, datagram, fragment, look, events_with_look, events_of}
 use Rattle.cap_time.specs.declared.stamps.Stamp.{Stamp}
 use Rattle.cap_laws.proofs.LikeReports.{LikeItems, RunsLike, refusals-like}
@@ -110,7 +110,7 @@ alike-truncated (x ∷ xs) (y ∷ ys) h = λ i. alike-truncated xs ys h.1 i +
 alike-truncated xs ys h = grind arith
 
 alike-body : (xs ys : List Taken) → AreAlike xs ys → body_text xs ≡ body_text ys
-unfolding body_text
+unfolding body_text_in
 alike-body xs ys h =
     let n = alike-length xs ys h in
     let b = alike-bytes xs ys h in

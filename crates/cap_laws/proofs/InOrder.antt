@@ -25,12 +25,12 @@ use Rattle.cap_talks.proofs.LoneFragments.{no-lone}
 use Rattle.cap_talks.proofs.Recount.{place_of}
 use Rattle.cap_talks.specs.table.Classes.{classes, classes_in}
 use Rattle.cap_laws.specs.InOrder.{ByPlaces, IsByPlaces, ReportByPlaces, refusal_by_places, refusal_with}
-use Rattle.cap_laws.specs.InOrder.{text_by_places, unit_after, unit_by_places, units_at}
+use Rattle.cap_laws.specs.InOrder.{text_by_places_in, unit_after, unit_by_places, units_at}
 use Rattle.cap_talks.specs.talks.InfoText.{or_else}
 use Rattle.cap_talks.specs.talks.ReportText.{refusal_after, refusal_here, with_item, taken_after}
 use Rattle.cap_talks.specs.table.Taken.{Taken, events_with_look, events_of, Look, plain, datagram, fragment, look}
 use Rattle.cap_talks.specs.table.Taken.{stamped_of}
-use Rattle.cap_talks.specs.table.TakenText.{body_by, body_text, files_part}
+use Rattle.cap_talks.specs.table.TakenText.{body_by_in, body_text_in, files_part_in}
 
 turned_by : (r s : Ordering) → r ≡ ordering_reverse s → is_gt s ≡ false → is_lt r ≡ false
 turned_by r s e h = grind arith
@@ -197,7 +197,7 @@ refusal-run (a ∷ run) clock xs h p =
     λ i. or_else (here i) (later i)
 
 pub report-by-places : ReportByPlaces
-unfolding body_text text_by_places
+unfolding body_text_in text_by_places_in
 report-by-places count endings files =
     let r = run item_time is_refusal (map opened_track files) in
     let rises = run-rises item_time is_refusal files in
@@ -205,7 +205,7 @@ report-by-places count endings files =
     let xs = taken_after [] r in
     let is = is-by-places xs after.0 after.1 in
     record {
-      text = λ i. files_part count (Some endings) xs
-          ++ body_by xs (is.classes_are i) (is.units_are i) (is.joined i) (is.given_up i);
+      text = λ form i. files_part_in form count (Some endings) xs
+          ++ body_by_in form xs (is.classes_are i) (is.units_are i) (is.joined i) (is.given_up i);
       refusal = refusal-run r None [] rises places-none;
     }

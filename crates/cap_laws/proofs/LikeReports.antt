@@ -2,7 +2,7 @@
 -- the forms of times.
 use Rattle.std.proofs.lemmas.Bool.Decides.{nat_tests}
 use Rattle.std.proofs.lemmas.Grind.{common_steps}
-use Rattle.std.proofs.Common.{arith, ◌≡◌, ℕ, ◌+◌, Bool, false, List, [], ◌∷◌, length, refl, sym, Option}
+use Rattle.std.proofs.Common.{arith, ◌≡◌, ℕ, ◌+◌, ◌++◌, Bool, false, List, [], ◌∷◌, length, refl, sym, Option}
 use Rattle.std.proofs.lemmas.List.Elements.{length_all_zip}
 use Rattle.std.specs.List.{AllZip}
 use Rattle.std.specs.Option.{option_map_or}
@@ -23,7 +23,9 @@ use Rattle.cap_talks.specs.table.Classes.{class_by, class_in, class_of, classes,
 use Rattle.cap_talks.specs.table.Classes.{groups_of, has_place}
 use Rattle.cap_talks.specs.table.CountedUnits.{unit_by, unit_at, listed, counted_units, is_limit_at, counted_in}
 use Rattle.cap_talks.specs.talks.ReportText.{with_item, taken_after, refusal_here}
-use Rattle.cap_talks.specs.table.TakenText.{body_text, taken_bytes, truncated_of}
+use Rattle.cap_talks.specs.table.TakenText.{body_text_in, taken_bytes, truncated_of, total_text, frames_text}
+use Rattle.cap_talks.specs.table.TakenText.{joined_text}
+use Rattle.cap_talks.specs.table.TalkLines.{talks_text}
 use Rattle.cap_talks.specs.table.Rows.{is_refused, talk_limit}
 use Rattle.cap_talks.specs.table.Taken.{Taken, Look, plain, datagram, fragment, look_at, look, events_with_look}
 use Rattle.cap_talks.specs.table.Taken.{events_of}
@@ -176,22 +178,17 @@ truncated-like (x ∷ xs) (y ∷ ys) h = λ i. truncated-like xs ys h.1 i +
 truncated-like xs ys h = grind arith
 
 lines-like : (xs ys : List Taken) → LikeTaken xs ys → counts_text xs ≡ counts_text ys
-lines-like xs ys h = grind (
-  arith,
-  taken-length,
-  bytes-like,
-  truncated-like,
-  classes-like,
-  counted-like,
-  groups-like,
-  events-groups,
-  events-like,
-  length_all_zip,
-  talks-like,
-)
+lines-like xs ys h =
+    let groups = events-groups open_limit (events_of xs) (events_of ys) (events-like xs ys h) in
+    let rows = length_all_zip IsSameTalk (rows_of (counted_units xs)) (rows_of (counted_units ys))
+    (talks-like xs ys h) in
+    λ i. total_text (taken-length xs ys h i) (bytes-like xs ys h i) (truncated-like xs ys h i)
+    ++ frames_text (counts_of (classes-like xs ys h i))
+    ++ joined_text (counted-like (groups_of xs) (groups_of ys) groups.completed i) (groups.given_up i)
+    ++ talks_text (rows i)
 
 pub body-parts : BodyParts
-unfolding body_text
+unfolding body_text_in
 body-parts xs = refl
 
 -- ---- refusals

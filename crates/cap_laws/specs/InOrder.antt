@@ -13,15 +13,16 @@ use Rattle.cap_join.specs.Joiners.{open_limit}
 use Rattle.cap_join.specs.Places.{Mark, goes_on, group_by, latest_clock, marks, open_before, times_given_up}
 use Rattle.cap_merge.specs.Parts.{item_time, is_refusal}
 use Rattle.cap_merge.specs.Run.{Clocked, opened_track, run}
+use Rattle.cap_print.specs.declared.forms.Form.{Form}
 use Rattle.cap_source.specs.Feed.{Item, packet, refused}
 use Rattle.cap_source.specs.declared.feeds.FileEnd.{FileEnd}
 use Rattle.cap_talks.specs.declared.table.classes.Class.{Class}
 use Rattle.cap_talks.specs.table.Classes.{classes, classes_in}
 use Rattle.cap_join.specs.Completed.{completed_pieces_at, if_complete}
 use Rattle.cap_talks.specs.talks.InfoText.{or_else}
-use Rattle.cap_talks.specs.talks.ReportText.{report_refusal, report_text, taken_after, with_item}
+use Rattle.cap_talks.specs.talks.ReportText.{report_refusal, report_text_in, taken_after, with_item}
 use Rattle.cap_talks.specs.table.Taken.{Taken, events_of, Look, plain, datagram, fragment, look, stamped_of}
-use Rattle.cap_talks.specs.table.TakenText.{body_by, files_part}
+use Rattle.cap_talks.specs.table.TakenText.{body_by_in, files_part_in}
 
 -- what is known of the fragments among some packets
 abbrev pub marks_of : List Taken → List Mark
@@ -64,12 +65,12 @@ abbrev pub ByPlaces : Type 0
 ByPlaces = (files : List (List Item)) (n : ℕ) → IsByPlaces
     (taken_after [] (take n (run item_time is_refusal (map opened_track files))))
 
--- the report of a run of `count` files with those endings, by places
-unfoldable pub text_by_places : ℕ → (ℕ → FileEnd) → List (Clocked Item) → List ℕ
-text_by_places count endings run =
+-- the report of a run of `count` files with those endings, in a form, by places
+unfoldable pub text_by_places_in : Form → ℕ → (ℕ → FileEnd) → List (Clocked Item) → List ℕ
+text_by_places_in form count endings run =
     let xs = taken_after [] run in
-    files_part count (Some endings) xs ++ body_by xs (classes_at xs) (units_at xs) (counted_in (groups_at xs))
-    (times_given_up (marks_of xs))
+    files_part_in form count (Some endings) xs
+    ++ body_by_in form xs (classes_at xs) (units_at xs) (counted_in (groups_at xs)) (times_given_up (marks_of xs))
 
 -- the refusal of a packet that would open a conversation too many, and the one that ends a run
 abbrev pub refusal_with : List Taken → Option Stamp → Item → Option Refusal
@@ -84,9 +85,9 @@ refusal_by_places xs [] = None
 refusal_by_places xs (x ∷ run) = or_else (refusal_with xs x.clock x.item)
     (refusal_by_places (with_item x.clock x.item xs) run)
 
--- The report of a run of files, and the refusal that is answered instead, are those by places.
+-- The report of a run of files, in either form, and the refusal that is answered instead, are those by places.
 pub record ReportsByPlaces (count : ℕ) (endings : ℕ → FileEnd) (run : List (Clocked Item)) : Type 0 where
-  pub text : report_text count endings run ≡ text_by_places count endings run
+  pub text : (form : Form) → report_text_in form count endings run ≡ text_by_places_in form count endings run
   pub refusal : report_refusal run ≡ refusal_by_places [] run
 
 abbrev pub ReportByPlaces : Type 0

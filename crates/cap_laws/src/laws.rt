@@ -83,9 +83,9 @@ pub fn one_class()
     ensures { (xs : List Taken) → OneClass xs }
 {}
 
-/// In every run of files the groups of fragments are those by places, at each of its packets: so the report and the
-/// refusal that is answered instead are those by places. So are, after each packet, the classes and the units of the
-/// packets so far, how many datagrams were joined and groups given up, and which groups are open.
+/// In every run of files the groups of fragments are those by places, at each of its packets: so the report in either
+/// form and the refusal that is answered instead are those by places. So are, after each packet, the classes and the
+/// units of the packets so far, how many datagrams were joined and groups given up, and which groups are open.
 pub fn report_by_places()
     ensures report { ReportByPlaces }
     ensures after { ByPlaces }

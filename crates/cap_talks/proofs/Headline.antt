@@ -10,6 +10,7 @@ use Rattle.cap_bytes.specs.declared.faults.Fault.{Fault}
 use Rattle.cap_bytes.specs.declared.faults.Fault.TheVariants.{Write}
 use Rattle.cap_bytes.specs.declared.faults.Refusal.{Refusal}
 use Rattle.cap_bytes.specs.declared.faults.Tail.{Tail}
+use Rattle.cap_print.specs.declared.forms.Form.{Form}
 use Rattle.cap_source.proofs.Onward.{Lasts-goes}
 use Rattle.cap_merge.proofs.Unread.{told-readers, bytes-readers}
 use Rattle.cap_merge.specs.Files.{clocked_run, endings_of_files}
@@ -18,8 +19,8 @@ use Rattle.cap_merge.specs.inner.Readers.{ReaderFacts, IsUnreadRun}
 use Rattle.cap_source.specs.Feed.{Feed}
 use Rattle.cap_source.specs.inner.Walk.{Walks}
 use Rattle.cap_talks.specs.inner.talks.Reporting.{TookAll, TakesAll, TellsReport}
-use Rattle.cap_talks.specs.talks.ReportText.{taken_after, report_text, report_refusal}
-use Rattle.cap_talks.specs.table.TakenText.{text_of}
+use Rattle.cap_talks.specs.talks.ReportText.{taken_after, report_text_in, report_refusal}
+use Rattle.cap_talks.specs.table.TakenText.{text_of_in}
 use Rattle.cap_talks.specs.inner.table.Stepping.{TableState, TableStands, endings_so_far}
 use Rattle.cap_talks.specs.table.Taken.{Taken}
 use Rattle.cap_talks.specs.talks.Telling.{Tells}
@@ -42,37 +43,37 @@ module _ {A : Type 0} (reader : A → ReaderFacts) (tail : Tail) (sources : List
   count-is = ap length unread.files ∙ length-range 1 (length (map reader sources)) ∙ length-map sources reader
 
   -- the report of their run is theirs
-  pub tells-files : (held out : List ℕ) (result : Result (Unit {0}) Fault)
-      → (IsTrue (merged_feed ps).told → TellsReport (length (merged_feed ps).files) ps held result out)
+  pub tells-files : (form : Form) (held out : List ℕ) (result : Result (Unit {0}) Fault)
+      → (IsTrue (merged_feed ps).told → TellsReport form (length (merged_feed ps).files) ps held result out)
       → IsTrue (list_all (λ s. (reader s).told) sources)
-      → Tells (report_text (length sources) (endings_of_files tail (map (λ s. (reader s).bytes) sources))
+      → Tells (report_text_in form (length sources) (endings_of_files tail (map (λ s. (reader s).bytes) sources))
       (clocked_run tail (map (λ s. (reader s).bytes) sources)))
       (report_refusal (clocked_run tail (map (λ s. (reader s).bytes) sources))) held result out
-  tells-files held out result tells t =
+  tells-files form held out result tells t =
       subst (λ (e : List ℕ × Option Refusal). Tells e.0 e.1 held result out)
-      (λ i. (report_text (count-is i) (endings-are i) (run-is i), report_refusal (run-is i)))
+      (λ i. (report_text_in form (count-is i) (endings-are i) (run-is i), report_refusal (run-is i)))
       (tells (told-readers reader tail sources ps unread t))
 
 -- all packets of a table were taken: the report is written
-pub tells-report : (old new : TableState) (held out : List ℕ) (result : Result (Unit {0}) Fault)
+pub tells-report : (form : Form) (old new : TableState) (held out : List ℕ) (result : Result (Unit {0}) Fault)
     → IsTrue (merged_feed old.parts).told → TableStands old []
     → TookAll old new → IsOkUnless result Write
     → ((xs : List Taken) → TableStands new xs → Prints
-    (text_of (length new.totals.files) (endings_so_far new) xs) None held result out)
-    → TellsReport (length old.totals.files) old.parts held result out
-tells-report old new held out result t stands took fault prints =
+    (text_of_in form (length new.totals.files) (endings_so_far new) xs) None held result out)
+    → TellsReport form (length old.totals.files) old.parts held result out
+tells-report form old new held out result t stands took fault prints =
     let endings = ap (λ (d : Bool). if d then Some (merged_feed new.parts).endings else None) took.done
     ∙ ap Some (λ i file. took.endings t file i) in
     tells-printed _ _ held result out (took.free t stands) fault
-    (subst (λ l. Prints l None held result out) (λ i. text_of (took.files i) (endings i)
+    (subst (λ l. Prints l None held result out) (λ i. text_of_in form (took.files i) (endings i)
     (taken_after [] (run_of old.parts)))
     (prints (taken_after [] (run_of old.parts)) (took.stands t stands)))
 
 -- taking them faults: nothing is written
-pub tells-nothing : (old new : TableState) (held : List ℕ) (fault : Fault) → TakesAll old (Err fault) new
+pub tells-nothing : (form : Form) (old new : TableState) (held : List ℕ) (fault : Fault) → TakesAll old (Err fault) new
     → IsTrue (merged_feed old.parts).told → TableStands old []
-    → TellsReport (length old.totals.files) old.parts held (Err fault) held
-tells-nothing old new held fault takes t stands = grind arith
+    → TellsReport form (length old.totals.files) old.parts held (Err fault) held
+tells-nothing form old new held fault takes t stands = grind arith
 
 -- the feed is at its end as the report is written
 pub walks-written : (old new : Feed) (result : Result (Unit {0}) Fault) → Walks {A = Unit {0}} old (Ok tt) new

@@ -4,10 +4,12 @@ use Rattle.std.proofs.Common.{ap, subst, arith, Option}
 use Rattle.std.specs.List.{flat_map, list_any, range_with_len}
 use Rattle.cap_source.specs.Feed.{HasFile}
 use Rattle.cap_source.specs.declared.feeds.FileEnd.{FileEnd}
+use Rattle.cap_print.specs.Facts.{line_in}
+use Rattle.cap_print.specs.declared.forms.Form.{Form}
 use Rattle.cap_talks.specs.counts.Counting.{counted}
-use Rattle.cap_talks.specs.counts.FileLines.{file_text, ending_at}
-use Rattle.cap_talks.specs.counts.FileLines.{ended_from, counted_texts}
-use Rattle.cap_talks.specs.table.TakenText.{file_line, metas_of}
+use Rattle.cap_talks.specs.counts.FileLines.{file_facts, ending_at}
+use Rattle.cap_talks.specs.counts.FileLines.{ended_from, counted_texts_in}
+use Rattle.cap_talks.specs.table.TakenText.{file_line_in, metas_of}
 use Rattle.cap_talks.specs.table.Taken.{Taken}
 use Rattle.cap_talks.specs.inner.table.Totals.{counts_from}
 use Rattle.cap_talks.specs.declared.counts.counts.Counts.{Counts}
@@ -32,9 +34,10 @@ ended-length e file [] = refl
 ended-length e file (c ∷ all) = ap suc (ended-length e (file + 1) all)
 
 -- the lines of what is counted of each file are those of the report
-pub lines-counted : (e : Option (ℕ → FileEnd)) (xs : List Taken) (first count : ℕ)
-    → counted_texts first (ended_from e first (counts_from first count xs))
-    ≡ flat_map (file_line e xs) (range_with_len first count)
-lines-counted e xs first zero = refl
-lines-counted e xs first (suc count) = ap (λ l. file_text first (counted (metas_of first xs)) (ending_at e first) ++ l)
-    (lines-counted e xs (first + 1) count)
+pub lines-counted : (form : Form) (e : Option (ℕ → FileEnd)) (xs : List Taken) (first count : ℕ)
+    → counted_texts_in form first (ended_from e first (counts_from first count xs))
+    ≡ flat_map (file_line_in form e xs) (range_with_len first count)
+lines-counted form e xs first zero = refl
+lines-counted form e xs first (suc count) =
+    ap (λ l. line_in form (file_facts first (counted (metas_of first xs)) (ending_at e first)) ++ l)
+    (lines-counted form e xs (first + 1) count)

@@ -9,4 +9,4 @@ pub use crate::table::{
     Class, CountedUnit, End, Held, Step, Table, TalkKey, TalkRow, TimedFrame, packet_class,
     talk_laws,
 };
-pub use crate::talks::{file_lines, report};
+pub use crate::talks::{file_lines, file_lines_in, report, report_in};

@@ -3,5 +3,5 @@
 mod files;
 mod reports;
 
-pub use crate::talks::files::file_lines;
-pub use crate::talks::reports::report;
+pub use crate::talks::files::{file_lines, file_lines_in};
+pub use crate::talks::reports::{report, report_in};

@@ -1,7 +1,7 @@
 -- The lines of files that were counted.
-use Rattle.std.specs.Prelude.{ℕ, ◌+◌, Bool, true, false, List, [], ◌∷◌, ◌++◌, codes, decimal, Option, Some, None}
-use Rattle.std.specs.Prelude.{option_map}
-use Rattle.cap_print.specs.Times.{time_text}
+use Rattle.std.specs.Prelude.{ℕ, ◌+◌, Bool, false, List, [], ◌∷◌, ◌++◌, codes, Option, Some, None, option_map}
+use Rattle.cap_print.specs.Facts.{Facts, one, number, word, moment, flag, line_in}
+use Rattle.cap_print.specs.declared.forms.Form.{Form}
 use Rattle.cap_source.specs.declared.feeds.Ending.{Ending}
 use Rattle.cap_source.specs.declared.feeds.FileEnd.{FileEnd}
 use Rattle.cap_source.specs.declared.packets.Format.{Format}
@@ -10,30 +10,41 @@ use Rattle.cap_time.specs.Stamp.{printed_of}
 use Rattle.cap_talks.specs.declared.counts.counts.Counts.{Counts}
 use Rattle.cap_talks.specs.declared.counts.files.Counted.{Counted}
 
--- a format by its name, `-` if it is not known yet
-abbrev pub format_text : Option Format → List ℕ
-format_text None = codes "-"
-format_text (Some Pcap) = codes "pcap"
-format_text (Some Pcapng) = codes "pcapng"
+-- a format by its name
+abbrev pub format_name : Format → List ℕ
+format_name Pcap = codes "pcap"
+format_name Pcapng = codes "pcapng"
 
-abbrev pub cut_text : Bool → List ℕ
-cut_text true = codes " cut"
-cut_text false = []
-
--- the line of the file of that number: its format, what is counted of it, how many of its blocks were skipped, and
--- whether a rest of it was dropped
-abbrev pub line_text : ℕ → Option Format → Counts → ℕ → Bool → List ℕ
-line_text file format counts skipped was_cut =
-    codes "file " ++ decimal file ++ codes " " ++ format_text format
-    ++ codes " packets " ++ decimal counts.packets ++ codes " bytes " ++ decimal counts.bytes
-    ++ codes " truncated " ++ decimal counts.truncated ++ codes " skipped " ++ decimal skipped
-    ++ codes " first " ++ time_text (option_map printed_of counts.first)
-    ++ codes " last " ++ time_text (option_map printed_of counts.last) ++ cut_text was_cut ++ codes "\n"
+-- the line of the file of that number: its format, if it is known, what is counted of it, how many of its blocks were
+-- skipped, and whether a rest of it was dropped
+abbrev pub counts_facts : ℕ → Option Format → Counts → ℕ → Bool → Facts
+counts_facts file format counts skipped was_cut =
+    record {
+      kind = codes "file";
+      fields =
+          one (record { label = codes " "; key = codes "file"; value = number file })
+          ∷ one (record { label = codes " "; key = codes "format"; value = word (option_map format_name format) })
+          ∷ one (record { label = codes " packets "; key = codes "packets"; value = number counts.packets })
+          ∷ one (record { label = codes " bytes "; key = codes "bytes"; value = number counts.bytes })
+          ∷ one (record { label = codes " truncated "; key = codes "truncated"; value = number counts.truncated })
+          ∷ one (record { label = codes " skipped "; key = codes "skipped"; value = number skipped })
+          ∷ one (record {
+            label = codes " first ";
+            key = codes "first";
+            value = moment (option_map printed_of counts.first);
+          })
+          ∷ one (record {
+            label = codes " last ";
+            key = codes "last";
+            value = moment (option_map printed_of counts.last);
+          })
+          ∷ one (record { label = codes " cut"; key = codes "cut"; value = flag was_cut }) ∷ [];
+    }
 
 -- the line of a file that has ended, or that is still being read
-abbrev pub file_text : ℕ → Counts → Option Ending → List ℕ
-file_text file counts None = line_text file counts.format counts counts.skipped false
-file_text file counts (Some ending) = line_text file (Some ending.format) counts ending.skipped ending.was_cut
+abbrev pub file_facts : ℕ → Counts → Option Ending → Facts
+file_facts file counts None = counts_facts file counts.format counts counts.skipped false
+file_facts file counts (Some ending) = counts_facts file (Some ending.format) counts ending.skipped ending.was_cut
 
 -- how the file of that number has ended, if that is known
 abbrev pub ending_at : Option (ℕ → FileEnd) → ℕ → Option Ending
@@ -41,8 +52,12 @@ ending_at None file = None
 ending_at (Some endings) file = Some (endings file).ending
 
 -- the line that says how many files there are
-abbrev pub files_text : ℕ → List ℕ
-files_text count = codes "files " ++ decimal count ++ codes "\n"
+abbrev pub files_facts : ℕ → Facts
+files_facts count =
+    record {
+      kind = codes "files";
+      fields = one (record { label = codes " "; key = codes "files"; value = number count }) ∷ [];
+    }
 
 -- what is counted of files, with how each has ended, if that is known, from that number on
 abbrev pub ended_from : Option (ℕ → FileEnd) → ℕ → List Counts → List Counted
@@ -50,7 +65,8 @@ ended_from endings file [] = []
 ended_from endings file (counts ∷ rest) = record { counts = counts; ending = ending_at endings file }
     ∷ ended_from endings (file + 1) rest
 
--- the lines of files that were counted, from that number on
-abbrev pub counted_texts : ℕ → List Counted → List ℕ
-counted_texts file [] = []
-counted_texts file (it ∷ rest) = file_text file it.counts it.ending ++ counted_texts (file + 1) rest
+-- the lines of files that were counted, in a form, from that number on
+abbrev pub counted_texts_in : Form → ℕ → List Counted → List ℕ
+counted_texts_in form file [] = []
+counted_texts_in form file (it ∷ rest) = line_in form (file_facts file it.counts it.ending)
+    ++ counted_texts_in form (file + 1) rest

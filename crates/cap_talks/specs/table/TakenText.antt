@@ -1,11 +1,14 @@
 -- The report over the packets that were taken so far.
-use Rattle.std.specs.Prelude.{ℕ, List, [], ◌∷◌, ◌++◌, ◌+◌, ◌==◌, nat_lt, codes, decimal, length, Option, if◌then◌else◌}
+use Rattle.std.specs.Prelude.{ℕ, List, [], ◌∷◌, ◌++◌, ◌+◌, ◌==◌, nat_lt, codes, length, Option, if◌then◌else◌}
 use Rattle.std.specs.List.{flat_map, range_with_len}
+use Rattle.cap_print.specs.Facts.{Facts, one, number, line_in}
+use Rattle.cap_print.specs.declared.forms.Form.{Form}
+use Rattle.cap_print.specs.declared.forms.Form.TheVariants.{Text}
 use Rattle.cap_source.specs.declared.feeds.FileEnd.{FileEnd}
 use Rattle.cap_source.specs.declared.packets.Meta.{Meta}
 use Rattle.cap_talks.specs.counts.Counting.{counted}
-use Rattle.cap_talks.specs.counts.FileLines.{file_text, files_text, ending_at}
-use Rattle.cap_talks.specs.table.TalkLines.{talk_texts, talks_text}
+use Rattle.cap_talks.specs.counts.FileLines.{file_facts, files_facts, ending_at}
+use Rattle.cap_talks.specs.table.TalkLines.{talk_texts_in, talks_facts}
 use Rattle.cap_talks.specs.table.Talks.{rows_of}
 use Rattle.cap_talks.specs.table.Classes.{classes, counts_of}
 use Rattle.cap_talks.specs.table.Taken.{Taken}
@@ -19,9 +22,9 @@ abbrev pub metas_of : ℕ → List Taken → List Meta
 metas_of file [] = []
 metas_of file (x ∷ xs) = metas_of file xs ++ (if x.meta.file == file then x.meta ∷ [] else [])
 
--- the line of a file: how it ended is known once all have
-abbrev pub file_line : Option (ℕ → FileEnd) → List Taken → ℕ → List ℕ
-file_line endings xs file = file_text file (counted (metas_of file xs)) (ending_at endings file)
+-- the line of a file, in a form: how it ended is known once all have
+abbrev pub file_line_in : Form → Option (ℕ → FileEnd) → List Taken → ℕ → List ℕ
+file_line_in form endings xs file = line_in form (file_facts file (counted (metas_of file xs)) (ending_at endings file))
 
 -- the sum of the packets' original lengths, and of how many fewer bytes were captured than they had
 abbrev pub taken_bytes : List Taken → ℕ
@@ -32,36 +35,87 @@ abbrev pub truncated_of : List Taken → ℕ
 truncated_of [] = 0
 truncated_of (x ∷ xs) = truncated_of xs + (if nat_lt (length x.frame) x.meta.original then 1 else 0)
 
+-- the line of the totals: how many packets there are, their bytes, and how many are truncated
+abbrev pub total_facts : ℕ → ℕ → ℕ → Facts
+total_facts packets bytes truncated =
+    record {
+      kind = codes "total";
+      fields =
+          one (record { label = codes " packets "; key = codes "packets"; value = number packets })
+          ∷ one (record { label = codes " bytes "; key = codes "bytes"; value = number bytes })
+          ∷ one (record { label = codes " truncated "; key = codes "truncated"; value = number truncated }) ∷ [];
+    }
+
+-- the same in text
 abbrev pub total_text : ℕ → ℕ → ℕ → List ℕ
-total_text packets bytes truncated =
-    codes "total packets " ++ decimal packets ++ codes " bytes " ++ decimal bytes ++ codes " truncated "
-    ++ decimal truncated ++ codes "\n"
+total_text packets bytes truncated = line_in Text (total_facts packets bytes truncated)
 
+-- the line that says how many packets there are of each class
+abbrev pub frames_facts : ClassCounts → Facts
+frames_facts n =
+    record {
+      kind = codes "frames";
+      fields =
+          one (record { label = codes " other-link "; key = codes "other_link"; value = number n.other_link })
+          ∷ one (record { label = codes " not-ipv4 "; key = codes "not_ipv4"; value = number n.not_ipv4 })
+          ∷ one (record { label = codes " short "; key = codes "short"; value = number n.short })
+          ∷ one (record { label = codes " cut "; key = codes "cut"; value = number n.cut })
+          ∷ one (record { label = codes " bad "; key = codes "bad"; value = number n.bad })
+          ∷ one (record { label = codes " unjoined "; key = codes "unjoined"; value = number n.unjoined })
+          ∷ one (record { label = codes " counted "; key = codes "counted"; value = number n.counted }) ∷ [];
+    }
+
+-- the same in text
 abbrev pub frames_text : ClassCounts → List ℕ
-frames_text n =
-    codes "frames other-link " ++ decimal n.other_link ++ codes " not-ipv4 " ++ decimal n.not_ipv4 ++ codes " short "
-    ++ decimal n.short
-    ++ codes " cut " ++ decimal n.cut ++ codes " bad " ++ decimal n.bad ++ codes " unjoined " ++ decimal n.unjoined
-    ++ codes " counted " ++ decimal n.counted ++ codes "\n"
+frames_text n = line_in Text (frames_facts n)
 
+-- the line that says how many datagrams were joined and how many groups given up
+abbrev pub joined_facts : ℕ → ℕ → Facts
+joined_facts joined given_up =
+    record {
+      kind = codes "joined";
+      fields =
+          one (record { label = codes " "; key = codes "joined"; value = number joined })
+          ∷ one (record { label = codes " given-up "; key = codes "given_up"; value = number given_up }) ∷ [];
+    }
+
+-- the same in text
 abbrev pub joined_text : ℕ → ℕ → List ℕ
-joined_text joined given_up = codes "joined " ++ decimal joined ++ codes " given-up " ++ decimal given_up ++ codes "\n"
+joined_text joined given_up = line_in Text (joined_facts joined given_up)
 
--- all lines but those of the files, by the packets' classes and units, and how many datagrams were joined and how many
--- groups given up
+-- all lines but those of the files, in a form, by the packets' classes and units, and how many datagrams were joined
+-- and how many groups given up
+abbrev pub body_by_in : Form → List Taken → List Class → List CountedUnit → ℕ → ℕ → List ℕ
+body_by_in form xs of_each units joined given_up =
+    line_in form (total_facts (length xs) (taken_bytes xs) (truncated_of xs))
+    ++ line_in form (frames_facts (counts_of of_each)) ++ line_in form (joined_facts joined given_up)
+    ++ line_in form (talks_facts (length (rows_of units))) ++ talk_texts_in form (rows_of units)
+
+-- the same in text
 abbrev pub body_by : List Taken → List Class → List CountedUnit → ℕ → ℕ → List ℕ
-body_by xs of_each units joined given_up =
-    total_text (length xs) (taken_bytes xs) (truncated_of xs) ++ frames_text (counts_of of_each)
-    ++ joined_text joined given_up
-    ++ talks_text (length (rows_of units)) ++ talk_texts (rows_of units)
+body_by xs of_each units joined given_up = body_by_in Text xs of_each units joined given_up
 
-unfoldable pub body_text : List Taken → List ℕ
-body_text xs = body_by xs (classes xs) (counted_units xs) (joined_in xs) (given_up_in xs)
+-- all lines but those of the files, in a form
+unfoldable pub body_text_in : Form → List Taken → List ℕ
+body_text_in form xs = body_by_in form xs (classes xs) (counted_units xs) (joined_in xs) (given_up_in xs)
 
--- the lines of the files, of which there are `count`
-unfoldable pub files_part : ℕ → Option (ℕ → FileEnd) → List Taken → List ℕ
-files_part count endings xs = files_text count ++ flat_map (file_line endings xs) (range_with_len 1 count)
+-- the same in text
+abbrev pub body_text : List Taken → List ℕ
+body_text xs = body_text_in Text xs
 
--- The report over the packets that were taken of `count` files: how these ended is known once all have.
+-- the lines of the files, of which there are `count`, in a form
+unfoldable pub files_part_in : Form → ℕ → Option (ℕ → FileEnd) → List Taken → List ℕ
+files_part_in form count endings xs = line_in form (files_facts count)
+    ++ flat_map (file_line_in form endings xs) (range_with_len 1 count)
+
+-- the same in text
+abbrev pub files_part : ℕ → Option (ℕ → FileEnd) → List Taken → List ℕ
+files_part count endings xs = files_part_in Text count endings xs
+
+-- The report over the packets that were taken of `count` files, in a form: how these ended is known once all have.
+abbrev pub text_of_in : Form → ℕ → Option (ℕ → FileEnd) → List Taken → List ℕ
+text_of_in form count endings xs = files_part_in form count endings xs ++ body_text_in form xs
+
+-- the same in text
 abbrev pub text_of : ℕ → Option (ℕ → FileEnd) → List Taken → List ℕ
-text_of count endings xs = files_part count endings xs ++ body_text xs
+text_of count endings xs = text_of_in Text count endings xs

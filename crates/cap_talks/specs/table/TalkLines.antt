@@ -2,7 +2,9 @@
 use Rattle.std.specs.Prelude.{ℕ, ◌/◌, ◌%◌, ◌^◌, ◌==◌, List, [], ◌∷◌, ◌++◌, codes, decimal, Option, Some, None}
 use Rattle.std.specs.Prelude.{option_map, slice_get, if◌then◌else◌}
 use Rattle.std.specs.Option.{option_map_or}
-use Rattle.cap_print.specs.Times.{time_text}
+use Rattle.cap_print.specs.Facts.{Facts, Fact, Field, one, group, number, coded, word, moment, line_in}
+use Rattle.cap_print.specs.declared.forms.Form.{Form}
+use Rattle.cap_print.specs.declared.forms.Form.TheVariants.{Text}
 use Rattle.cap_time.specs.Stamp.{printed_of}
 use Rattle.cap_talks.specs.table.Talks.{Talk}
 use Rattle.cap_talks.specs.declared.table.rows.TalkKey.{TalkKey}
@@ -24,36 +26,70 @@ address_text address =
     ++ codes "." ++ decimal (address % 256)
 
 -- a port after a colon, if there is one
-abbrev pub port_text : Option ℕ → List ℕ
-port_text None = []
-port_text (Some port) = codes ":" ++ decimal port
+abbrev pub port_facts : Option ℕ → List Fact
+port_facts None = []
+port_facts (Some port) = record { label = codes ":"; key = codes "port"; value = number port } ∷ []
 
--- an end as `a.b.c.d:port` or `a.b.c.d`
-abbrev pub end_text : End → List ℕ
-end_text at = address_text at.address ++ port_text at.port
+-- an end as `a.b.c.d:port` or `a.b.c.d`, with its name in JSON
+abbrev pub end_field : List ℕ → End → Field
+end_field key at =
+    group key (record { label = codes " "; key = codes "address"; value = word (Some (address_text at.address)) })
+    (port_facts at.port)
 
--- what went one way: packets and bytes
-abbrev pub traffic_text : ℕ → ℕ → List ℕ
-traffic_text frames bytes = decimal frames ++ codes " " ++ decimal bytes
+-- what went one way: packets and bytes, with what stands before it in text, and its name in JSON
+abbrev pub traffic_field : List ℕ → List ℕ → ℕ → ℕ → Field
+traffic_field label key frames bytes =
+    group key (record { label = label; key = codes "packets"; value = number frames })
+    (record { label = codes " "; key = codes "bytes"; value = number bytes } ∷ [])
 
 -- the line of a conversation
-abbrev pub talk_text : TalkKey → TalkRow → List ℕ
-talk_text key row =
-    codes "talk " ++ protocol_text key.protocol ++ codes " " ++ end_text key.lesser ++ codes " " ++ end_text key.greater
-    ++ codes " forward " ++ traffic_text row.forward_frames row.forward_bytes ++ codes " backward "
-    ++ traffic_text row.backward_frames row.backward_bytes
-    ++ codes " first " ++ time_text (option_map printed_of row.first)
-    ++ codes " last " ++ time_text (option_map printed_of row.last) ++ codes "\n"
+abbrev pub talk_facts : TalkKey → TalkRow → Facts
+talk_facts key row =
+    record {
+      kind = codes "talk";
+      fields =
+          one (record {
+            label = codes " ";
+            key = codes "protocol";
+            value = coded (protocol_text key.protocol) key.protocol;
+          })
+          ∷ end_field (codes "a") key.lesser ∷ end_field (codes "b") key.greater
+          ∷ traffic_field (codes " forward ") (codes "forward") row.forward_frames row.forward_bytes
+          ∷ traffic_field (codes " backward ") (codes "backward") row.backward_frames row.backward_bytes
+          ∷ one (record {
+            label = codes " first ";
+            key = codes "first";
+            value = moment (option_map printed_of row.first);
+          })
+          ∷ one (record {
+            label = codes " last ";
+            key = codes "last";
+            value = moment (option_map printed_of row.last);
+          })
+          ∷ [];
+    }
 
--- the lines of all of them, by the place of the first unit of each
+-- the lines of all of them, in a form, by the place of the first unit of each
+abbrev pub talk_texts_in : Form → List Talk → List ℕ
+talk_texts_in form [] = []
+talk_texts_in form (talk ∷ talks) = line_in form (talk_facts talk.0 talk.1) ++ talk_texts_in form talks
+
+-- the same in text
 abbrev pub talk_texts : List Talk → List ℕ
-talk_texts [] = []
-talk_texts (talk ∷ talks) = talk_text talk.0 talk.1 ++ talk_texts talks
+talk_texts talks = talk_texts_in Text talks
 
--- the line of that at a place
-abbrev pub line_at : List Talk → ℕ → List ℕ
-line_at talks place = option_map_or (λ talk. talk_text talk.0 talk.1) (slice_get talks place) []
+-- the line of that at a place, in a form
+abbrev pub line_at_in : Form → List Talk → ℕ → List ℕ
+line_at_in form talks place = option_map_or (λ talk. line_in form (talk_facts talk.0 talk.1)) (slice_get talks place) []
 
 -- the line that says how many they are
+abbrev pub talks_facts : ℕ → Facts
+talks_facts count =
+    record {
+      kind = codes "talks";
+      fields = one (record { label = codes " "; key = codes "talks"; value = number count }) ∷ [];
+    }
+
+-- the same in text
 abbrev pub talks_text : ℕ → List ℕ
-talks_text count = codes "talks " ++ decimal count ++ codes "\n"
+talks_text count = line_in Text (talks_facts count)

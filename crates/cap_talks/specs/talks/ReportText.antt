@@ -2,12 +2,14 @@
 use Rattle.std.specs.Prelude.{ℕ, List, [], ◌∷◌, Option, Some, None, if◌then◌else◌}
 use Rattle.cap_bytes.specs.declared.faults.Refusal.{Refusal}
 use Rattle.cap_merge.specs.Run.{Clocked}
+use Rattle.cap_print.specs.declared.forms.Form.{Form}
+use Rattle.cap_print.specs.declared.forms.Form.TheVariants.{Text}
 use Rattle.cap_source.specs.Feed.{Item, packet, refused}
 use Rattle.cap_source.specs.declared.feeds.FileEnd.{FileEnd}
 use Rattle.cap_time.specs.declared.stamps.Stamp.{Stamp}
 use Rattle.cap_talks.specs.table.Taken.{Taken}
 use Rattle.cap_talks.specs.table.CountedUnits.{is_limit_at, limit_refusal}
-use Rattle.cap_talks.specs.table.TakenText.{text_of}
+use Rattle.cap_talks.specs.table.TakenText.{text_of_in}
 use Rattle.cap_talks.specs.talks.InfoText.{or_else}
 
 -- the packets of a run after those that were taken
@@ -30,9 +32,14 @@ unfoldable pub refusal_after : List Taken → List (Clocked Item) → Option Ref
 refusal_after xs [] = None
 refusal_after xs (x ∷ run) = or_else (refusal_here xs x.clock x.item) (refusal_after (with_item x.clock x.item xs) run)
 
--- The report of a run of `count` files with those endings, and the refusal that is answered instead, if there is one.
-abbrev pub report_text : ℕ → (ℕ → FileEnd) → List (Clocked Item) → List ℕ
-report_text count endings run = text_of count (Some endings) (taken_after [] run)
+-- The report of a run of `count` files with those endings, in a form.
+abbrev pub report_text_in : Form → ℕ → (ℕ → FileEnd) → List (Clocked Item) → List ℕ
+report_text_in form count endings run = text_of_in form count (Some endings) (taken_after [] run)
 
+-- the same in text
+abbrev pub report_text : ℕ → (ℕ → FileEnd) → List (Clocked Item) → List ℕ
+report_text count endings run = report_text_in Text count endings run
+
+-- the refusal that is answered instead, if there is one
 abbrev pub report_refusal : List (Clocked Item) → Option Refusal
 report_refusal run = refusal_after [] run

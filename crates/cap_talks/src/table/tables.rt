@@ -13,17 +13,18 @@ ghost use Rattle.cap_talks.specs.inner.table.Holding.{held_of};
 ghost use Rattle.cap_talks.specs.inner.table.Stepping.{TableStands, StepKeeps, TableSteps, AnswersAgain};
 ghost use Rattle.cap_talks.specs.inner.table.Stepping.{endings_so_far};
 ghost use Rattle.cap_talks.specs.table.CountedUnits.{limit_refusal};
-ghost use Rattle.cap_talks.specs.table.TakenText.{text_of};
+ghost use Rattle.cap_talks.specs.table.TakenText.{text_of, text_of_in};
 ghost use Rattle.cap_talks.specs.table.Taken.{Taken};
 
 use crate::counts::{Counted, Counts, put_files};
-use crate::table::report_lines::total_line;
+use crate::table::report_lines::total_line_in;
 use crate::table::talks::TalksFault;
 use crate::table::tallies::Tally;
 use crate::table::totals::Totals;
 use arrayvec::ArrayVec;
 use cap_bytes::{Fault, Refusal, Rule, Sink, put_all};
 use cap_merge::Merged;
+use cap_print::Form;
 use cap_source::{Ending, Meta, PacketFeed};
 use std::alloc::Global;
 
@@ -134,12 +135,23 @@ impl<F: PacketFeed> Table<F> {
         ensures writer { WriterKeeps (writer_of W.Sink writer.old) (is_write result) (writer_of W.Sink writer.new) }
         ensures fault { IsOkUnless result Fault.Write }
     {
+        self.write_in(Form::Text, writer)
+    }
+
+    /// Writes the same in a form.
+    pub(crate) fn write_in<W: Sink>(&self, form: Form, writer: &mut W) -> Result<(), Fault>
+        ensures text { (xs : List Taken) → TableStands (table_of self.now) xs → IsTrue (W.tells_held writer.old)
+            → Prints (text_of_in form (length (table_of self.now).totals.files) (endings_so_far (table_of self.now)) xs)
+            None (W.held writer.old) result (W.held writer.new) }
+        ensures writer { WriterKeeps (writer_of W.Sink writer.old) (is_write result) (writer_of W.Sink writer.new) }
+        ensures fault { IsOkUnless result Fault.Write }
+    {
         let totals = &self.totals;
         let counted = with_endings(&self.merged, totals.files(), self.done);
-        put_files(writer, counted.as_slice())?;
-        let line = total_line(totals.packets(), totals.bytes(), totals.truncated());
+        put_files(writer, form, counted.as_slice())?;
+        let line = total_line_in(form, totals.packets(), totals.bytes(), totals.truncated());
         put_all(writer, line.as_slice())?;
-        self.tally.put_lines(writer)
+        self.tally.put_lines(form, writer)
     }
 
     /// What the table holds of its files, of groups of fragments and of conversations.

@@ -7,10 +7,11 @@ ghost use Rattle.cap_bytes.specs.Printing.{Prints, is_write};
 ghost use Rattle.cap_join.specs.Fragments.{piece_of};
 ghost use Rattle.cap_join.specs.Joiners.{most_bytes};
 ghost use Rattle.cap_talks.specs.inner.table.Looking.{is_datagram, is_plain, taken_of};
-ghost use Rattle.cap_talks.specs.table.TakenText.{frames_text, joined_text};
+ghost use Rattle.cap_print.specs.Facts.{line_in};
+ghost use Rattle.cap_talks.specs.table.TakenText.{frames_facts, joined_facts};
 ghost use Rattle.cap_talks.specs.table.Taken.{Taken, datagram, fragment, look, stamped_of};
-ghost use Rattle.cap_talks.specs.inner.table.Tallies.{TallyStands, LimitBy, one_if_waiting, tally_text, waiting_bytes};
-ghost use Rattle.cap_talks.specs.inner.table.Tallies.{counted_one};
+ghost use Rattle.cap_talks.specs.inner.table.Tallies.{TallyStands, LimitBy, one_if_waiting, tally_text_in};
+ghost use Rattle.cap_talks.specs.inner.table.Tallies.{counted_one, waiting_bytes};
 ghost use Rattle.cap_talks.specs.inner.table.Tallies.{Looks};
 ghost use Rattle.cap_talks.specs.inner.table.Tallies.{WaitsIf, with_frames, with_group};
 ghost use Rattle.cap_source.specs.Times.{meta_time};
@@ -21,13 +22,14 @@ ghost use Rattle.cap_talks.specs.table.CountedUnits.{is_limit_at};
 use crate::table::adding::{add_unit, class_of, joined_class, joined_unit, stamped_of, whole_unit};
 use crate::table::classes::{Class, ClassCounts};
 use crate::table::looks::{Seen, look};
-use crate::table::report_lines::{frames_line, joined_line};
+use crate::table::report_lines::{frames_line_in, joined_line_in};
 use crate::table::talk_lines::put_talks;
 use crate::table::talks::{Talks, TalksFault};
 use cap_bytes::{Fault, Sink, put_all};
 use cap_ip::{Header, transport};
 use cap_join::{Datagram, Joiner, Put, Stamped};
 use cap_merge::RunPacket;
+use cap_print::Form;
 use cap_time::Stamp;
 use std::alloc::Global;
 use std::cmp::max;
@@ -302,16 +304,23 @@ impl Tally {
         }
     }
 
-    /// Writes the lines of the classes, of the joined datagrams and of the conversations: `frames ..`,
-    /// `joined J given-up G`, `talks C` and a line for each conversation. After `Write` a prefix of them is written.
-    pub(crate) fn put_lines<W: Sink>(&self, writer: &mut W) -> Result<(), Fault>
+    /// Writes the lines of the classes, of the joined datagrams and of the conversations, in a form: in text
+    /// `frames ..`, `joined J given-up G`, `talks C` and a line for each conversation. After `Write` a prefix of them
+    /// is written.
+    pub(crate) fn put_lines<W: Sink>(&self, form: Form, writer: &mut W) -> Result<(), Fault>
         ensures text { IsTrue (W.tells_held writer.old)
-            → Prints (tally_text self.now) None (W.held writer.old) result (W.held writer.new) }
+            → Prints (tally_text_in form self.now) None (W.held writer.old) result (W.held writer.new) }
         ensures writer { WriterKeeps (writer_of W.Sink writer.old) (is_write result) (writer_of W.Sink writer.new) }
         ensures fault { IsOkUnless result Fault.Write }
     {
-        put_counts(writer, &self.classes, self.joined, self.joiner.given_up())?;
-        put_talks(writer, &self.talks)
+        put_counts(
+            writer,
+            form,
+            &self.classes,
+            self.joined,
+            self.joiner.given_up(),
+        )?;
+        put_talks(writer, form, &self.talks)
     }
 
     /// How many groups of fragments are held: the open ones, and a joined datagram that waits. At most 1,024.
@@ -339,22 +348,23 @@ impl Tally {
     }
 }
 
-// Writes the lines of the classes and of the joined datagrams.
+// Writes the lines of the classes and of the joined datagrams, in a form.
 fn put_counts<W: Sink>(
     writer: &mut W,
+    form: Form,
     classes: &ClassCounts,
     joined: u64,
     given_up: u64,
 ) -> Result<(), Fault>
     ensures text { IsTrue (W.tells_held writer.old)
-        → Prints (frames_text classes.now ++ joined_text joined given_up) None (W.held writer.old) result
-        (W.held writer.new) }
+        → Prints (line_in form (frames_facts classes.now) ++ line_in form (joined_facts joined given_up)) None
+        (W.held writer.old) result (W.held writer.new) }
     ensures writer { WriterKeeps (writer_of W.Sink writer.old) (is_write result) (writer_of W.Sink writer.new) }
     ensures fault { IsOkUnless result Fault.Write }
 {
-    let line = frames_line(classes);
+    let line = frames_line_in(form, classes);
     put_all(writer, line.as_slice())?;
-    let line = joined_line(joined, given_up);
+    let line = joined_line_in(form, joined, given_up);
     put_all(writer, line.as_slice())
 }
 

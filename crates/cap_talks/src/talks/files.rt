@@ -7,12 +7,13 @@ ghost use Rattle.cap_source.specs.Feed.{FeedKeeps};
 ghost use Rattle.cap_source.specs.inner.Walk.{Walks};
 ghost use Rattle.cap_source.specs.inner.Growing.{IfMemory};
 ghost use Rattle.cap_source.specs.ReadFaults.{FailsAs, FailsOf};
-ghost use Rattle.cap_talks.specs.talks.InfoText.{info_text, first_refusal};
+ghost use Rattle.cap_talks.specs.talks.InfoText.{info_text, info_text_in, first_refusal};
 ghost use Rattle.cap_talks.specs.talks.Reading.{CountsAll, CountsFile, CountsFiles, FailsFirst};
 ghost use Rattle.cap_talks.specs.talks.Telling.{Tells};
 
 use crate::counts::{Counted, Counts, put_files};
 use cap_bytes::{Fault, Sink, Source, Tail};
+use cap_print::Form;
 use cap_source::{Capture, Head, PacketFeed};
 use std::alloc::Global;
 
@@ -90,6 +91,37 @@ pub fn file_lines<R: Source, W: Sink>(
     ensures first { IsTrue (list_all R.tells_coming sources.items)
         → FailsFirst tail (map R.coming sources.items) result }
 {
+    file_lines_in(alloc, sources, tail, Form::Text, writer)
+}
+
+/// Writes the lines of 1 to 32 capture files in a form: in text those of `file_lines`, in JSON an object on each line
+/// (RFC 8259), `{"type":"files","files":K}` and for each file, on one line,
+///
+/// ```text
+/// {"type":"file","file":I,"format":"pcap","packets":P,"bytes":B,"truncated":Q,"skipped":S,
+///  "first":[SEC,NUM,DEN],"last":[SEC,NUM,DEN],"cut":false}
+/// ```
+///
+/// with `null` in place of a time if no packet has one. The faults are those of `file_lines`: if some files are
+/// refused, the refusal of the first one. Nothing is written then, nor if a read fails or a growth is refused. After
+/// `Write` a prefix of the lines is written.
+pub fn file_lines_in<R: Source, W: Sink>(
+    alloc: Global,
+    sources: Vec<R>,
+    tail: Tail,
+    form: Form,
+    writer: &mut W,
+) -> Result<(), Fault>
+    requires some { 1 ≤ vec_len sources }
+    requires most { vec_len sources ≤ 32 }
+    ensures text { IsTrue (list_all R.tells_coming sources.items) → IsTrue (W.tells_held writer.old)
+        → Tells (info_text_in form tail (map R.coming sources.items))
+        (first_refusal tail 1 (map R.coming sources.items)) (W.held writer.old) result (W.held writer.new) }
+    ensures writer { WriterKeeps (writer_of W.Sink writer.old) (is_write result) (writer_of W.Sink writer.new) }
+    ensures read { FailsOf (map R.can_fail sources.items) result }
+    ensures first { IsTrue (list_all R.tells_coming sources.items)
+        → FailsFirst tail (map R.coming sources.items) result }
+{
     let counted = count_files(alloc, sources, tail)?;
-    put_files(writer, counted.as_slice())
+    put_files(writer, form, counted.as_slice())
 }

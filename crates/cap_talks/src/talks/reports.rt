@@ -11,7 +11,7 @@ ghost use Rattle.cap_source.specs.Feed.{Feed};
 ghost use Rattle.cap_source.specs.inner.Walk.{Walks};
 ghost use Rattle.cap_source.specs.inner.Growing.{IfMemory, IsAtPacket};
 ghost use Rattle.cap_talks.specs.inner.talks.Reporting.{TakesAll, TellsReport};
-ghost use Rattle.cap_talks.specs.talks.ReportText.{report_text, report_refusal};
+ghost use Rattle.cap_talks.specs.talks.ReportText.{report_text, report_text_in, report_refusal};
 ghost use Rattle.cap_talks.specs.inner.table.Stepping.{IsMore, TableStands};
 ghost use Rattle.cap_talks.specs.inner.table.TableView.{table_of};
 ghost use Rattle.cap_talks.specs.talks.Telling.{Tells};
@@ -19,6 +19,7 @@ ghost use Rattle.cap_talks.specs.talks.Telling.{Tells};
 use crate::table::{Step, Table};
 use cap_bytes::{Fault, Sink, Source, Tail};
 use cap_merge::{Merged, merge_files};
+use cap_print::Form;
 use cap_source::PacketFeed;
 use std::alloc::Global;
 
@@ -41,34 +42,39 @@ fn take_all<F: PacketFeed>(table: &mut Table<F>) -> Result<(), Fault>
     Ok(())
 }
 
-// Takes all packets of a table that has taken none, and writes the report over them.
-fn report_table<F: PacketFeed, W: Sink>(table: &mut Table<F>, writer: &mut W) -> Result<(), Fault>
+// Takes all packets of a table that has taken none, and writes the report over them in a form.
+fn report_table<F: PacketFeed, W: Sink>(
+    table: &mut Table<F>,
+    form: Form,
+    writer: &mut W,
+) -> Result<(), Fault>
     requires stands { TableStands (table_of table.old) [] }
     ensures text { IsTrue (merged_feed (table_of table.old).parts).told → IsTrue (W.tells_held writer.old)
-        → TellsReport (length (table_of table.old).totals.files) (table_of table.old).parts (W.held writer.old) result
-        (W.held writer.new) }
+        → TellsReport form (length (table_of table.old).totals.files) (table_of table.old).parts (W.held writer.old)
+        result (W.held writer.new) }
     ensures writer { WriterKeeps (writer_of W.Sink writer.old) (is_write result) (writer_of W.Sink writer.new) }
     ensures walks { Walks (merged_feed (table_of table.old).parts) result (merged_feed (table_of table.new).parts) }
     ensures memory { IfMemory result (IsAtPacket (merged_feed (table_of table.new).parts).known) }
 {
     take_all(table)?;
-    table.write_so_far(writer)
+    table.write_in(form, writer)
 }
 
-// Writes the report over the packets of a merge.
+// Writes the report over the packets of a merge, in a form.
 fn report_merged<F: PacketFeed, W: Sink>(
     alloc: Global,
     merged: Merged<F>,
+    form: Form,
     writer: &mut W,
 ) -> Result<(), Fault>
     ensures text { IsTrue (merged_feed (parts_of merged)).told → IsTrue (W.tells_held writer.old)
-        → TellsReport (length (merged_feed (parts_of merged)).files) (parts_of merged) (W.held writer.old) result
+        → TellsReport form (length (merged_feed (parts_of merged)).files) (parts_of merged) (W.held writer.old) result
         (W.held writer.new) }
     ensures writer { WriterKeeps (writer_of W.Sink writer.old) (is_write result) (writer_of W.Sink writer.new) }
     ensures walks { (new : Feed) × Walks (merged_feed (parts_of merged)) result new }
 {
     let mut table = Table::new(alloc, merged);
-    report_table(&mut table, writer)
+    report_table(&mut table, form, writer)
 }
 
 /// Writes the report over 1 to 32 capture files, each of either format: a line for each file, the totals, how
@@ -96,6 +102,42 @@ pub fn report<R: Source, W: Sink>(
     ensures writer { WriterKeeps (writer_of W.Sink writer.old) (is_write result) (writer_of W.Sink writer.new) }
     ensures read { FailsOf (map R.can_fail sources.items) result }
 {
+    report_in(alloc, sources, tail, Form::Text, writer)
+}
+
+/// Writes the report over 1 to 32 capture files in a form: in text that of `report`, in JSON an object on each line
+/// (RFC 8259). The lines of the files are those of `file_lines_in`; after them come, the last one on one line,
+///
+/// ```text
+/// {"type":"total","packets":P,"bytes":B,"truncated":Q}
+/// {"type":"frames","other_link":N,"not_ipv4":N,"short":N,"cut":N,"bad":N,"unjoined":N,"counted":N}
+/// {"type":"joined","joined":J,"given_up":G}
+/// {"type":"talks","talks":C}
+/// {"type":"talk","protocol":17,"a":{"address":"10.0.0.1","port":1000},"b":{"address":"10.0.0.2","port":2000},
+///  "forward":{"packets":P,"bytes":B},"backward":{"packets":P,"bytes":B},
+///  "first":[SEC,NUM,DEN],"last":[SEC,NUM,DEN]}
+/// ```
+///
+/// `protocol` is its number (IANA). An end has no `port` if the protocol has none, and `null` stands in place of a time
+/// if there is none. The faults are those of `report`: the whole report is written, or
+/// nothing, and after `Write` a prefix of it.
+pub fn report_in<R: Source, W: Sink>(
+    alloc: Global,
+    sources: Vec<R>,
+    tail: Tail,
+    form: Form,
+    writer: &mut W,
+) -> Result<(), Fault>
+    requires some { 1 ≤ vec_len sources }
+    requires most { vec_len sources ≤ 32 }
+    ensures text { IsTrue (list_all R.tells_coming sources.items) → IsTrue (W.tells_held writer.old)
+        → Tells (report_text_in form (length sources.items) (endings_of_files tail (map R.coming sources.items))
+        (clocked_run tail (map R.coming sources.items)))
+        (report_refusal (clocked_run tail (map R.coming sources.items)))
+        (W.held writer.old) result (W.held writer.new) }
+    ensures writer { WriterKeeps (writer_of W.Sink writer.old) (is_write result) (writer_of W.Sink writer.new) }
+    ensures read { FailsOf (map R.can_fail sources.items) result }
+{
     let merged = merge_files(alloc, sources, tail)?;
-    report_merged(alloc, merged, writer)
+    report_merged(alloc, merged, form, writer)
 }

@@ -9,11 +9,13 @@ use Rattle.cap_join.specs.Joiners.{JoinerState, open_limit}
 use Rattle.cap_join.specs.Joiners as joiners
 use Rattle.cap_join.specs.declared.datagrams.Datagram.{Datagram}
 use Rattle.cap_join.specs.inner.Fitting.{FitsDatagram}
+use Rattle.cap_print.specs.Facts.{line_in}
+use Rattle.cap_print.specs.declared.forms.Form.{Form}
 use Rattle.cap_talks.specs.table.Rows.{TalksState, frames_in, bytes_in}
 use Rattle.cap_talks.specs.table.Rows as talks
 use Rattle.cap_talks.specs.table.Classes.{classes, counts_of, is_class}
-use Rattle.cap_talks.specs.table.TakenText.{frames_text, joined_text}
-use Rattle.cap_talks.specs.table.TalkLines.{talk_texts, talks_text}
+use Rattle.cap_talks.specs.table.TakenText.{frames_facts, joined_facts}
+use Rattle.cap_talks.specs.table.TalkLines.{talk_texts_in, talks_facts}
 use Rattle.cap_talks.specs.table.Taken.{Taken, fragment, look, events_of}
 use Rattle.cap_talks.specs.table.CountedUnits.{counted_units, joined_in, is_limit_at}
 use Rattle.cap_talks.specs.declared.table.classes.Class.{Class}
@@ -78,11 +80,11 @@ abbrev pub waiting_bytes : Option Datagram → ℕ
 waiting_bytes None = 0
 waiting_bytes (Some d) = length d.payload.items
 
--- the lines of a tally
-unfoldable pub tally_text : TallyState → List ℕ
-tally_text t =
-    frames_text t.classes ++ joined_text t.joined t.joiner.given_up
-    ++ (talks_text (length t.talks.rows) ++ talk_texts t.talks.rows)
+-- the lines of a tally, in a form
+unfoldable pub tally_text_in : Form → TallyState → List ℕ
+tally_text_in form t =
+    line_in form (frames_facts t.classes) ++ line_in form (joined_facts t.joined t.joiner.given_up)
+    ++ (line_in form (talks_facts (length t.talks.rows)) ++ talk_texts_in form t.talks.rows)
 
 -- n more packets of a class
 abbrev pub with_frames : Class → ℕ → ClassCounts → ClassCounts

@@ -3,9 +3,10 @@ use Rattle.std.specs.Prelude.{◌≡◌, ℕ, List, [], true, IsTrue, Some, None
 use Rattle.cap_bytes.specs.declared.faults.Fault.{Fault}
 use Rattle.cap_bytes.specs.declared.faults.Fault.TheVariants.{Refused, Read, Write, Memory}
 use Rattle.cap_merge.specs.Parts.{Part, merged_feed, run_of}
+use Rattle.cap_print.specs.declared.forms.Form.{Form}
 use Rattle.cap_source.specs.inner.Growing.{IsAtPacket}
 use Rattle.cap_source.specs.declared.feeds.Head.TheVariants as heads
-use Rattle.cap_talks.specs.talks.ReportText.{taken_after, refusal_after, report_text, report_refusal}
+use Rattle.cap_talks.specs.talks.ReportText.{taken_after, refusal_after, report_text_in, report_refusal}
 use Rattle.cap_talks.specs.talks.Telling.{Tells}
 use Rattle.cap_talks.specs.inner.table.Stepping.{TableState, TableStands}
 
@@ -28,7 +29,7 @@ TakesAll old (Err (Read file offset)) new = ⊤
 TakesAll old (Err Write) new = ⊥
 TakesAll old (Err Memory) new = IsAtPacket (merged_feed new.parts).known
 
--- The report of the run of that many files is written.
-abbrev pub TellsReport : ℕ → List Part → List ℕ → Result (Unit {0}) Fault → List ℕ → Type 0
-TellsReport count ps held result new =
-    Tells (report_text count (merged_feed ps).endings (run_of ps)) (report_refusal (run_of ps)) held result new
+-- The report of the run of that many files is written, in a form.
+abbrev pub TellsReport : Form → ℕ → List Part → List ℕ → Result (Unit {0}) Fault → List ℕ → Type 0
+TellsReport form count ps held result new =
+    Tells (report_text_in form count (merged_feed ps).endings (run_of ps)) (report_refusal (run_of ps)) held result new

@@ -1,6 +1,6 @@
 use Rattle.std.proofs.Common.{◌≡◌, ◌+◌, drop}
 use Rattle.cap_bytes.proofs.Putting.{Putting}
-use Rattle.cap_talks.specs.counts.FileLines.{counted_texts}
+use Rattle.cap_talks.specs.counts.FileLines.{counted_texts_in}
 use Rattle.cap_talks.proofs.counts.files.put_each.Given as goal
 
 -- the lines of the files so far are written
@@ -21,5 +21,5 @@ invariant-loop-place g l = record {
         failed = g.W.Device.has_failed l.writer;
         can_fail = g.W.Device.can_fail l.writer;
       })
-      (counted_texts 1 l.counted) (counted_texts (l.place + 1) (drop l.place l.counted));
+      (counted_texts_in l.form 1 l.counted) (counted_texts_in l.form (l.place + 1) (drop l.place l.counted));
 }

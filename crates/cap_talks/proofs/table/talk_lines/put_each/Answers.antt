@@ -1,7 +1,7 @@
 use Rattle.std.proofs.Common.{◌∙◌, ◌<◌, ◌≤◌, length, refl, arith, rules}
 use Rattle.std.proofs.lemmas.Result.{err_from_is_err_and}
 use Rattle.cap_bytes.proofs.Putting.{Putting-all}
-use Rattle.cap_talks.specs.table.TalkLines.{talk_texts}
+use Rattle.cap_talks.specs.table.TalkLines.{talk_texts_in}
 use Rattle.cap_talks.proofs.TalkPrinting.{line-more, line-front, lines-none}
 use Rattle.cap_talks.proofs.table.talk_lines.put_each.Goals as goal
 
@@ -13,9 +13,9 @@ returns-in_err-put_all-clause-text g c = λ w.
     let within : c.loop-place.place < length c.args.talks.now.rows =
     omega (arith, c.loop-place-test.true, c.len-place-end.ensures.value) in
     rw (p.1, p.2, c.in_err-put_all.ensures.fault)
-    (line-front _ _ (g.W.Sink.held c.put_all.new.writer) c.args.talks.now.rows c.loop-place.place
+    (line-front c.args.form _ _ (g.W.Sink.held c.put_all.new.writer) c.args.talks.now.rows c.loop-place.place
     c.as_slice.result.now wrote.0
-    within (c.as_slice.ensures.value ∙ c.line_at-line.ensures) i w wrote.1)
+    within (c.as_slice.ensures.value ∙ c.line_at_in-line.ensures) i w wrote.1)
 
 pub loop-place-preserved : goal.loop-place-preserved
 loop-place-preserved g c =
@@ -25,8 +25,8 @@ loop-place-preserved g c =
     record {
       failed = search rules;
       putting =
-          line-more _ _ _ c.args.talks.now.rows c.loop-place.place c.as_slice.result.now
-          within (c.as_slice.ensures.value ∙ c.line_at-line.ensures) c.loop-place.invariant.putting
+          line-more c.args.form _ _ _ c.args.talks.now.rows c.loop-place.place c.as_slice.result.now
+          within (c.as_slice.ensures.value ∙ c.line_at_in-line.ensures) c.loop-place.invariant.putting
           e.bytes e.writer.told e.writer.cannot;
     }
 
@@ -35,6 +35,6 @@ returns-clause-text g c = λ w.
     let past : length c.args.talks.now.rows ≤ c.loop-place.place =
     omega (arith, c.loop-place-test.false, c.len-place-end.ensures.value) in (
       refl,
-      Putting-all _ _ (talk_texts c.args.talks.now.rows) _ c.loop-place.invariant.putting
-          (lines-none c.args.talks.now.rows c.loop-place.place past) w,
+      Putting-all _ _ (talk_texts_in c.args.form c.args.talks.now.rows) _ c.loop-place.invariant.putting
+          (lines-none c.args.form c.args.talks.now.rows c.loop-place.place past) w,
     )

@@ -1,6 +1,6 @@
 use Rattle.std.proofs.Common.{◌≡◌, drop}
 use Rattle.cap_bytes.proofs.Putting.{Putting}
-use Rattle.cap_talks.specs.table.TalkLines.{talk_texts}
+use Rattle.cap_talks.specs.table.TalkLines.{talk_texts_in}
 use Rattle.cap_talks.proofs.table.talk_lines.put_each.Given as goal
 
 -- the lines of the conversations so far are written
@@ -21,5 +21,5 @@ invariant-loop-place g l = record {
         failed = g.W.Device.has_failed l.writer;
         can_fail = g.W.Device.can_fail l.writer;
       })
-      (talk_texts l.talks.rows) (talk_texts (drop l.place l.talks.rows));
+      (talk_texts_in l.form l.talks.rows) (talk_texts_in l.form (drop l.place l.talks.rows));
 }

@@ -8,7 +8,8 @@ use Rattle.cap_talks.proofs.talks.reports.report_merged.Goals as goal
 pub returns-clause-text : goal.returns-clause-text
 returns-clause-text g c = λ t w.
     let e = c.new-table.ensures in
-    subst (λ (q : ℕ × List Part). TellsReport q.0 q.1 (g.W.Sink.held c.args.writer.now) c.report_table.result
+    subst (λ (q : ℕ × List Part). TellsReport c.args.form q.0 q.1
+    (g.W.Sink.held c.args.writer.now) c.report_table.result
     (g.W.Sink.held c.report_table.new.writer))
     (λ i. (
       e.files i,

@@ -8,7 +8,7 @@ pub returns-in_err-take_all-clause-text : goal.returns-in_err-take_all-clause-te
 returns-in_err-take_all-clause-text g c = λ t w.
     let p = err_from_is_err_and c.from_residual.result c.from_residual.ensures.1 in
     rw (p.1, p.2)
-    (tells-nothing (table_of c.args.table.now) (table_of c.take_all.new.table)
+    (tells-nothing c.args.form (table_of c.args.table.now) (table_of c.take_all.new.table)
     (g.W.Sink.held c.args.writer.now) c.in_err-take_all.field-0.0
     c.in_err-take_all.ensures.takes t c.requires.stands)
 
@@ -20,14 +20,15 @@ returns-in_err-take_all-clause-writer g c =
 
 pub returns-clause-text : goal.returns-clause-text
 returns-clause-text g c = λ t w.
-    tells-report (table_of c.args.table.now) (table_of c.take_all.new.table) (g.W.Sink.held c.args.writer.now)
-    (g.W.Sink.held c.write_so_far.new.writer)
-    c.write_so_far.result t c.requires.stands c.in_ok-take_all.ensures.takes c.write_so_far.ensures.fault
-    (λ xs stands. c.write_so_far.ensures.text xs stands w)
+    tells-report c.args.form (table_of c.args.table.now) (table_of c.take_all.new.table)
+    (g.W.Sink.held c.args.writer.now)
+    (g.W.Sink.held c.write_in.new.writer)
+    c.write_in.result t c.requires.stands c.in_ok-take_all.ensures.takes c.write_in.ensures.fault
+    (λ xs stands. c.write_in.ensures.text xs stands w)
 
 pub returns-clause-walks : goal.returns-clause-walks
 returns-clause-walks g c =
-    walks-written _ _ c.write_so_far.result c.in_ok-take_all.ensures.walks c.write_so_far.ensures.fault
+    walks-written _ _ c.write_in.result c.in_ok-take_all.ensures.walks c.write_in.ensures.fault
 
 pub returns-in_err-take_all-clause-memory : goal.returns-in_err-take_all-clause-memory
 returns-in_err-take_all-clause-memory g c =
@@ -36,4 +37,4 @@ returns-in_err-take_all-clause-memory g c =
     (table_of c.take_all.new.table) c.in_err-take_all.field-0.0 c.in_err-take_all.ensures.takes)
 
 pub returns-clause-memory : goal.returns-clause-memory
-returns-clause-memory g c = memory-unless c.write_so_far.result _ c.write_so_far.ensures.fault
+returns-clause-memory g c = memory-unless c.write_in.result _ c.write_in.ensures.fault

@@ -1,6 +1,6 @@
 use Rattle.std.proofs.Common.{arith}
 use Rattle.cap_talks.proofs.Telling.{info-counted, tells-printed}
-use Rattle.cap_talks.proofs.talks.files.file_lines.Goals as goal
+use Rattle.cap_talks.proofs.talks.files.file_lines_in.Goals as goal
 
 pub returns-clause-text : goal.returns-clause-text
 returns-clause-text g c =
