@@ -372,6 +372,9 @@ completed little capt join --order l
 completed merge capt help m
 completed '--explain' capt list --e
 completed '--output' capt merge --ou
+completed '--json' capt info --j
+completed '--data' capt list --da
+completed '' capt list --json --data 1
 
 echo "$passed passed, $failed failed"
 [ "$failed" = 0 ]

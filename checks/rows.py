@@ -470,7 +470,11 @@ LINES = [
         "convert -o c a", "convert --to pcap a", "convert --to pcap -o c", "convert --to tar -o c a", "convert --to pcap -o c a b",
         "convert --order middle --to pcap -o c a", "convert --to pcap --to pcap -o c a", "merge a b", "merge -o c", "merge --to tar -o c a",
         "merge -o c -o d a", "merge -o c --output d a", "merge --whole -o - a", "report --whole a", "join a", "join --to pcap a",
-        "merge --to pcap --to pcap -o c a", "report --to pcap a")),
+        "merge --to pcap --to pcap -o c a", "report --to pcap a",
+        "list --data 4 a", "list --data 4 --allow-cut a", "list --json --data", "list --json --data= a", "list --json --data +4 a",
+        "list --json --data 4.0 a", "list --json --data -4 a", "list --json --data 262145 a", "list --json --data 4 --data 4 a",
+        "list --json --json a", "list --json=yes a", "blocks --json --data 4 a", "info --json --data 4 a", "report --json --data 4 a",
+        "convert --json --to pcap -o c a", "merge --json -o c a", "join --json -o c a")),
 ]
 
 

@@ -14,12 +14,14 @@ _capt() {
     fi
     case $before in
         --order) mapfile -t COMPREPLY < <(compgen -W 'big little' -- "$word"); return ;;
+        --data) COMPREPLY=(); return ;;
         --to) mapfile -t COMPREPLY < <(compgen -W 'pcap pcapng' -- "$word"); return ;;
     esac
     case ${COMP_WORDS[1]} in
         help) mapfile -t COMPREPLY < <(compgen -W "$commands" -- "$word"); return ;;
         convert | merge | join) options='--allow-cut --explain --order --output --to --whole -o --help' ;;
-        *) options='--allow-cut --explain --help' ;;
+        list) options='--allow-cut --explain --json --data --help' ;;
+        *) options='--allow-cut --explain --json --help' ;;
     esac
     if [[ $word == -* ]]; then
         mapfile -t COMPREPLY < <(compgen -W "$options" -- "$word")

@@ -14,6 +14,8 @@ complete -c capt -n '__fish_seen_subcommand_from help' -f -a "$commands"
 complete -c capt -s h -l help -d 'Print help'
 complete -c capt -n "__fish_seen_subcommand_from $commands" -l allow-cut -d 'Drop a last packet or block that is cut off'
 complete -c capt -n "__fish_seen_subcommand_from $commands" -l explain -d 'Name the file of a fault, and why'
+complete -c capt -n '__fish_seen_subcommand_from report info list blocks' -l json -d 'Print JSON Lines'
+complete -c capt -n '__fish_seen_subcommand_from list' -l data -x -d 'With --json, bytes of each packet that are shown'
 complete -c capt -n '__fish_seen_subcommand_from convert merge join' -l order -x -a 'big little' -d 'Byte order of the output'
 complete -c capt -n '__fish_seen_subcommand_from convert merge join' -l to -x -a 'pcap pcapng' -d 'Format of the output'
 complete -c capt -n '__fish_seen_subcommand_from convert merge join' -s o -l output -r -d 'Output file'

@@ -2,3 +2,4 @@ pub mod FileNames
 pub mod Parsing
 pub mod Rows
 pub mod Escapes
+pub mod Numbers

@@ -82,21 +82,29 @@ cutting_app name = with_rule (new_app name) (flag_rule (codes "allow-cut"))
 abbrev pub reading_app : Text → App
 reading_app name = with_rule (cutting_app name) (flag_rule (codes "explain"))
 
--- `list FILE`
+-- the option `--data`, which takes a text
+abbrev pub data_rule : Rule
+data_rule = record (new_rule (codes "data")) { long = Some (codes "data"); value_names = 1 }
+
+-- the subcommand of that name with `[--allow-cut] [--explain] [--json]`, before its other arguments: one that prints
+abbrev pub showing_app : Text → App
+showing_app name = with_rule (reading_app name) (flag_rule (codes "json"))
+
+-- `list [--data N] FILE`
 abbrev pub list_app : App
-list_app = with_rule (reading_app (codes "list")) file_rule
+list_app = with_rule (with_rule (showing_app (codes "list")) data_rule) file_rule
 
 -- `blocks FILE`
 abbrev pub blocks_app : App
-blocks_app = with_rule (reading_app (codes "blocks")) file_rule
+blocks_app = with_rule (showing_app (codes "blocks")) file_rule
 
 -- `info FILE..`
 abbrev pub info_app : App
-info_app = with_rule (reading_app (codes "info")) files_rule
+info_app = with_rule (showing_app (codes "info")) files_rule
 
 -- `report FILE..`
 abbrev pub report_app : App
-report_app = with_rule (reading_app (codes "report")) files_rule
+report_app = with_rule (showing_app (codes "report")) files_rule
 
 -- the subcommand of that name with `[--order ORDER] -o OUT [--whole]`, before its files
 abbrev pub writing_app : Text → ArgumentNames → App

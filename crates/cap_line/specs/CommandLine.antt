@@ -1,12 +1,13 @@
 -- What a command line asks for, by clap's matches of its words.
-use Rattle.std.specs.Prelude.{◌≡◌, ◌⊎◌, List, [], length, codes, Bool, Option, Some, None, Result, Ok, Err, unwrap_or}
-use Rattle.std.specs.Prelude.{map, option_map, IsTrue, IsFalse, ◌↔◌}
+use Rattle.std.specs.Prelude.{◌≡◌, ◌⊎◌, ℕ, List, [], length, codes, Bool, Option, Some, None, Result, Ok, Err}
+use Rattle.std.specs.Prelude.{map, option_map, unwrap_or, IsTrue, IsFalse, ◌↔◌}
 use Rattle.clap.specs.Words.{App, Row, Text, all_of, first_of, fault_of, subcommand_of, IsAmong}
 use Rattle.clap.specs.declared.error.kind.ErrorKind.{ErrorKind}
 use Rattle.clap.specs.declared.error.kind.ErrorKind.TheVariants as kind
 use Rattle.cap_line.specs.Command.{IsCapt}
 use Rattle.cap_source.specs.declared.packets.Format.{Format}
-use Rattle.cap_line.specs.Jobs.{IsWholeJob, can_replace, files_fault, format_by, is_whole_task, order_by, task_by}
+use Rattle.cap_line.specs.Jobs.{IsShownJob, IsWholeJob, can_replace, can_show, data_by, files_fault, format_by}
+use Rattle.cap_line.specs.Jobs.{is_whole_task, order_by, task_by}
 use Rattle.cap_line.specs.declared.jobs.Job.{Job}
 use Rattle.cap_line.specs.declared.jobs.Task.{Task}
 use Rattle.cap_line.specs.declared.faults.LineFault.{LineFault}
@@ -29,6 +30,10 @@ out_in rows = first_of (codes "out") rows
 abbrev pub to_in : List Row → Option Format
 to_in rows = format_by (first_of (codes "to") rows)
 
+-- how many bytes of a packet they ask for
+abbrev pub data_in : List Row → Result (Option ℕ) LineFault
+data_in rows = data_by (first_of (codes "data") rows)
+
 -- The flag of that name was given or not.
 abbrev pub Flags : Bool → Text → List Row → Type 0
 Flags given name rows = IsTrue given ↔ (first_of name rows ≡ Some (codes "true"))
@@ -43,6 +48,13 @@ Lacks name rows =
 abbrev pub CannotReplace : List Row → Type 0
 CannotReplace rows = (whole : Bool) × Flags whole (codes "whole") rows × IsFalse (can_replace whole (out_in rows))
 
+-- What is to be shown is no number of bytes, or a task can't show it.
+abbrev pub CannotShow : Text → List Row → Type 0
+CannotShow name rows =
+    (data_in rows ≡ Err Line)
+    ⊎ ((task : Task) × (json : Bool) × (count : Option ℕ) × (task_by name ≡ Some task)
+    × Flags json (codes "json") rows × (data_in rows ≡ Ok count) × IsFalse (can_show task json count))
+
 -- The job is what the rows say.
 pub record HasRows (task : Task) (rows : List Row) (job : Job) : Type 0 where
   pub task_is : job.task ≡ task
@@ -53,16 +65,19 @@ pub record HasRows (task : Task) (rows : List Row) (job : Job) : Type 0 where
   pub out : option_map (λ o. o.now) job.out ≡ out_in rows
   pub explain : Flags job.explain (codes "explain") rows
   pub whole : Flags job.whole (codes "whole") rows
+  pub json : Flags job.json (codes "json") rows
+  pub count : data_in rows ≡ Ok job.data
 
 -- What a subcommand of that name with those rows gives: a whole job, or the first fault. A name that is no task's, a
--- task that lacks what it takes, and standard output that is to take a name, are refused as the line.
+-- task that lacks what it takes, standard output that is to take a name, and what can't be shown, are refused as the
+-- line.
 abbrev pub IsJobBy : Text → List Row → Result Job LineFault → Type 0
 IsJobBy name rows (Ok job) =
     (task : Task) × (task_by name ≡ Some task) × (files_fault (files_in rows) (out_in rows) ≡ Ok tt)
-    × HasRows task rows job × IsWholeJob job
+    × HasRows task rows job × IsWholeJob job × IsShownJob job
 IsJobBy name rows (Err Help) = ⊥
 IsJobBy name rows (Err Line) =
-    (task_by name ≡ None) ⊎ Lacks name rows ⊎ CannotReplace rows
+    (task_by name ≡ None) ⊎ Lacks name rows ⊎ CannotReplace rows ⊎ CannotShow name rows
     ⊎ (files_fault (files_in rows) (out_in rows) ≡ Err Line)
 IsJobBy name rows (Err Files) = files_fault (files_in rows) (out_in rows) ≡ Err Files
 IsJobBy name rows (Err Input) = files_fault (files_in rows) (out_in rows) ≡ Err Input

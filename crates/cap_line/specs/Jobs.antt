@@ -1,8 +1,11 @@
 -- What a job has, and what a command line's words name in one.
-use Rattle.std.specs.Prelude.{◌&&◌, ◌==◌, ◌≤◌, ℕ, not, Bool, true, false, List, length, codes, count_by, Option, Some}
-use Rattle.std.specs.Prelude.{None, is_some, Result, Ok, Err, if◌then◌else◌, nat_lt, option_map, vec_len, IsTrue}
+use Rattle.std.specs.Prelude.{◌&&◌, ◌||◌, ◌==◌, ◌≤◌, ℕ, not, Bool, true, false, List, length, codes, count_by, Option}
+use Rattle.std.specs.Prelude.{Some, None, is_some, Result, Ok, Err, if◌then◌else◌, nat_le, nat_lt, option_map, vec_len}
+use Rattle.std.specs.Prelude.{IsTrue, IfSome}
+use Rattle.std.specs.Char.{is_ascii_digit}
 use Rattle.std.specs.Str.{bytes_eq}
-use Rattle.std.specs.List.{list_any}
+use Rattle.std.specs.Str.Parse.{digits_value}
+use Rattle.std.specs.List.{list_all, list_any}
 use Rattle.cap_bytes.specs.declared.numbers.Order.{Order}
 use Rattle.cap_bytes.specs.declared.numbers.Order.TheVariants.{Big, Little}
 use Rattle.cap_source.specs.declared.packets.Format.{Format}
@@ -65,9 +68,48 @@ abbrev pub can_replace : Bool → Option (List ℕ) → Bool
 can_replace whole None = true
 can_replace whole (Some out) = not (whole && bytes_eq out (codes "-"))
 
+-- whether a text is one decimal digit or more, and nothing else
+abbrev pub is_digits : List ℕ → Bool
+is_digits text = nat_lt 0 (length text) && list_all is_ascii_digit text
+
+-- the number that a text is in decimal digits, of which the first may be zeros, if it is at most 262,144
+abbrev pub count_in : List ℕ → Option ℕ
+count_in text = if is_digits text && nat_le (digits_value 10 text) 262144 then Some (digits_value 10 text) else None
+
+-- how many bytes of each packet a text asks for, if one is given: a text that is no such number is refused
+abbrev pub data_by : Option (List ℕ) → Result (Option ℕ) LineFault
+data_by None = Ok None
+data_by (Some text) = if is_some (count_in text) then Ok (count_in text) else Err Line
+
+-- whether a task prints
+abbrev pub is_printing : Task → Bool
+is_printing tasks.List = true
+is_printing tasks.Blocks = true
+is_printing tasks.Info = true
+is_printing tasks.Report = true
+is_printing tasks.Convert = false
+is_printing tasks.Merge = false
+is_printing tasks.Join = false
+
+-- whether a task lists packets
+abbrev pub is_listing : Task → Bool
+is_listing tasks.List = true
+is_listing _ = false
+
+-- whether a task can show what is asked for: JSON Lines if it prints, and a number of bytes of each packet if it lists
+-- packets as JSON Lines
+abbrev pub can_show : Task → Bool → Option ℕ → Bool
+can_show task json None = not json || is_printing task
+can_show task json (Some count) = json && is_listing task
+
 -- A job has 1 to 32 files, and all that its task takes.
 pub record IsWholeJob (job : Job) : Type 0 where
   pub some : 1 ≤ vec_len job.files
   pub most : vec_len job.files ≤ 32
   pub taken : IsTrue (is_whole_task job.task (vec_len job.files) job.to (option_map (λ o. o.now) job.out))
   pub replaced : IsTrue (can_replace job.whole (option_map (λ o. o.now) job.out))
+
+-- A job's task can show what is asked for, and at most 262,144 bytes of each packet.
+pub record IsShownJob (job : Job) : Type 0 where
+  pub shown : IsTrue (can_show job.task job.json job.data)
+  pub most : IfSome job.data (λ count. count ≤ 262144)

@@ -5,7 +5,8 @@ ghost use Rattle.clap.specs.declared.builder.command.Command.TheViews.{out-Comma
 ghost use Rattle.cap_line.specs.Command.{AddsMade, AddsRule, IsCapt, IsConvert, IsGathering, IsJoin, IsMerge};
 ghost use Rattle.cap_line.specs.Command.{IsOrderRule, IsRequiredToRule, IsToRule, IsWriting, blocks_app, capt_alone};
 ghost use Rattle.cap_line.specs.Command.{choice_rule, cutting_app, file_rule, files_rule, flag_rule, info_app};
-ghost use Rattle.cap_line.specs.Command.{list_app, listing_app, out_rule, printing_app, reading_app, report_app};
+ghost use Rattle.cap_line.specs.Command.{data_rule, list_app, listing_app, out_rule, printing_app, reading_app};
+ghost use Rattle.cap_line.specs.Command.{report_app, showing_app};
 
 use crate::texts;
 use crate::usage::USAGE;
@@ -42,6 +43,25 @@ fn explain<'a>(alloc: Global) -> Arg<'a>
     ensures local { result.global ≡ false }
 {
     flag(alloc, "explain", texts::EXPLAIN_HELP)
+}
+
+// `--json`
+fn json<'a>(alloc: Global) -> Arg<'a>
+    ensures rule { rule_of result ≡ flag_rule (codes "json") }
+    ensures local { result.global ≡ false }
+{
+    flag(alloc, "json", texts::JSON_HELP)
+}
+
+// `--data`
+fn data<'a>(alloc: Global) -> Arg<'a>
+    ensures rule { rule_of result ≡ data_rule }
+    ensures local { result.global ≡ false }
+{
+    Arg::new(alloc, "data")
+        .long("data")
+        .value_name("N")
+        .help(texts::DATA_HELP)
 }
 
 // `--whole`
@@ -197,6 +217,19 @@ fn reading<'a>(
     with_argument(cutting(alloc, name, about, help), explain(alloc))
 }
 
+// A subcommand that prints: with `[--allow-cut] [--explain] [--json]`, before its other arguments
+fn showing<'a>(
+    alloc: Global,
+    name: &'a str,
+    about: &'a str,
+    help: &'a str,
+) -> Result<Command<'a>, AllocError>
+    ensures app { IfOk result (λ c. app_of c ≡ showing_app name.entry.now) }
+    ensures local { IfOk result (λ c. (fields_of c).has_globals ≡ false) }
+{
+    with_argument(reading(alloc, name, about, help), json(alloc))
+}
+
 // A subcommand with `[--allow-cut] [--explain] [--order ORDER] -o OUT [--whole]`, before its other arguments
 fn writing<'a>(
     alloc: Global,
@@ -217,10 +250,8 @@ fn list<'a>(alloc: Global) -> Result<Command<'a>, AllocError>
     ensures app { IfOk result (λ c. app_of c ≡ list_app) }
     ensures local { IfOk result (λ c. (fields_of c).has_globals ≡ false) }
 {
-    with_argument(
-        reading(alloc, "list", texts::LIST_ABOUT, texts::LIST_HELP),
-        file(alloc),
-    )
+    let before = showing(alloc, "list", texts::LIST_ABOUT, texts::LIST_HELP);
+    with_argument(with_argument(before, data(alloc)), file(alloc))
 }
 
 // `blocks`
@@ -229,7 +260,7 @@ fn blocks<'a>(alloc: Global) -> Result<Command<'a>, AllocError>
     ensures local { IfOk result (λ c. (fields_of c).has_globals ≡ false) }
 {
     with_argument(
-        reading(alloc, "blocks", texts::BLOCKS_ABOUT, texts::BLOCKS_HELP),
+        showing(alloc, "blocks", texts::BLOCKS_ABOUT, texts::BLOCKS_HELP),
         file(alloc),
     )
 }
@@ -240,7 +271,7 @@ fn info<'a>(alloc: Global) -> Result<Command<'a>, AllocError>
     ensures local { IfOk result (λ c. (fields_of c).has_globals ≡ false) }
 {
     with_argument(
-        reading(alloc, "info", texts::INFO_ABOUT, texts::INFO_HELP),
+        showing(alloc, "info", texts::INFO_ABOUT, texts::INFO_HELP),
         files(alloc),
     )
 }
@@ -251,7 +282,7 @@ fn report<'a>(alloc: Global) -> Result<Command<'a>, AllocError>
     ensures local { IfOk result (λ c. (fields_of c).has_globals ≡ false) }
 {
     with_argument(
-        reading(alloc, "report", texts::REPORT_ABOUT, texts::REPORT_HELP),
+        showing(alloc, "report", texts::REPORT_ABOUT, texts::REPORT_HELP),
         files(alloc),
     )
 }

@@ -1,9 +1,10 @@
 //! Jobs, and what the words of a command line name in one.
 ghost use Rattle.std.specs.Prelude.{◌≡◌, map, count_by, codes, option_map};
-ghost use Rattle.std.specs.List.{list_any};
+ghost use Rattle.std.specs.Char.{is_ascii_digit};
+ghost use Rattle.std.specs.List.{list_all, list_any};
 ghost use Rattle.std.specs.Str.{bytes_eq};
-ghost use Rattle.cap_line.specs.Jobs.{can_replace, files_fault, format_by, is_also_file, is_whole_task, order_by};
-ghost use Rattle.cap_line.specs.Jobs.{task_by};
+ghost use Rattle.cap_line.specs.Jobs.{can_replace, can_show, count_in, data_by, files_fault, format_by};
+ghost use Rattle.cap_line.specs.Jobs.{is_also_file, is_digits, is_whole_task, order_by, task_by};
 
 use crate::faults::LineFault;
 use cap_bytes::Order;
@@ -11,6 +12,9 @@ use cap_source::Format;
 
 // How many files a command reads at most.
 const FILES_LIMIT: usize = 32;
+
+// How many bytes of a packet are shown at most.
+const DATA_LIMIT: u32 = 262_144;
 
 /// What is to be done.
 #[derive(Clone, Copy, Debug, PartialEq, Eq)]
@@ -51,6 +55,10 @@ pub struct Job<'a> {
     pub explain: bool,
     /// Whether the file that is written takes its name only once all is done. Standard output has none.
     pub whole: bool,
+    /// Whether JSON Lines are printed, and not text.
+    pub json: bool,
+    /// How many bytes of each packet are shown at most, if that was asked for: from 0 to 262,144.
+    pub data: Option<u32>,
 }
 
 /// The task of that name, if it is one's: `list`, `blocks`, `info`, `report`, `convert`, `merge` or `join`.
@@ -110,6 +118,59 @@ pub fn can_replace(whole: bool, out: Option<&str>) -> bool
     match out {
         Some(out) => !(whole && out == "-"),
         None => true,
+    }
+}
+
+// Whether each byte is a decimal digit.
+fn are_digits(bytes: &[u8]) -> bool
+    ensures { result ≡ list_all is_ascii_digit bytes.now }
+{
+    bytes.iter().all(|byte| byte.is_ascii_digit())
+}
+
+// Whether a text is one decimal digit or more, and nothing else.
+fn is_digits(text: &str) -> bool
+    ensures { result ≡ is_digits text.now }
+{
+    !text.is_empty() && are_digits(text.as_bytes())
+}
+
+// The number that a text is, if it is one from 0 to 262,144.
+fn count_of(text: &str) -> Option<u32>
+    ensures { result ≡ count_in text.now }
+{
+    if !is_digits(text) {
+        return None;
+    }
+    match text.parse::<u32>() {
+        Ok(count) if count <= DATA_LIMIT => Some(count),
+        _ => None,
+    }
+}
+
+/// How many bytes of each packet a text asks for, if one is given: a number from 0 to 262,144 in decimal digits alone,
+/// before which zeros may stand. `Line` comes if it isn't one.
+pub fn data_of(text: Option<&str>) -> Result<Option<u32>, LineFault>
+    ensures { result ≡ data_by (option_map (λ o. o.now) text.entry) }
+{
+    match text {
+        Some(text) => match count_of(text) {
+            Some(count) => Ok(Some(count)),
+            None => Err(LineFault::Line),
+        },
+        None => Ok(None),
+    }
+}
+
+/// Whether a task can show what is asked for: JSON Lines if it prints, and a number of bytes of each packet if it
+/// lists packets as JSON Lines.
+pub fn can_show(task: Task, json: bool, count: Option<u32>) -> bool
+    ensures { result ≡ can_show task json count }
+{
+    match task {
+        Task::List => json || count.is_none(),
+        Task::Blocks | Task::Info | Task::Report => count.is_none(),
+        Task::Convert | Task::Merge | Task::Join => !json && count.is_none(),
     }
 }
 

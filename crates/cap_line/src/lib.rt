@@ -12,7 +12,7 @@ mod words;
 
 pub use crate::faults::LineFault;
 pub use crate::jobs::{
-    Job, Task, can_replace, check_files, format_of, is_whole, order_of, task_of,
+    Job, Task, can_replace, can_show, check_files, data_of, format_of, is_whole, order_of, task_of,
 };
 pub use crate::shown::{escape, escape_lines};
 pub use crate::texts::VERSION;

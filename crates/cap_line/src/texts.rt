@@ -116,6 +116,11 @@ pub(crate) const ALLOW_CUT_HELP: &str = "Drop a last packet or block that is cut
 
 pub(crate) const EXPLAIN_HELP: &str = "Name the file of a fault, and why, as at a terminal";
 
+pub(crate) const JSON_HELP: &str = "Print JSON Lines: the same facts, an object a line";
+
+pub(crate) const DATA_HELP: &str = "With --json, show at most N bytes of a packet, from
+0 to 262144, default 16";
+
 pub(crate) const WHOLE_HELP: &str = "Write OUT beside itself and rename it once all is
 done: a fault or a refusal leaves it as it was. If
 capt is killed, a file OUT.capt-1 may be left";

@@ -27,6 +27,8 @@ Options:
   -V, --version  Print version
       --explain  Of each command: name the file of a fault, and why, and count
                  what isn't carried on, as at a terminal
+      --json     Of report, info, list and blocks: print JSON Lines
+      --data N   Of list --json: show N bytes of each packet, default 16
       --whole    Of convert, merge and join: leave OUT as it was until all is
                  done
 
@@ -41,6 +43,20 @@ pub const NOT_UTF_8: &str = "error: a word of the command line isn't UTF-8
   tip: to read a file of such a name, use 'capt list - < FILE'
 
 Usage: capt <COMMAND>
+
+For more information, try '--help'.
+";
+
+// What is printed for `--data` without `--json`.
+pub(crate) const DATA_ALONE: &str =
+    "error: the argument '--data <N>' cannot be used without '--json'
+
+For more information, try '--help'.
+";
+
+// What is printed for `--data` with what isn't a number that it takes.
+pub(crate) const DATA_NUMBER: &str =
+    "error: invalid value for '--data <N>': a number from 0 to 262144 is wanted, in decimal digits
 
 For more information, try '--help'.
 ";

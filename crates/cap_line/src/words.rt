@@ -3,15 +3,17 @@ ghost use Rattle.std.specs.Prelude.{◌≡◌, ◌≢◌, ◌⊎◌, All, chars,
 ghost use Rattle.std.specs.Prelude.{option_map, IsTrue, IfOk, Some};
 ghost use Rattle.clap.specs.Values.{kind_of};
 ghost use Rattle.clap.specs.Words.{first_of, rows_of, found_of, subcommand_rows_of};
-ghost use Rattle.cap_line.specs.Jobs.{IsWholeJob};
+ghost use Rattle.cap_line.specs.Jobs.{IsShownJob, IsWholeJob};
 ghost use Rattle.cap_line.specs.CommandLine.{fault_by, files_in, IsJobBy, IsJobOf, IsNoJob, IsRefused, Parses};
 ghost use Rattle.cap_line.specs.Shown.{IsSeenOrLine};
 
 use crate::command::capt;
 use crate::faults::LineFault;
-use crate::jobs::{Job, can_replace, check_files, format_of, is_whole, order_of, task_of};
+use crate::jobs::{
+    Job, can_replace, can_show, check_files, data_of, format_of, is_whole, order_of, task_of,
+};
 use crate::shown::{escape, escape_lines};
-use crate::usage::WHOLE_DASH;
+use crate::usage::{DATA_ALONE, DATA_NUMBER, WHOLE_DASH};
 use clap::error::ErrorKind;
 use clap::{ArgMatches, Error};
 use std::alloc::{AllocError, Global};
@@ -59,13 +61,34 @@ fn said_by<S: AsStr>(alloc: Global, error: Error, words: &[S]) -> Option<String>
     escape_lines(alloc, text.as_str()).ok()
 }
 
-// What is said of words that clap takes and that give no job: standard output can't take its name once all is done.
-fn said_of_line(alloc: Global, fault: LineFault) -> Option<String>
+// What is wrong with a line that clap takes and that gives no job, by the text of `--data`: it is no number; or it is
+// one, without `--json`; or there is none, and standard output can't take its name once all is done.
+fn line_text(data: Option<&str>) -> &'static str {
+    match data {
+        Some(text) => {
+            if data_of(Some(text)).is_ok() {
+                DATA_ALONE
+            } else {
+                DATA_NUMBER
+            }
+        }
+        None => WHOLE_DASH,
+    }
+}
+
+// The text of `--data` at the subcommand that was entered.
+fn data_text<'a>(matches: &ArgMatches<'a>) -> Option<&'a str> {
+    let (_, inner) = matches.subcommand()?;
+    text_of(inner, "data")
+}
+
+// What is said of words that clap takes and that give no job.
+fn said_of_line(alloc: Global, fault: LineFault, data: Option<&str>) -> Option<String>
     ensures line { IsSome result → fault ≡ LineFault.Line }
     ensures seen { IfSome result (λ text. All IsSeenOrLine (chars (string_bytes text))) }
 {
     match fault {
-        LineFault::Line => escape_lines(alloc, WHOLE_DASH).ok(),
+        LineFault::Line => escape_lines(alloc, line_text(data)).ok(),
         _ => None,
     }
 }
@@ -108,7 +131,12 @@ fn job_of<'a>(alloc: Global, name: &str, matches: &ArgMatches<'a>) -> Result<Job
     let out = text_of(matches, "out");
     let to = format_of(text_of(matches, "to"));
     let whole = is_set(text_of(matches, "whole"));
+    let json = is_set(text_of(matches, "json"));
     if !is_whole(task, files.len(), to, out) || !can_replace(whole, out) {
+        return Err(LineFault::Line);
+    }
+    let data = data_of(text_of(matches, "data"))?;
+    if !can_show(task, json, data) {
         return Err(LineFault::Line);
     }
     check_files(files.as_slice(), out)?;
@@ -121,6 +149,8 @@ fn job_of<'a>(alloc: Global, name: &str, matches: &ArgMatches<'a>) -> Result<Job
         out,
         explain: is_set(text_of(matches, "explain")),
         whole,
+        json,
+        data,
     })
 }
 
@@ -136,10 +166,12 @@ fn job_entered<'a>(alloc: Global, matches: &ArgMatches<'a>) -> Result<Job<'a>, L
 
 /// Reads the words of a command line, the first of which is the program's name. If several faults
 /// hold, it is the first of `Help` and `Line`, as clap meets them, `Files`, `Input`, `Output`;
-/// `Memory` comes if a growth is refused. A job has 1 to 32 files and all that its task takes.
+/// `Memory` comes if a growth is refused. A job has 1 to 32 files and all that its task takes, and what it is to show
+/// its task can show.
 pub fn parse<'a, S: AsStr>(alloc: Global, words: &'a [S]) -> Result<Job<'a>, LineFault>
     ensures parses { Parses (map S.text words.entry.now) result }
     ensures whole { IfOk result IsWholeJob }
+    ensures shown { IfOk result IsShownJob }
 {
     let Ok(command) = capt(alloc) else {
         return Err(LineFault::Memory);
@@ -163,7 +195,10 @@ pub fn message<'a, S: AsStr>(alloc: Global, words: &'a [S]) -> Option<String>
         return None;
     };
     match command.try_get_matches_from(words) {
-        Ok(matches) => said_of_line(alloc, job_entered(alloc, &matches).err()?),
+        Ok(matches) => {
+            let fault = job_entered(alloc, &matches).err()?;
+            said_of_line(alloc, fault, data_text(&matches))
+        }
         Err(error) => said_by(alloc, error, words),
     }
 }

@@ -1,3 +1,4 @@
 pub mod Facts
 pub mod Lines
 pub mod Times
+pub mod Strings

@@ -3,6 +3,8 @@
 
 mod forms;
 mod lines;
+mod strings;
 
 pub use crate::forms::Form;
 pub use crate::lines::{LINE, Line};
+pub use crate::strings::prepend_escaped;

@@ -1,7 +1,10 @@
 //! Jobs: the names of their parts, what a task takes, the files that are named.
 use crate::checks::same;
 use cap_bytes::Order;
-use cap_line::{LineFault, Task, can_replace, check_files, format_of, is_whole, order_of, task_of};
+use cap_line::{
+    LineFault, Task, can_replace, can_show, check_files, data_of, format_of, is_whole, order_of,
+    task_of,
+};
 use cap_source::Format;
 
 const TASKS: [(&str, Option<Task>); 10] = [
@@ -88,6 +91,50 @@ const REPLACED: [(bool, Option<&str>, bool); 5] = [
 fn standard_output_takes_no_name(rt: HostRuntime) {
     for (whole, out, can) in &REPLACED {
         same!(&rt; can_replace(*whole, *out), *can, *out);
+    }
+}
+
+// Texts of how many bytes are shown, and what is read of them.
+const COUNTS: [(Option<&str>, Result<Option<u32>, LineFault>); 12] = [
+    (None, Ok(None)),
+    (Some("0"), Ok(Some(0))),
+    (Some("16"), Ok(Some(16))),
+    (Some("0016"), Ok(Some(16))),
+    (Some("262144"), Ok(Some(262_144))),
+    (Some("262145"), Err(LineFault::Line)),
+    (Some("99999999999999999999"), Err(LineFault::Line)),
+    (Some(""), Err(LineFault::Line)),
+    (Some("+16"), Err(LineFault::Line)),
+    (Some("-0"), Err(LineFault::Line)),
+    (Some(" 16"), Err(LineFault::Line)),
+    (Some("1e3"), Err(LineFault::Line)),
+];
+
+#[test]
+fn bytes_shown_are_a_number(rt: HostRuntime) {
+    for (text, count) in &COUNTS {
+        same!(&rt; data_of(*text), *count, *text);
+    }
+}
+
+// Tasks, whether JSON Lines are asked for, how many bytes, and whether the task can show that.
+const SHOWN: [(Task, bool, Option<u32>, bool); 10] = [
+    (Task::List, false, None, true),
+    (Task::List, true, None, true),
+    (Task::List, true, Some(0), true),
+    (Task::List, false, Some(16), false),
+    (Task::Blocks, true, None, true),
+    (Task::Blocks, true, Some(16), false),
+    (Task::Info, true, None, true),
+    (Task::Report, true, Some(16), false),
+    (Task::Merge, false, None, true),
+    (Task::Convert, true, None, false),
+];
+
+#[test]
+fn json_is_of_what_prints(rt: HostRuntime) {
+    for (task, json, count, can) in &SHOWN {
+        same!(&rt; can_show(*task, *json, *count), *can, *task);
     }
 }
 

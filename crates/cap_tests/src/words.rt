@@ -10,6 +10,23 @@ fn is_conversion(rt: &impl Abort, job: &Job<'_>) {
     same!(rt; (job.task, job.order, job.to), (Task::Convert, Order::Big, Some(Format::Pcap)));
     same!(rt; job.files.as_slice(), ["a.pcapng"].as_slice());
     same!(rt; (job.out, job.allow_cut), (Some("a.pcap"), true));
+    same!(rt; (job.json, job.data), (false, None));
+}
+
+// What is read of a line that asks for JSON Lines and some bytes, and what isn't a job of it.
+#[test]
+fn always_memory_json_is_asked_for(rt: HostRuntime) {
+    let words = ["capt", "list", "--json", "--data", "0064", "a.pcap"];
+    match parse(rt.alloc(), words.as_slice()) {
+        Ok(job) => same!(&rt; (job.json, job.data), (true, Some(64))),
+        Err(fault) => panic!(&rt; "{fault}"),
+    }
+    let alone = ["capt", "list", "--data=64", "a.pcap"];
+    same!(&rt; parse(rt.alloc(), alone.as_slice()).err(), Some(LineFault::Line));
+    holds!(&rt; message(rt.alloc(), alone.as_slice()).is_some());
+    let signed = ["capt", "list", "--json", "--data=+64", "a.pcap"];
+    same!(&rt; parse(rt.alloc(), signed.as_slice()).err(), Some(LineFault::Line));
+    holds!(&rt; message(rt.alloc(), signed.as_slice()).is_some());
 }
 
 #[test]

@@ -133,6 +133,8 @@ fn printing(rt: &impl Abort, alloc: Global, task: Task, allow_cut: bool) -> Job<
         out: None,
         explain: false,
         whole: false,
+        json: false,
+        data: None,
     }
 }
 
@@ -162,6 +164,8 @@ fn writes(rt: &impl Abort, alloc: Global, row: &Written) {
         out: Some("b"),
         explain: false,
         whole: false,
+        json: false,
+        data: None,
     };
     let mut writer = room_of(rt, alloc, 1024);
     let answer = does(rt, alloc, &job, captures, &mut writer);

@@ -1,10 +1,10 @@
 use Rattle.std.proofs.Common.{codes}
-use Rattle.cap_line.specs.Command.{file_rule, reading_app}
+use Rattle.cap_line.specs.Command.{file_rule, showing_app}
 use Rattle.cap_line.proofs.Parsing.{AddsRule-is}
 use Rattle.cap_line.proofs.command.blocks.Goals as goal
 
 pub returns-clause-app : goal.returns-clause-app
 returns-clause-app c =
-    AddsRule-is c.reading.result c.with_argument.result _ file_rule
-    (reading_app (codes "blocks")) c.reading.ensures.app c.file.ensures.rule
+    AddsRule-is c.showing.result c.with_argument.result _ file_rule
+    (showing_app (codes "blocks")) c.showing.ensures.app c.file.ensures.rule
     c.with_argument.ensures.app

@@ -5,9 +5,9 @@ use Rattle.cap_line.proofs.Parsing.{IsCapt-simple, IsCapt-simple_and_free, IsNoJ
 use Rattle.cap_line.proofs.Parsing.{IsRefused-said_alone}
 use Rattle.cap_line.proofs.words.message.Goals as goal
 
-pub returns-in_ok-err-in-Ok-try_get_matches_from-clause-refused :
-    goal.returns-in_ok-err-in-Ok-try_get_matches_from-clause-refused
-returns-in_ok-err-in-Ok-try_get_matches_from-clause-refused g c =
+pub returns-in_ok-fault-in-Ok-try_get_matches_from-clause-refused :
+    goal.returns-in_ok-fault-in-Ok-try_get_matches_from-clause-refused
+returns-in_ok-fault-in-Ok-try_get_matches_from-clause-refused g c =
     let words = map g.S.AsStr.text c.args.words.now in
     let app = app_of c.in-Ok.command in
     let e = c.in-Ok-try_get_matches_from.ensures in
@@ -15,7 +15,7 @@ returns-in_ok-err-in-Ok-try_get_matches_from-clause-refused g c =
     let job = subst (λ p. IsJobOf p c.job_entered.result) entered c.job_entered.ensures in
     IsNoJob-said words app c.job_entered.result _ c.said_of_line.result c.in-Ok.ensures
     (e.kinds (IsCapt-simple_and_free app c.in-Ok.ensures)) job
-    c.in_ok-err-in-Ok-try_get_matches_from.ensures.value c.said_of_line.ensures.line
+    c.in_ok-fault-in-Ok-try_get_matches_from.ensures.value c.said_of_line.ensures.line
 
 pub returns-in-Err-clause-refused : goal.returns-in-Err-clause-refused
 returns-in-Err-clause-refused g c =

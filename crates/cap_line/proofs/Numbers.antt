@@ -1,0 +1,29 @@
+-- A text of decimal digits, and the number that it is read as.
+use Rattle.std.proofs.Common.{◌≡◌, ◌<◌, ◌^◌, ℕ, Bool, true, false, List, [], ◌∷◌, None, nat_le, refl, arith}
+use Rattle.std.specs.Char.{digit_value, is_ascii_digit}
+use Rattle.std.specs.List.{list_all}
+use Rattle.std.specs.Str.Parse.{AllDigits, IsNumeral, digits_value, without_leading_plus}
+use Rattle.cap_line.specs.Jobs.{count_in, is_digits}
+
+digit-below : (code : ℕ) → is_ascii_digit code ≡ true → digit_value code < 10
+digit-below code is = grind arith
+
+all-digits : (text : List ℕ) → list_all is_ascii_digit text ≡ true → AllDigits 10 text
+all-digits [] are = tt
+all-digits (code ∷ rest) are = (digit-below code (grind arith), all-digits rest (grind arith))
+
+no-plus : (text : List ℕ) → is_digits text ≡ true → without_leading_plus text ≡ text
+no-plus [] is = refl
+no-plus (code ∷ rest) is = grind arith
+
+numeral : (text : List ℕ) → is_digits text ≡ true → IsNumeral 10 text
+numeral text is = (grind arith, all-digits text (grind arith))
+
+-- digits that aren't read as a number of 32 bits are no number of bytes
+pub unread_count : (text : List ℕ) → is_digits text ≡ true
+    → (IsNumeral 10 (without_leading_plus text) × (digits_value 10 (without_leading_plus text) < 2 ^ 32) → ⊥)
+    → None ≡ count_in text
+unread_count text is unread = by (nat_le (digits_value 10 text) 262144) refl where
+  by : (b : Bool) → nat_le (digits_value 10 text) 262144 ≡ b → None ≡ count_in text
+  by true e = absurd (unread (rw (no-plus text is) (numeral text is, grind arith)))
+  by false e = rw (is, e) refl
