@@ -1,3 +1,4 @@
 pub mod BlockWalk
 pub mod FileText
 pub mod RanBack
+pub mod DiffWalk
