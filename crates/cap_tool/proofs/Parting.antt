@@ -2,13 +2,18 @@
 use Rattle.std.proofs.Common.{◌≡◌, ℕ, ◌+◌, ◌≤◌, List, [], ◌∷◌, drop, Bool, true, false, not, IsTrue, IsSome, Option}
 use Rattle.std.proofs.Common.{Some, None, Ok, Err, Result, refl, sym, ap, ◌∙◌, subst, arith}
 use Rattle.std.proofs.lemmas.Bool.{false≢true}
+use Rattle.std.specs.Prelude.{IsOkUnless, ◌++◌, ◌&&◌, is_none}
+use Rattle.cap_bytes.proofs.Putting.{Prints-head}
+use Rattle.cap_bytes.specs.Device.{Puts}
+use Rattle.cap_bytes.specs.Printing.{Prints}
 use Rattle.cap_bytes.specs.declared.faults.Fault.{Fault}
 use Rattle.cap_bytes.specs.declared.faults.Fault.TheVariants.{Refused, Read, Write, Memory}
 use Rattle.cap_source.proofs.Onward.{Keeps-refl, Keeps-trans}
 use Rattle.cap_source.specs.Feed.{Feed, FeedKeeps, FeedPasses, Item, packet, refused}
 use Rattle.cap_source.specs.inner.Walk.{GivesPacket, ShowsItem}
 use Rattle.cap_source.specs.declared.packets.Meta.{Meta}
-use Rattle.cap_tool.specs.DiffText.{Comparison, compared, differences_of, do_differ}
+use Rattle.cap_tool.specs.DiffText.{Comparison, TellsDiff, compared, diff_text, differences_of, do_differ, other_packet}
+use Rattle.cap_tool.specs.DiffText.{same_packets}
 use Rattle.cap_tool.specs.inner.DiffWalk.{FailsOne, Parts, are_alike, compared_of, parted}
 use Rattle.cap_tool.specs.declared.diff.Parting.{Parting}
 
@@ -138,3 +143,56 @@ Fails-first a b c d shown n fault i gives = grind arith
 pub Fails-second : (a b c d seen : Feed) (n : ℕ) (fault : Fault) → Matched a b c d n → GivesPacket d (Err fault) seen
     → FailsOne {A = Parting} a b (Err fault)
 Fails-second a b c d seen n fault i gives = grind arith
+
+-- What `put_all` writes is printed: it answers no other fault than `Write`.
+pub Prints-line : (text old new : List ℕ) (result : Result (Unit {0}) Fault) → Puts old result new text
+    → IsOkUnless result Write → Prints text None old result new
+Prints-line text old new (Ok x) p is = (refl, p)
+Prints-line text old new (Err (Refused r)) p is = grind arith
+Prints-line text old new (Err (Read file offset)) p is = grind arith
+Prints-line text old new (Err Write) p is = p
+Prints-line text old new (Err Memory) p is = grind arith
+
+-- A writer that failed in the first part of a text.
+pub Prints-more : (old new head rest : List ℕ) (fault : Fault) → fault ≡ Write
+    → Prints {A = Unit {0}} head None old (Err fault) new → Prints {A = Unit {0}} (head ++ rest) None old (Err fault) new
+Prints-more old new head rest (Refused r) is p = grind arith
+Prints-more old new head rest (Read file offset) is p = grind arith
+Prints-more old new head rest Write is p = Prints-head None old new head rest Write refl p
+Prints-more old new head rest Memory is p = grind arith
+
+-- both have ended
+pub Tells-same : (n : ℕ) (one other : Option Meta) (f g old new : List ℕ)
+    → (is_none one && is_none other) ≡ true
+    → Prints {A = Unit {0}} (diff_text (same_packets n)) None old (Ok tt) new
+    → TellsDiff (parted n (compared_of one f) (compared_of other g)) old (Ok true) new
+Tells-same n None None f g old new h p = (refl, refl, p.1)
+Tells-same n None (Some o) f g old new h p = absurd (false≢true h)
+Tells-same n (Some m) other f g old new h p = absurd (false≢true h)
+
+pub Tells-same-fault : (n : ℕ) (one other : Option Meta) (f g old new : List ℕ) (fault : Fault)
+    → (is_none one && is_none other) ≡ true → fault ≡ Write
+    → Prints {A = Unit {0}} (diff_text (same_packets n)) None old (Err fault) new
+    → TellsDiff (parted n (compared_of one f) (compared_of other g)) old (Err fault) new
+Tells-same-fault n None None f g old new fault h is p = rw is ((refl, rw is at p))
+Tells-same-fault n None (Some o) f g old new fault h is p = absurd (false≢true h)
+Tells-same-fault n (Some m) other f g old new fault h is p = absurd (false≢true h)
+
+-- one of them has a packet
+pub Tells-other : (n : ℕ) (one other : Option Meta) (f g old new : List ℕ)
+    → (is_none one && is_none other) ≡ false
+    → Prints {A = Unit {0}} (diff_text (other_packet (n + 1) (compared_of one f) (compared_of other g))) None old (Ok tt)
+    new
+    → TellsDiff (parted n (compared_of one f) (compared_of other g)) old (Ok false) new
+Tells-other n None None f g old new h p = absurd (false≢true (sym h))
+Tells-other n None (Some o) f g old new h p = (refl, refl, p.1)
+Tells-other n (Some m) other f g old new h p = (refl, refl, p.1)
+
+pub Tells-other-fault : (n : ℕ) (one other : Option Meta) (f g old new : List ℕ) (fault : Fault)
+    → (is_none one && is_none other) ≡ false → fault ≡ Write
+    → Prints {A = Unit {0}} (diff_text (other_packet (n + 1) (compared_of one f) (compared_of other g))) None old
+    (Err fault) new
+    → TellsDiff (parted n (compared_of one f) (compared_of other g)) old (Err fault) new
+Tells-other-fault n None None f g old new fault h is p = absurd (false≢true (sym h))
+Tells-other-fault n None (Some o) f g old new fault h is p = rw is ((refl, rw is at p))
+Tells-other-fault n (Some m) other f g old new fault h is p = rw is ((refl, rw is at p))

@@ -87,11 +87,15 @@ abbrev pub side_text : ℕ → Option Compared → List ℕ
 side_text n None = codes "end\n"
 side_text n (Some a) = packet_text n a.meta a.frame
 
+-- the first line of a difference, at the packet of that number
+abbrev pub difference_line : ℕ → Option Compared → Option Compared → List ℕ
+difference_line n a b = codes "differ packet " ++ decimal n ++ difference_words a b ++ codes "\n"
+
 -- what is printed of a comparison
 abbrev pub diff_text : Comparison → List ℕ
 diff_text (same_packets n) = codes "same packets " ++ decimal n ++ codes "\n"
-diff_text (other_packet n a b) = codes "differ packet " ++ decimal n ++ difference_words a b ++ codes "\n"
-    ++ codes "- " ++ side_text n a ++ codes "+ " ++ side_text n b
+diff_text (other_packet n a b) = difference_line n a b
+    ++ ((codes "- " ++ side_text n a) ++ (codes "+ " ++ side_text n b))
 diff_text (stopped_by refusal) = []
 
 -- the refusal that is answered

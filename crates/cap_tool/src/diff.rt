@@ -1,13 +1,14 @@
 //! `capt diff`: whether two captures have the same packets.
 ghost use Rattle.std.specs.Prelude.{◌≡◌, ◌+◌, ◌≤◌, ◌++◌, ◌∷◌, ◌^◌, [], false, length, codes, decimal, None, Some, IsSome, IsTrue};
-ghost use Rattle.std.specs.Prelude.{IfOk, IsOkUnless, if◌then◌else◌};
+ghost use Rattle.std.specs.Prelude.{IfOk, IsOkUnless, is_none, ◌&&◌, if◌then◌else◌};
 ghost use Rattle.cap_bytes.specs.Device.{WriterKeeps, writer_of};
 ghost use Rattle.cap_bytes.specs.Printing.{Prints, is_write};
 ghost use Rattle.cap_print.specs.Lines.{room_in, text_in};
 ghost use Rattle.cap_source.specs.Feed.{IsPacket};
 ghost use Rattle.cap_source.specs.ReadFaults.{FailsOf};
 ghost use Rattle.cap_source.specs.Times.{meta_time};
-ghost use Rattle.cap_tool.specs.DiffText.{TellsDiff, comparison_of, difference_words, differences_of, do_differ, side_text};
+ghost use Rattle.cap_tool.specs.DiffText.{TellsDiff, comparison_of, diff_text, difference_line, differences_of};
+ghost use Rattle.cap_tool.specs.DiffText.{do_differ, other_packet, side_text};
 ghost use Rattle.cap_tool.specs.DiffText.{compared, is_same_time, words_of};
 ghost use Rattle.cap_tool.specs.inner.DiffWalk.{FailsOne, KnowsPackets, Parts, are_alike, compared_of, parted};
 
@@ -178,7 +179,17 @@ fn side_line<F: PacketFeed>(n: u64, packet: Option<Meta>, feed: &F) -> Line
     line
 }
 
-// Puts one side of a difference: a sign, and the line of the packet that comes next, or that there is none.
+// Writes a line.
+fn put_line<W: Sink>(writer: &mut W, line: &Line) -> Result<(), Fault>
+    ensures text { IsTrue (W.tells_held writer.old)
+        → Prints (text_in line.now) None (W.held writer.old) result (W.held writer.new) }
+    ensures writer { WriterKeeps (writer_of W.Sink writer.old) (is_write result) (writer_of W.Sink writer.new) }
+    ensures fault { IsOkUnless result Fault.Write }
+{
+    put_all(writer, line.as_slice())
+}
+
+// Writes one side of a difference: a sign, and the line of the packet that comes next, or that there is none.
 fn put_side<F: PacketFeed, W: Sink>(
     writer: &mut W,
     sign: &[u8],
@@ -195,15 +206,34 @@ fn put_side<F: PacketFeed, W: Sink>(
 {
     put_all(writer, sign)?;
     let line = side_line(n, packet, feed);
-    put_all(writer, line.as_slice())
+    put_line(writer, &line)
+}
+
+// Writes both sides.
+fn put_sides<F: PacketFeed, W: Sink>(
+    writer: &mut W,
+    n: u64,
+    parting: &Parting,
+    first: &F,
+    second: &F,
+) -> Result<(), Fault>
+    requires known { KnowsPackets parting.now (F.feed first.now) (F.feed second.now) }
+    ensures text { IsTrue (W.tells_held writer.old)
+        → Prints ((codes "- " ++ side_text n (compared_of parting.now.first (F.feed first.now).frame))
+        ++ (codes "+ " ++ side_text n (compared_of parting.now.second (F.feed second.now).frame))) None
+        (W.held writer.old) result (W.held writer.new) }
+    ensures writer { WriterKeeps (writer_of W.Sink writer.old) (is_write result) (writer_of W.Sink writer.new) }
+    ensures fault { IsOkUnless result Fault.Write }
+{
+    put_side(writer, b"- ", n, parting.first, first)?;
+    put_side(writer, b"+ ", n, parting.second, second)
 }
 
 // The first line of a difference.
 fn head_line<F: PacketFeed>(n: u64, parting: &Parting, first: &F, second: &F) -> Line
     requires known { KnowsPackets parting.now (F.feed first.now) (F.feed second.now) }
-    ensures { text_in result ≡ codes "differ packet " ++ decimal n
-        ++ difference_words (compared_of parting.now.first (F.feed first.now).frame)
-        (compared_of parting.now.second (F.feed second.now).frame) ++ codes "\n" }
+    ensures { text_in result ≡ difference_line n (compared_of parting.now.first (F.feed first.now).frame)
+        (compared_of parting.now.second (F.feed second.now).frame) }
 {
     match parting.first {
         None => end_line(n),
@@ -217,7 +247,35 @@ fn head_line<F: PacketFeed>(n: u64, parting: &Parting, first: &F, second: &F) ->
     }
 }
 
-// Puts what is printed where two feeds part, and returns whether they are the same.
+// Writes what is printed of two packets that aren't the same, or of one whose counterpart is missing.
+fn put_difference<F: PacketFeed, W: Sink>(
+    writer: &mut W,
+    n: u64,
+    parting: &Parting,
+    first: &F,
+    second: &F,
+) -> Result<(), Fault>
+    requires known { KnowsPackets parting.now (F.feed first.now) (F.feed second.now) }
+    ensures text { IsTrue (W.tells_held writer.old)
+        → Prints (diff_text (other_packet n (compared_of parting.now.first (F.feed first.now).frame)
+        (compared_of parting.now.second (F.feed second.now).frame))) None (W.held writer.old) result
+        (W.held writer.new) }
+    ensures writer { WriterKeeps (writer_of W.Sink writer.old) (is_write result) (writer_of W.Sink writer.new) }
+    ensures fault { IsOkUnless result Fault.Write }
+{
+    let line = head_line(n, parting, first, second);
+    put_all(writer, line.as_slice())?;
+    put_sides(writer, n, parting, first, second)
+}
+
+// Whether both have ended.
+fn is_end(parting: &Parting) -> bool
+    ensures { result ≡ (is_none parting.now.first && is_none parting.now.second) }
+{
+    parting.first.is_none() && parting.second.is_none()
+}
+
+// Writes what is printed where two feeds part, and returns whether they are the same.
 fn put_parting<F: PacketFeed, W: Sink>(
     writer: &mut W,
     parting: &Parting,
@@ -232,14 +290,11 @@ fn put_parting<F: PacketFeed, W: Sink>(
     ensures writer { WriterKeeps (writer_of W.Sink writer.old) (is_write result) (writer_of W.Sink writer.new) }
     ensures fault { IsOkUnless result Fault.Write }
 {
-    if parting.first.is_none() && parting.second.is_none() {
-        put_all(writer, same_line(parting.passed).as_slice())?;
+    if is_end(parting) {
+        put_line(writer, &same_line(parting.passed))?;
         return Ok(true);
     }
-    let n = parting.passed + 1;
-    put_all(writer, head_line(n, parting, first, second).as_slice())?;
-    put_side(writer, b"- ", n, parting.first, first)?;
-    put_side(writer, b"+ ", n, parting.second, second)?;
+    put_difference(writer, parting.passed + 1, parting, first, second)?;
     Ok(false)
 }
 
