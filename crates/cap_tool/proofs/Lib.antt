@@ -1,3 +1,4 @@
+pub mod Parting
 mod Merging
 mod Leaving
 pub mod BlockListing

@@ -1,4 +1,5 @@
 pub mod BlockWalk
+pub mod DiffWalk
 pub mod FileText
-pub mod RanBack
 pub mod PacketJson
+pub mod RanBack

@@ -6,6 +6,7 @@ mod blocks;
 mod closed;
 mod commands;
 mod counting;
+mod diff;
 mod hints;
 mod jobs;
 mod kinds;

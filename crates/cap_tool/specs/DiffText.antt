@@ -1,0 +1,120 @@
+-- What `capt diff` prints of two captures: whether they have the same packets, in whatever container, byte order and
+-- units each of the two has them.
+use Rattle.std.specs.Prelude.{ℕ, ◌+◌, ◌==◌, List, [], ◌∷◌, ◌++◌, codes, decimal, Bool, true, false, not, ◌||◌}
+use Rattle.std.specs.Prelude.{◌≡◌, Option, Some, None, Result, Ok, Err, if◌then◌else◌}
+use Rattle.std.specs.Str.{bytes_eq}
+use Rattle.cap_bytes.specs.Printing.{PrintsFront}
+use Rattle.cap_bytes.specs.declared.faults.Fault.{Fault}
+use Rattle.cap_bytes.specs.declared.faults.Fault.TheVariants.{Refused, Read, Write, Memory}
+use Rattle.cap_bytes.specs.declared.faults.Refusal.{Refusal}
+use Rattle.cap_bytes.specs.declared.faults.Tail.{Tail}
+use Rattle.cap_source.specs.Feed.{Item, packet, refused}
+use Rattle.cap_source.specs.Items.{file_items}
+use Rattle.cap_source.specs.Times.{meta_time}
+use Rattle.cap_source.specs.declared.packets.Meta.{Meta}
+use Rattle.cap_time.specs.Stamp.{stamp_eq}
+use Rattle.cap_time.specs.declared.stamps.Stamp.{Stamp}
+use Rattle.cap_tool.specs.ListText.{packet_text}
+use Rattle.cap_tool.specs.declared.diff.Differences.{Differences}
+
+-- A packet with its captured bytes.
+pub record Compared : Type 0 where
+  pub meta : Meta
+  pub frame : List ℕ
+
+-- two packets have the same exact time, or both have none
+abbrev pub is_same_time : Option Stamp → Option Stamp → Bool
+is_same_time None None = true
+is_same_time None (Some other) = false
+is_same_time (Some stamp) None = false
+is_same_time (Some stamp) (Some other) = stamp_eq stamp other
+
+-- in which of five things two packets differ: link type, exact time, captured length, original length, captured bytes
+abbrev pub differences_of : Compared → Compared → Differences
+differences_of a b =
+    record {
+      link = not (a.meta.interface.link == b.meta.interface.link);
+      time = not (is_same_time (meta_time a.meta) (meta_time b.meta));
+      captured = not (a.meta.captured == b.meta.captured);
+      original = not (a.meta.original == b.meta.original);
+      bytes = not (bytes_eq a.frame b.frame);
+    }
+
+-- they differ in one of these at least
+abbrev pub do_differ : Differences → Bool
+do_differ it = it.link || it.time || it.captured || it.original || it.bytes
+
+-- What two captures are to each other: the same packets, so many; or which is the first, from number 1, that isn't the
+-- same in both, with the packet of each, none if it has ended; or refused.
+pub data Comparison : Type 0 where
+  same_packets : ℕ → Comparison
+  other_packet : ℕ → Option Compared → Option Compared → Comparison
+  stopped_by : Refusal → Comparison
+
+-- the comparison of two captures' items, after so many packets that are the same
+unfoldable pub compared : ℕ → List Item → List Item → Comparison
+compared n (refused r ∷ xs) ys = stopped_by r
+compared n (packet meta frame ∷ xs) (refused r ∷ ys) = stopped_by r
+compared n (packet meta frame ∷ xs) [] = other_packet (n + 1) (Some (record { meta = meta; frame = frame })) None
+compared n (packet meta frame ∷ xs) (packet other bytes ∷ ys) =
+    (if do_differ (differences_of (record { meta = meta; frame = frame }) (record { meta = other; frame = bytes }))
+    then other_packet (n + 1) (Some (record { meta = meta; frame = frame }))
+    (Some (record { meta = other; frame = bytes }))
+    else compared (n + 1) xs ys)
+compared n [] (refused r ∷ ys) = stopped_by r
+compared n [] [] = same_packets n
+compared n [] (packet other bytes ∷ ys) = other_packet (n + 1) None (Some (record { meta = other; frame = bytes }))
+
+-- the comparison of two files of those bytes, which have the numbers 1 and 2
+abbrev pub comparison_of : Tail → List ℕ → List ℕ → Comparison
+comparison_of tail first second = compared 0 (file_items tail 1 first) (file_items tail 2 second)
+
+-- the words of what differs, in this order
+abbrev pub words_of : Differences → List ℕ
+words_of it =
+    (if it.link then codes " link" else []) ++ (if it.time then codes " time" else [])
+    ++ (if it.captured then codes " captured" else []) ++ (if it.original then codes " original" else [])
+    ++ (if it.bytes then codes " data" else [])
+
+-- what is said of two packets that differ, and of one whose counterpart is missing
+abbrev pub difference_words : Option Compared → Option Compared → List ℕ
+difference_words (Some a) (Some b) = words_of (differences_of a b)
+difference_words (Some a) None = codes " end"
+difference_words None other = codes " end"
+
+-- the line of a packet as `list` prints it, or that there is none
+abbrev pub side_text : ℕ → Option Compared → List ℕ
+side_text n None = codes "end\n"
+side_text n (Some a) = packet_text n a.meta a.frame
+
+-- the first line of a difference, at the packet of that number
+abbrev pub difference_line : ℕ → Option Compared → Option Compared → List ℕ
+difference_line n a b = codes "differ packet " ++ decimal n ++ difference_words a b ++ codes "\n"
+
+-- what is printed of a comparison
+abbrev pub diff_text : Comparison → List ℕ
+diff_text (same_packets n) = codes "same packets " ++ decimal n ++ codes "\n"
+diff_text (other_packet n a b) = difference_line n a b
+    ++ ((codes "- " ++ side_text n a) ++ (codes "+ " ++ side_text n b))
+diff_text (stopped_by refusal) = []
+
+-- the refusal that is answered
+abbrev pub diff_refusal : Comparison → Option Refusal
+diff_refusal (same_packets n) = None
+diff_refusal (other_packet n a b) = None
+diff_refusal (stopped_by refusal) = Some refusal
+
+-- whether the packets are the same
+abbrev pub is_same : Comparison → Bool
+is_same (same_packets n) = true
+is_same (other_packet n a b) = false
+is_same (stopped_by refusal) = false
+
+-- The comparison is printed, and answered; or a refusal is answered, and nothing is printed then, nor if a read failed
+-- or a growth was refused. If the writer failed, a prefix is printed.
+abbrev pub TellsDiff : Comparison → List ℕ → Result Bool Fault → List ℕ → Type 0
+TellsDiff c old (Ok so) new = (diff_refusal c ≡ None) × (so ≡ is_same c) × (new ≡ old ++ diff_text c)
+TellsDiff c old (Err (Refused r)) new = (diff_refusal c ≡ Some r) × (new ≡ old)
+TellsDiff c old (Err (Read file offset)) new = new ≡ old
+TellsDiff c old (Err Write) new = (diff_refusal c ≡ None) × PrintsFront (diff_text c) old new
+TellsDiff c old (Err Memory) new = new ≡ old
