@@ -8,16 +8,18 @@ use Rattle.cap_bytes.specs.declared.numbers.Order.{Order}
 use Rattle.cap_line.specs.declared.jobs.Job.{Job}
 use Rattle.cap_line.specs.declared.jobs.Task.{Task}
 use Rattle.cap_line.specs.declared.jobs.Task.TheVariants as tasks
+use Rattle.cap_print.specs.declared.forms.Form.{Form}
+use Rattle.cap_print.specs.declared.forms.Form.TheVariants.{Json, Text}
 use Rattle.cap_merge.specs.Files.{clocked_run, endings_of_files}
 use Rattle.cap_source.specs.declared.packets.Format.{Format}
 use Rattle.cap_source.specs.declared.packets.Format.TheVariants.{Pcapng}
-use Rattle.cap_talks.specs.talks.InfoText.{first_refusal, info_text}
-use Rattle.cap_talks.specs.talks.ReportText.{report_refusal, report_text}
+use Rattle.cap_talks.specs.talks.InfoText.{first_refusal, info_text_in}
+use Rattle.cap_talks.specs.talks.ReportText.{report_refusal, report_text_in}
 use Rattle.cap_talks.specs.talks.Telling.{Tells}
-use Rattle.cap_tool.specs.BlockText.{block_list, block_refusal}
+use Rattle.cap_tool.specs.BlockText.{block_list, block_list_json, block_refusal}
 use Rattle.cap_tool.specs.Converted.{convert_refusal, convert_text}
 use Rattle.cap_tool.specs.JoinText.{join_refusal_in, join_text_in}
-use Rattle.cap_tool.specs.ListText.{list_refusal, list_text}
+use Rattle.cap_tool.specs.ListText.{list_json, list_refusal, list_text}
 use Rattle.cap_tool.specs.MergeText.{merge_refusal_in, merge_text_in}
 
 -- what is done with a cut end
@@ -34,23 +36,44 @@ only_of (bytes ∷ files) = bytes
 abbrev pub format_in : Option Format → Format
 format_in to = unwrap_or to Pcapng
 
+-- the form of what is printed
+abbrev pub form_by : Bool → Form
+form_by true = Json
+form_by false = Text
+
+-- how many bytes of a packet are shown at most in JSON
+abbrev pub shown_by : Option ℕ → ℕ
+shown_by count = unwrap_or count 16
+
+-- what `list` prints in a form
+abbrev pub listed_in : Form → ℕ → Tail → List ℕ → List ℕ
+listed_in Text shown = list_text
+listed_in Json shown = list_json shown
+
+-- what `blocks` prints in a form
+abbrev pub blocks_in : Form → Tail → List ℕ → List ℕ
+blocks_in Text = block_list
+blocks_in Json = block_list_json
+
 -- What is written and answered by a task over files of those bytes: `list`, `blocks` and `convert` are of one file.
-abbrev pub DoesTask : Task → Tail → Order → Option Format → List (List ℕ) → List ℕ → Result Unit Fault → List ℕ → Type 0
-DoesTask tasks.List tail order to files = Prints (list_text tail (only_of files)) (list_refusal tail (only_of files))
-DoesTask tasks.Blocks tail order to files = Prints (block_list tail (only_of files))
+abbrev pub DoesTask : Task → Tail → Form → ℕ → Order → Option Format → List (List ℕ) → List ℕ → Result Unit Fault
+    → List ℕ → Type 0
+DoesTask tasks.List tail form shown order to files =
+    Prints (listed_in form shown tail (only_of files)) (list_refusal tail (only_of files))
+DoesTask tasks.Blocks tail form shown order to files = Prints (blocks_in form tail (only_of files))
     (block_refusal tail (only_of files))
-DoesTask tasks.Info tail order to files = Tells (info_text tail files) (first_refusal tail 1 files)
-DoesTask tasks.Report tail order to files =
-    Tells (report_text (length files) (endings_of_files tail files) (clocked_run tail files))
+DoesTask tasks.Info tail form shown order to files = Tells (info_text_in form tail files) (first_refusal tail 1 files)
+DoesTask tasks.Report tail form shown order to files =
+    Tells (report_text_in form (length files) (endings_of_files tail files) (clocked_run tail files))
     (report_refusal (clocked_run tail files))
-DoesTask tasks.Convert tail order None files = λ old result new. ⊥
-DoesTask tasks.Convert tail order (Some format) files =
+DoesTask tasks.Convert tail form shown order None files = λ old result new. ⊥
+DoesTask tasks.Convert tail form shown order (Some format) files =
     Prints (convert_text format order tail (only_of files)) (convert_refusal format tail (only_of files))
-DoesTask tasks.Merge tail order to files = Prints (merge_text_in (format_in to) order tail files)
+DoesTask tasks.Merge tail form shown order to files = Prints (merge_text_in (format_in to) order tail files)
     (merge_refusal_in (format_in to) tail files)
-DoesTask tasks.Join tail order to files = Prints (join_text_in (format_in to) order tail files)
+DoesTask tasks.Join tail form shown order to files = Prints (join_text_in (format_in to) order tail files)
     (join_refusal_in (format_in to) tail files)
 
--- What is written and answered by a job: what its task is, with its tail, its order and its format.
+-- What is written and answered by a job: what its task is, with its tail, its form, its order and its format.
 abbrev pub Does : Job → List (List ℕ) → List ℕ → Result Unit Fault → List ℕ → Type 0
-Does job = DoesTask job.task (tail_of job.allow_cut) job.order job.to
+Does job = DoesTask job.task (tail_of job.allow_cut) (form_by job.json) (shown_by job.data) job.order job.to

@@ -2,21 +2,24 @@
 ghost use Rattle.std.specs.Prelude.{◌≡◌, ◌∷◌, [], IsTrue, OnErr, OnOk, map, vec_len};
 ghost use Rattle.std.specs.List.{list_all};
 ghost use Rattle.cap_line.specs.Jobs.{IsWholeJob};
-ghost use Rattle.cap_tool.specs.Jobs.{Does, format_in, tail_of};
+ghost use Rattle.cap_tool.specs.Jobs.{Does, blocks_in, form_by, format_in, listed_in, shown_by, tail_of};
+ghost use Rattle.cap_tool.specs.BlockText.{block_refusal};
 ghost use Rattle.cap_tool.specs.JobLeft.{JobLeaves};
 ghost use Rattle.cap_tool.specs.Left.{nothing_left};
+ghost use Rattle.cap_tool.specs.ListText.{list_refusal};
 ghost use Rattle.cap_bytes.specs.Device.{WriterKeeps, writer_of};
-ghost use Rattle.cap_bytes.specs.Printing.{is_write};
+ghost use Rattle.cap_bytes.specs.Printing.{Prints, is_write};
 ghost use Rattle.cap_source.specs.ReadFaults.{FailsOf};
 
-use crate::blocks::blocks_to;
+use crate::blocks::{blocks_json_to, blocks_to};
 use crate::counting::{NOTHING_LEFT, Target, convert_and_count, join_with, merge_with};
 use crate::left::Left;
-use crate::list::list_to;
+use crate::list::{list_json_to, list_to};
 use cap_bytes::{Fault, Sink, Source, Tail};
 use cap_line::{Job, Task};
+use cap_print::Form;
 use cap_source::Format;
-use cap_talks::{file_lines, report};
+use cap_talks::{file_lines_in, report_in};
 use std::alloc::Global;
 
 // What is done with a cut end.
@@ -27,6 +30,61 @@ fn tail_of(allow_cut: bool) -> Tail
         Tail::Accept
     } else {
         Tail::Refuse
+    }
+}
+
+// The form of what is printed.
+fn form_of(json: bool) -> Form
+    ensures { result ≡ form_by json }
+{
+    if json { Form::Json } else { Form::Text }
+}
+
+// How many bytes of a packet are shown at most in JSON.
+fn shown_of(count: Option<u32>) -> u32
+    ensures { result ≡ shown_by count }
+{
+    count.unwrap_or(16)
+}
+
+// `list` in a form.
+fn list_in<R: Source, W: Sink>(
+    alloc: Global,
+    source: R,
+    tail: Tail,
+    form: Form,
+    shown: u32,
+    writer: &mut W,
+) -> Result<(), Fault>
+    ensures text { IsTrue (R.tells_coming source) → IsTrue (W.tells_held writer.old)
+        → Prints (listed_in form shown tail (R.coming source)) (list_refusal tail (R.coming source))
+        (W.held writer.old) result (W.held writer.new) }
+    ensures writer { WriterKeeps (writer_of W.Sink writer.old) (is_write result) (writer_of W.Sink writer.new) }
+    ensures read { FailsOf (R.can_fail source ∷ []) result }
+{
+    match form {
+        Form::Text => list_to(alloc, source, tail, writer),
+        Form::Json => list_json_to(alloc, source, tail, shown, writer),
+    }
+}
+
+// `blocks` in a form.
+fn blocks_in<R: Source, W: Sink>(
+    alloc: Global,
+    source: R,
+    tail: Tail,
+    form: Form,
+    writer: &mut W,
+) -> Result<(), Fault>
+    ensures text { IsTrue (R.tells_coming source) → IsTrue (W.tells_held writer.old)
+        → Prints (blocks_in form tail (R.coming source)) (block_refusal tail (R.coming source))
+        (W.held writer.old) result (W.held writer.new) }
+    ensures writer { WriterKeeps (writer_of W.Sink writer.old) (is_write result) (writer_of W.Sink writer.new) }
+    ensures read { FailsOf (R.can_fail source ∷ []) result }
+{
+    match form {
+        Form::Text => blocks_to(alloc, source, tail, writer),
+        Form::Json => blocks_json_to(alloc, source, tail, writer),
     }
 }
 
@@ -71,11 +129,15 @@ fn job_with<R: Source, W: Sink>(
 {
     *left = NOTHING_LEFT;
     let tail = tail_of(job.allow_cut);
+    let form = form_of(job.json);
     match job.task {
-        Task::List => list_to(alloc, only(sources), tail, writer),
-        Task::Blocks => blocks_to(alloc, only(sources), tail, writer),
-        Task::Info => file_lines(alloc, sources, tail, writer),
-        Task::Report => report(alloc, sources, tail, writer),
+        Task::List => {
+            let shown = shown_of(job.data);
+            list_in(alloc, only(sources), tail, form, shown, writer)
+        }
+        Task::Blocks => blocks_in(alloc, only(sources), tail, form, writer),
+        Task::Info => file_lines_in(alloc, sources, tail, form, writer),
+        Task::Report => report_in(alloc, sources, tail, form, writer),
         Task::Convert => {
             let format = job.to.unwrap();
             convert_and_count(alloc, only(sources), tail, job.order, format, writer, left)
@@ -108,7 +170,7 @@ pub fn job_and_count<R: Source, W: Sink>(
 }
 
 /// Does a job over the files that it names, of which `sources` gives the bytes in their order, and writes to
-/// what it names as its output: each task is the command of its name, with the tail, the order and the
+/// what it names as its output: each task is the command of its name, with the tail, the form, the order and the
 /// format that the job has. `info` and `report` write all of their text, or nothing if they answer
 /// `Refused`, `Read` or `Memory`; the others write up to the first refusal, which they answer, and a prefix
 /// of their text if they answer another fault. `Read` comes if a read fails, `Write` if a write
