@@ -13,7 +13,7 @@ pub use libcapt::read::{
     Block, BlockReader, Capture, Ending, FeedHeld, Format, Head, Meta, Options, PacketFeed,
     PcapHeader, PcapReader, Record,
 };
-pub use libcapt::report::{Held, Step, Table, file_lines, report};
+pub use libcapt::report::{Form, Held, Step, Table, file_lines, file_lines_in, report, report_in};
 pub use libcapt::time::{Interface, Resolution, Stamp, Unit};
 pub use libcapt::tool::{
     Job, LineFault, blocks_json_to, blocks_to, convert_to, join_to, join_to_pcap, list_json_to,

@@ -30,6 +30,8 @@ mod jobs;
 #[cfg(test)]
 mod join;
 #[cfg(test)]
+mod json_lines;
+#[cfg(test)]
 mod left;
 #[cfg(test)]
 mod link;

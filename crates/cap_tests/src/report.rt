@@ -33,7 +33,7 @@ pub(crate) const TENTHS: File = &[
     03e807d0000a00006869000040000000",
 ];
 
-const UNTIMED: File = &[SECTION, INTERFACE, SIMPLE];
+pub(crate) const UNTIMED: File = &[SECTION, INTERFACE, SIMPLE];
 
 pub(crate) const UNTIMED_THEN_TIMED: File = &[SECTION, INTERFACE, SIMPLE, AT_FIVE];
 

@@ -10,8 +10,9 @@ pub use cap_join::{Datagram, JoinFault, Joiner, Put, Stamped};
 pub use cap_link::{Network, network};
 pub use cap_merge::Merged;
 pub use cap_pcap::{PcapHeader, PcapReader, Record, put_header, put_record};
+pub use cap_print::Form;
 pub use cap_source::{Capture, Ending, FeedHeld, Format, Head, Meta, PacketFeed};
-pub use cap_talks::{Held, Step, Table, file_lines, report};
+pub use cap_talks::{Held, Step, Table, file_lines, file_lines_in, report, report_in};
 pub use cap_time::{Interface, Resolution, Stamp, Unit};
 pub use cap_tool::{
     Job, LineFault, blocks_json_to, blocks_to, convert_to, join_to, join_to_pcap, list_json_to,
