@@ -4,3 +4,5 @@ pub mod BlockListing
 pub mod BlockWalking
 pub mod Listing
 pub mod Telling
+pub mod Escaping
+pub mod Paths
