@@ -38,6 +38,8 @@ mod link;
 #[cfg(test)]
 mod merge;
 #[cfg(test)]
+mod objects;
+#[cfg(test)]
 mod outcomes;
 #[cfg(test)]
 mod pcap;

@@ -1,6 +1,6 @@
 //! Lines of numbers and times.
 use crate::checks::same;
-use cap_print::Line;
+use cap_print::{Line, prepend_escaped};
 use cap_time::{Interface, Resolution, Stamp};
 
 #[test]
@@ -17,6 +17,13 @@ fn a_line_of_numbers(rt: HostRuntime) {
     line.clear();
     line.prepend_field(b"", u64::MAX);
     same!(&rt; line.as_slice(), b"18446744073709551615".as_slice());
+}
+
+#[test]
+fn a_text_in_a_string(rt: HostRuntime) {
+    let mut line = Line::new();
+    prepend_escaped(&mut line, b"a\"b\\\x00\x1f \x7f\xc3\xa9");
+    same!(&rt; line.as_slice(), b"a\\\"b\\\\\\u0000\\u001f \x7f\xc3\xa9".as_slice());
 }
 
 #[test]

@@ -10,10 +10,11 @@ ghost use Rattle.cap_tool.specs.Outcomes.{is_help};
 
 use cap_bytes::{Fault, Source, Tracked, put_all};
 use cap_line::{Job, LineFault, NOT_UTF_8, USAGE, message, parse};
+use cap_print::Form;
 use cap_tool::{
     Beside, Closed, FileId, Inputs, Left, Outcome, Output, Progress, Remembered, Shared,
     SharedOutput, Stop, Watched, check_input, check_terminal, create_beside, create_output, end_of,
-    hint, job_and_count, job_to, left_lines, open_all, status_of, tell, watch_all,
+    hint, job_and_count, job_to, left_lines, open_all, status_of, tell, tell_in, watch_all,
 };
 use std::alloc::Global;
 use std::env;
@@ -228,7 +229,26 @@ fn explain<R: Files<File = File> + AllocGlobal>(
     }
 }
 
-// Tells how a run ended, and more of it if that is asked for: `said` is what is printed of words that give no job.
+// Prints how a run ended: with `--json` a refusal or a fault of a job is an object.
+fn tell_job(
+    outcome: Outcome,
+    said: &[u8],
+    job: Option<&Job<'_>>,
+    output: &mut Tracked<Stdout>,
+    faults: &mut Tracked<Stderr>,
+) -> Outcome
+    ensures same { IsFalse (is_help outcome) → result ≡ outcome }
+{
+    match job {
+        Some(job) if job.json => {
+            let paths = job.files.as_slice();
+            tell_in(outcome, said, Form::Json, paths, output, faults)
+        }
+        _ => tell(outcome, said, output, faults),
+    }
+}
+
+// Prints how a run ended, and more of it if that is asked for: `said` is what is printed of words that give no job.
 // Answers
 // how the program ends: as the run did, unless help could not be written.
 fn finish<R: Files<File = File> + AllocGlobal>(
@@ -242,12 +262,8 @@ fn finish<R: Files<File = File> + AllocGlobal>(
     ensures same { IsFalse (is_help stop.outcome) → result ≡ stop.outcome }
 {
     let mut faults = Tracked::new(streams.faults);
-    let outcome = tell(
-        stop.outcome,
-        said,
-        &mut Tracked::new(streams.output),
-        &mut faults,
-    );
+    let mut output = Tracked::new(streams.output);
+    let outcome = tell_job(stop.outcome, said, job, &mut output, &mut faults);
     if told.counts {
         let stop = Stop {
             outcome,
