@@ -28,16 +28,13 @@ pub use crate::blocks::{blocks_json_to, blocks_to};
 pub use crate::closed::{Closed, check_input};
 pub use crate::commands::{convert_to, join_to, join_to_pcap, merge_to, merge_to_pcap};
 pub use crate::counting::{convert_and_count, join_and_count, merge_and_count};
+pub use crate::diff::{Differences, diff_to};
 pub use crate::hints::hint;
 pub use crate::jobs::{job_and_count, job_to};
 pub use crate::kinds::{Kind, kind_at, kind_of};
 pub use crate::left::{Left, left_lines};
-<<<<<<< HEAD
 pub use crate::list::{list_json_to, list_to};
-=======
-pub use crate::list::list_to;
 pub use crate::objects::{outcome_object, tell_in};
->>>>>>> f1e9e5b3439b04847f64ea0f22cf9f8a55f50814
 pub use crate::outcomes::{Outcome, Stop, end_of, fault_line, outcome_line, status_of, tell};
 pub use crate::progress::{Progress, progress_line};
 pub use crate::regular::{FileId, Regular};

@@ -249,8 +249,7 @@ fn tell_job(
 }
 
 // Prints how a run ended, and more of it if that is asked for: `said` is what is printed of words that give no job.
-// Answers
-// how the program ends: as the run did, unless help could not be written.
+// Returns how the program ends: as the run did, unless help could not be written.
 fn finish<R: Files<File = File> + AllocGlobal>(
     rt: &R,
     streams: StandardStreams,
