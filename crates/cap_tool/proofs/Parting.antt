@@ -51,7 +51,8 @@ compared-parted n (Some m) None f g c d shown seen p q r s h = grind arith
 compared-parted n (Some m) (Some o) f g c d shown seen p q r s h = grind arith
 
 -- the first is refused
-compared-first : (n : ℕ) (fault : Fault) (ys : List Item) (c shown : Feed) (f g : List ℕ) → ShowsItem c (Err fault) shown
+compared-first : (n : ℕ) (fault : Fault) (ys : List Item) (c shown : Feed) (f g : List ℕ)
+    → ShowsItem c (Err fault) shown
     → Parts (compared n c.items ys) (Err fault) f g
 unfolding compared
 compared-first n (Refused r) ys c shown f g p = grind arith
@@ -155,7 +156,8 @@ Prints-line text old new (Err Memory) p is = grind arith
 
 -- A writer that failed in the first part of a text.
 pub Prints-more : (old new head rest : List ℕ) (fault : Fault) → fault ≡ Write
-    → Prints {A = Unit {0}} head None old (Err fault) new → Prints {A = Unit {0}} (head ++ rest) None old (Err fault) new
+    → Prints {A = Unit {0}} head None old (Err fault) new
+    → Prints {A = Unit {0}} (head ++ rest) None old (Err fault) new
 Prints-more old new head rest (Refused r) is p = grind arith
 Prints-more old new head rest (Read file offset) is p = grind arith
 Prints-more old new head rest Write is p = Prints-head None old new head rest Write refl p
@@ -181,7 +183,8 @@ Tells-same-fault n (Some m) other f g old new fault h is p = absurd (false≢tru
 -- one of them has a packet
 pub Tells-other : (n : ℕ) (one other : Option Meta) (f g old new : List ℕ)
     → (is_none one && is_none other) ≡ false
-    → Prints {A = Unit {0}} (diff_text (other_packet (n + 1) (compared_of one f) (compared_of other g))) None old (Ok tt)
+    → Prints {A = Unit {0}} (diff_text (other_packet (n
+    + 1) (compared_of one f) (compared_of other g))) None old (Ok tt)
     new
     → TellsDiff (parted n (compared_of one f) (compared_of other g)) old (Ok false) new
 Tells-other n None None f g old new h p = absurd (false≢true (sym h))

@@ -1,5 +1,6 @@
 //! `capt diff`: whether two captures have the same packets.
-ghost use Rattle.std.specs.Prelude.{◌≡◌, ◌+◌, ◌≤◌, ◌++◌, ◌∷◌, ◌^◌, [], false, length, codes, decimal, None, Some, IsSome, IsTrue};
+ghost use Rattle.std.specs.Prelude.{◌≡◌, ◌+◌, ◌≤◌, ◌++◌, ◌∷◌, ◌^◌, [], false, length, codes, decimal, None, Some};
+ghost use Rattle.std.specs.Prelude.{IsSome, IsTrue};
 ghost use Rattle.std.specs.Prelude.{IfOk, IsOkUnless, is_none, ◌&&◌, if◌then◌else◌};
 ghost use Rattle.cap_bytes.specs.Device.{WriterKeeps, writer_of};
 ghost use Rattle.cap_bytes.specs.Printing.{Prints, is_write};

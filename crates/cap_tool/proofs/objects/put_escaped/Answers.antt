@@ -12,7 +12,8 @@ returns-in_err-put_piece-clause-text g c =
 pub loop-rest-preserved : goal.loop-rest-preserved
 loop-rest-preserved g c =
     let e = c.in_ok-put_piece.ensures in
-    Escaping-more _ _ _ _ _ _ _ 64 c.loop-rest.invariant c.split_at.ensures.front c.split_at.ensures.back e.text e.writer
+    Escaping-more _ _ _ _ _ _ _ 64 c.loop-rest.invariant c.split_at.ensures.front c.split_at.ensures.back e.text
+    e.writer
 
 pub returns-clause-text : goal.returns-clause-text
 returns-clause-text g c =
