@@ -5,7 +5,7 @@
 # Use: checks/gate.sh     (the scripts take less than a minute on four processors; they want a C compiler, binutils and Python 3)
 set -u
 cd "$(dirname "$0")/.."
-scripts=(program.sh clib.py devices.sh hints.py stack.sh papers.sh columns.py rounds.sh rows.py invariance.py corpus.py hostile.py limits.py
+scripts=(program.sh clib.py devices.sh hints.py stack.sh papers.sh columns.py rounds.sh rows.py objects.py invariance.py corpus.py hostile.py limits.py
     'faults.py growths' 'faults.py devices')
 passed=0
 failed=0

@@ -440,6 +440,13 @@ def gives(content):
     return 0, bytes.fromhex(content), b"", None
 
 
+LISTED_JSON = '{"type":"packet","n":1,"offset":60,"time":[2,500000,1000000],"captured":4,"original":4,"link":1,"data":"%s"}\n'
+INFO_JSON = ('{"type":"files","files":1}\n{"type":"file","file":1,"format":"pcapng","packets":0,"bytes":0,"truncated":0,"skipped":0,'
+             '"first":null,"last":null,"cut":true}\n')
+BLOCKS_JSON = ('{"type":"block","n":1,"offset":0,"order":"little","kind":"0a0d0d0a","total":28}\n'
+               '{"type":"block","n":2,"offset":28,"order":"little","kind":"00000001","total":32}\n'
+               '{"type":"block","n":3,"offset":60,"order":"little","kind":"00000006","total":36}\n')
+
 # Words after `capt`, and what comes of them: the status, standard output and standard error, of which `...` is some text, and the file c. The files `a`,
 # `b` and `--allow-cut` are CARRY_PCAPNG, as standard input is where nothing else is said, and `cut` is it without its last byte.
 LINES = [
@@ -460,6 +467,11 @@ LINES = [
     ("list --explain a", prints(listed(1, 60))), ("merge --output c a b -", writes(THRICE)), ("merge a b - --output=c", writes(THRICE)),
     ("list --explain cut", (1, b"", b"refused: file 1 offset 60 rule 3 cut\n  cut: it is cut off: --allow-cut drops a last record or block, but not a file "
         b"header\n", None)),
+    ("list --json a", prints(LISTED_JSON % "01020304")), ("list --data 0 --json a", prints(LISTED_JSON % "")),
+    ("list --json --data=3 -", prints(LISTED_JSON % "010203")), ("list --json --data 00262144 a", prints(LISTED_JSON % "01020304")),
+    ("info --json --allow-cut - < cut", prints(INFO_JSON)), ("blocks a --json", prints(BLOCKS_JSON)),
+    ("list cut --json", (1, b"", b'{"type":"refused","file":1,"offset":60,"rule":3,"name":"cut","path":"cut"}\n', None)),
+    ("report --json a none", (1, b"", b'{"type":"fault","fault":"open","file":2,"path":"none"}\n', None)), ("info --json - -", INPUT),
     ("merge --whole -o c a b -", writes(THRICE)), ("merge --whole -o c cut", (1, b"", b"refused: file 1 offset 60 rule 3 cut\n", None)),
     ("--version", prints(VERSION)), ("-V", prints(VERSION)),
     *((words, HELP) for words in ("--help", "-h", "list --help", "list -h", "blocks -h", "info --help", "convert -h", "help",

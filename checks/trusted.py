@@ -18,11 +18,11 @@ signal.signal(signal.SIGPIPE, signal.SIG_DFL)
 TOP = pathlib.Path(__file__).resolve().parent.parent
 PRINTS, TELLS = "cap_bytes.Printing.Prints", "cap_talks.talks.Telling.Tells"
 ROOTS = {
-    "list": ["cap_tool.ListText.list_text", "cap_tool.ListText.list_refusal", PRINTS],
-    "blocks": ["cap_tool.BlockText.block_list", "cap_tool.BlockText.block_refusal", PRINTS],
-    "info": ["cap_talks.talks.InfoText.info_text", "cap_talks.talks.InfoText.first_refusal", TELLS],
+    "list": ["cap_tool.ListText.list_text", "cap_tool.ListText.list_json", "cap_tool.ListText.list_refusal", PRINTS],
+    "blocks": ["cap_tool.BlockText.block_list", "cap_tool.BlockText.block_list_json", "cap_tool.BlockText.block_refusal", PRINTS],
+    "info": ["cap_talks.talks.InfoText.info_text_in", "cap_talks.talks.InfoText.first_refusal", TELLS],
     "report": [
-        "cap_laws.InOrder.text_by_places", "cap_laws.InOrder.refusal_by_places", "cap_merge.Files.clocked_run",
+        "cap_laws.InOrder.text_by_places_in", "cap_laws.InOrder.refusal_by_places", "cap_merge.Files.clocked_run",
         "cap_merge.Files.endings_of_files", TELLS,
     ],
     "convert": ["cap_tool.Converted.convert_text", "cap_tool.Converted.convert_refusal", PRINTS],

@@ -3,6 +3,7 @@ mod blocks;
 mod blocks_json;
 mod captures;
 mod convert;
+mod diff;
 mod jobs;
 mod join;
 mod list;

@@ -1,0 +1,107 @@
+//! Whether two captures have the same packets: values from the formats.
+ghost use Rattle.std.specs.Prelude.{◌≤◌};
+
+use crate::checks::same;
+use crate::files::{reader_of, room_of};
+use crate::hex_vectors::{CARRY_PCAP, CARRY_PCAPNG, CUT_PCAP, ETHERNET, File};
+use cap_bytes::{Fault, Refusal, Rule, Tail};
+use cap_tool::diff_to;
+use std::alloc::Global;
+use std::process::Abort;
+
+// Two files, what is printed of them, and what is returned: whether they are the same, or which file is refused, where
+// and why.
+type Row = (File, File, &'static str, Result<bool, (u32, u64, Rule)>);
+
+// The packet of CARRY_PCAP at another time, with other bytes, and as one of which another byte was captured; and twice.
+const LATER: File = &[ETHERNET, "0100000061e316000400000004000000", "01020304"];
+
+const OTHER: File = &[ETHERNET, "0100000060e316000400000004000000", "01020305"];
+
+const LONGER: File = &[ETHERNET, "0100000060e316000500000006000000", "0102030405"];
+
+const TWICE: File = &[
+    ETHERNET,
+    "0100000060e316000400000004000000",
+    "01020304",
+    "0100000060e316000400000004000000",
+    "01020304",
+];
+
+const COMPARED: [Row; 11] = [
+    (&[ETHERNET], &[ETHERNET], "same packets 0\n", Ok(true)),
+    (CARRY_PCAP, CARRY_PCAPNG, "same packets 1\n", Ok(true)),
+    (CARRY_PCAPNG, CARRY_PCAP, "same packets 1\n", Ok(true)),
+    (TWICE, TWICE, "same packets 2\n", Ok(true)),
+    (
+        CARRY_PCAP,
+        LATER,
+        "differ packet 1 time\n\
+        - packet 1 offset 24 time 2+500000/1000000 captured 4 original 4 link 1 data 01020304\n\
+        + packet 1 offset 24 time 2+500001/1000000 captured 4 original 4 link 1 data 01020304\n",
+        Ok(false),
+    ),
+    (
+        CARRY_PCAPNG,
+        OTHER,
+        "differ packet 1 data\n\
+        - packet 1 offset 60 time 2+500000/1000000 captured 4 original 4 link 1 data 01020304\n\
+        + packet 1 offset 24 time 2+500000/1000000 captured 4 original 4 link 1 data 01020305\n",
+        Ok(false),
+    ),
+    (
+        LONGER,
+        CARRY_PCAP,
+        "differ packet 1 captured original data\n\
+        - packet 1 offset 24 time 2+500000/1000000 captured 5 original 6 link 1 data 0102030405\n\
+        + packet 1 offset 24 time 2+500000/1000000 captured 4 original 4 link 1 data 01020304\n",
+        Ok(false),
+    ),
+    (
+        TWICE,
+        CARRY_PCAPNG,
+        "differ packet 2 end\n\
+        - packet 2 offset 44 time 2+500000/1000000 captured 4 original 4 link 1 data 01020304\n\
+        + end\n",
+        Ok(false),
+    ),
+    (
+        &[ETHERNET],
+        CARRY_PCAP,
+        "differ packet 1 end\n\
+        - end\n\
+        + packet 1 offset 24 time 2+500000/1000000 captured 4 original 4 link 1 data 01020304\n",
+        Ok(false),
+    ),
+    // refused where the walk meets it: the first file before the second
+    (CARRY_PCAP, CUT_PCAP, "", Err((2, 24, Rule::Cut))),
+    (CUT_PCAP, CUT_PCAP, "", Err((1, 24, Rule::Cut))),
+];
+
+fn answer_of(wanted: Result<bool, (u32, u64, Rule)>) -> Result<bool, Fault> {
+    match wanted {
+        Ok(is_same) => Ok(is_same),
+        Err((file, offset, rule)) => Err(Fault::Refused(Refusal { file, offset, rule })),
+    }
+}
+
+// What is printed and returned of two files that are given by `piece` bytes at a time.
+fn compares(rt: &impl Abort, alloc: Global, row: &Row, piece: usize)
+    requires { 1 ≤ piece }
+{
+    let (first, second, text, wanted) = *row;
+    let mut writer = room_of(rt, alloc, 1024);
+    let one = reader_of(rt, alloc, first, piece);
+    let other = reader_of(rt, alloc, second, piece);
+    let answer = diff_to(alloc, one, other, Tail::Refuse, &mut writer);
+    same!(rt; (answer, writer.bytes()), (answer_of(wanted), text.as_bytes()));
+}
+
+#[test]
+fn always_memory_captures_are_compared(rt: HostRuntime) {
+    for row in &COMPARED {
+        for piece in [1, 4096] {
+            compares(&rt, rt.alloc(), row, piece);
+        }
+    }
+}
