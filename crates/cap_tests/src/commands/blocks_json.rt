@@ -3,8 +3,8 @@ ghost use Rattle.std.specs.Prelude.{◌≤◌};
 
 use crate::checks::same;
 use crate::commands::answer_of_file;
-use crate::files::{reader_of, room_of};
-use cap_bytes::{Rule, Tail};
+use crate::files::{bytes_of, reader_of, room_of};
+use cap_bytes::{Fault, Pieces, Rule, Tail};
 use cap_tool::blocks_json_to;
 use std::alloc::Global;
 use std::process::Abort;
@@ -33,6 +33,10 @@ const SECTIONS_LINES: &str =
     r#"{"type":"block","n":1,"offset":0,"order":"little","kind":"0a0d0d0a","total":28}
 {"type":"block","n":2,"offset":28,"order":"big","kind":"0a0d0d0a","total":28}
 {"type":"block","n":3,"offset":56,"order":"big","kind":"abcdef01","total":16}
+"#;
+
+const FIRST_LINE: &str =
+    r#"{"type":"block","n":1,"offset":0,"order":"little","kind":"0a0d0d0a","total":44}
 "#;
 
 const SECTION_LINE: &str =
@@ -73,5 +77,41 @@ fn always_memory_blocks_are_printed_in_json(rt: HostRuntime) {
         for piece in [1, 4096] {
             prints(&rt, rt.alloc(), row, piece);
         }
+    }
+}
+
+// A read of that number, by one byte a read, fails in the second block of OPTIONS: the first block's line is written.
+fn fails(rt: &impl Abort, alloc: Global, number: u64) {
+    let mut writer = room_of(rt, alloc, 512);
+    let source = Pieces::new(bytes_of(rt, alloc, &[OPTIONS]), 1, Some(number));
+    let answer = blocks_json_to(alloc, source, Tail::Refuse, &mut writer);
+    let fault = Fault::Read {
+        file: 1,
+        offset: 44,
+    };
+    same!(rt; (answer, writer.bytes()), (Err(fault), FIRST_LINE.as_bytes()));
+}
+
+// A writer that fails after that many bytes holds a front of the lines.
+fn stops(rt: &impl Abort, alloc: Global, size: usize) {
+    let mut writer = room_of(rt, alloc, size);
+    let source = reader_of(rt, alloc, &[OPTIONS], 4096);
+    let answer = blocks_json_to(alloc, source, Tail::Refuse, &mut writer);
+    let wanted = OPTIONS_LINES.as_bytes();
+    let wanted_answer = if size < wanted.len() {
+        Err(Fault::Write)
+    } else {
+        Ok(())
+    };
+    same!(rt; (answer, Some(writer.bytes())), (wanted_answer, wanted.get(..size)));
+}
+
+#[test]
+fn always_memory_a_device_fails_between_blocks_of_json(rt: HostRuntime) {
+    for number in 45..=96 {
+        fails(&rt, rt.alloc(), number);
+    }
+    for size in 0..=OPTIONS_LINES.len() {
+        stops(&rt, rt.alloc(), size);
     }
 }

@@ -3,9 +3,9 @@ ghost use Rattle.std.specs.Prelude.{◌≤◌};
 
 use crate::checks::same;
 use crate::commands::answer_of_file;
-use crate::files::{reader_of, room_of};
+use crate::files::{bytes_of, reader_of, room_of};
 use crate::hex_vectors::{CARRY_PCAP, CUT_PCAP, ETHERNET, File};
-use cap_bytes::{Fault, Rule, Tail};
+use cap_bytes::{Fault, Pieces, Rule, Tail};
 use cap_tool::list_json_to;
 use std::alloc::Global;
 use std::process::Abort;
@@ -34,6 +34,15 @@ const LONG_DATA: &str = r#""captured":220,"original":220,"link":1,"data":""#;
 const DATA: &str = r#""captured":4,"original":4,"link":1,"data":""#;
 
 const END: &str = "\"}\n";
+
+// A packet of 4 bytes, at 2 seconds and 500,000 millionths, twice: the second record is bytes 44 to 63.
+const TWICE: File = &[
+    ETHERNET,
+    "0200000020a107000400000004000000",
+    "01020304",
+    "0200000020a107000400000004000000",
+    "01020304",
+];
 
 // A section and its interface, of which a simple packet has 4 bytes at most.
 const SNAPLEN_4: &str = "0a0d0d0a1c0000004d3c2b1a01000000ffffffffffffffff1c000000\
@@ -157,5 +166,25 @@ fn always_memory_a_writer_fails_in_a_line_of_json(rt: HostRuntime) {
     let wanted = text_of(&rt, rt.alloc(), &[PACKET, LONG_DATA, FRONT, BACK, END]);
     for size in 0..=wanted.len() {
         stops(&rt, rt.alloc(), wanted.as_slice(), size);
+    }
+}
+
+// A read of that number, by one byte a read, fails in the second record: the first packet's line is written.
+fn fails(rt: &impl Abort, alloc: Global, wanted: &[u8], number: u64) {
+    let mut writer = room_of(rt, alloc, 512);
+    let source = Pieces::new(bytes_of(rt, alloc, TWICE), 1, Some(number));
+    let answer = list_json_to(alloc, source, Tail::Refuse, 16, &mut writer);
+    let fault = Fault::Read {
+        file: 1,
+        offset: 44,
+    };
+    same!(rt; (answer, writer.bytes()), (Err(fault), wanted));
+}
+
+#[test]
+fn always_memory_a_read_fails_between_lines_of_json(rt: HostRuntime) {
+    let wanted = text_of(&rt, rt.alloc(), &[PACKET, DATA, "01020304", END]);
+    for number in 45..=64 {
+        fails(&rt, rt.alloc(), wanted.as_slice(), number);
     }
 }
