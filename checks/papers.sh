@@ -56,7 +56,7 @@ for page in ("README.md", "docs/GUIDE.md", "docs/RECIPES.md"):
                 print(f"{page}: a recipe is left out, since jq isn't installed")
                 continue
             ran = subprocess.run(["bash", "-c", line], cwd=place, capture_output=True, text=True, timeout=60)
-            is_so = ran.stdout + ran.stderr == wanted and ran.returncode == wanted.startswith("refused: ")
+            is_so = ran.stdout + ran.stderr == wanted and ran.returncode == wanted.startswith(("refused: ", '{"type":"refused"'))
             judged(line, is_so, f"status {ran.returncode}, printed:\n{ran.stdout}{ran.stderr}")
 
 kept = text_of("crates/cap_bytes/src/faults.rt")

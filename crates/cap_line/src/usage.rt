@@ -56,7 +56,7 @@ For more information, try '--help'.
 
 // What is printed for `--data` with what isn't a number that it takes.
 pub(crate) const DATA_NUMBER: &str =
-    "error: invalid value for '--data <N>': a number from 0 to 262144 is wanted, in decimal digits
+    "error: invalid value for '--data <N>': no number from 0 to 262144
 
 For more information, try '--help'.
 ";
