@@ -102,7 +102,7 @@ const UNTIMED_REPORT: &str = "{\"type\":\"files\",\"files\":1}\n\
     \"backward\":{\"packets\":0,\"bytes\":0},\"first\":null,\"last\":null}\n";
 
 // What is printed of files.
-#[derive(Clone, Copy, Debug, PartialEq, Eq)]
+#[derive(Clone, Copy)]
 enum Printed {
     Lines,
     Report,

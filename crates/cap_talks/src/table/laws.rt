@@ -8,8 +8,8 @@ ghost use Rattle.cap_talks.specs.declared.table.units.CountedUnit.{CountedUnit};
 /// ends, whichever of these is the source. A row's first time is that of its earliest frame, its last time that of its
 /// latest; of equal times that of the lowest place counts. All rows together count each unit once.
 ///
-/// And the definitions on a few units, by computation: the lines of an answered datagram, of a joined one, and
-/// of two at equal times; and the limit.
+/// And the definitions on a few units, by computation: the lines of an answered datagram, in text and in JSON, of a
+/// joined one, and of two at equal times; and the limit.
 pub fn talk_laws()
     ensures key { KeyLaw }
     ensures frames { (units : List CountedUnit) → FrameLaw units }

@@ -1,10 +1,11 @@
 -- The definitions on a few units, by computation.
-use Rattle.std.specs.Prelude.{◌≡◌, ℕ, List, [], ◌∷◌, true, false, None, Some, Option, codes, pos}
+use Rattle.std.specs.Prelude.{◌≡◌, ℕ, List, [], ◌∷◌, ◌++◌, true, false, None, Some, Option, codes, pos}
 use Rattle.std.proofs.Common.{lit<}
+use Rattle.cap_print.specs.declared.forms.Form.TheVariants.{Json}
 use Rattle.cap_talks.specs.declared.table.units.TimedFrame.{TimedFrame}
 use Rattle.cap_time.specs.declared.stamps.Stamp.{Stamp}
 use Rattle.cap_talks.specs.table.Rows.{is_refused}
-use Rattle.cap_talks.specs.table.TalkLines.{talk_texts}
+use Rattle.cap_talks.specs.table.TalkLines.{talk_texts, talk_texts_in}
 use Rattle.cap_talks.specs.table.Talks.{talk_key, rows_of}
 use Rattle.cap_talks.specs.table.Units.{end_at}
 use Rattle.cap_talks.specs.declared.table.units.CountedUnit.{CountedUnit}
@@ -59,7 +60,7 @@ begun_before =
     unit_of (one 1) (two 2) 1 60 (worked_frame_at 1 half_tenths) (worked_frame_at 1 half_tenths)
     ∷ unit_of (one 1) (two 2) 2 120 (worked_frame_at 0 half_binary) (worked_frame_at 0 half_binary) ∷ []
 
--- The lines of those units.
+-- The lines of those units, in text and one of them in JSON.
 pub record TalkLines : Type 0 where
   pub answered_line : talk_texts (rows_of worked_answer)
       ≡ codes "talk udp 10.0.0.1:1000 10.0.0.2:2000 forward 1 60 backward 1 60 first 1+0/1000000 last 2+0/1000000\n"
@@ -67,6 +68,10 @@ pub record TalkLines : Type 0 where
       ≡ codes "talk udp 10.0.0.1:1001 10.0.0.2:2001 forward 4 112 backward 0 0 first 1+0/1000000 last 4+0/1000000\n"
   pub begun_line : talk_texts (rows_of begun_before)
       ≡ codes "talk udp 10.0.0.1:1 10.0.0.2:2 forward 3 180 backward 0 0 first 0+512/1024 last 0+512/1024\n"
+  pub answered_object : talk_texts_in Json (rows_of worked_answer)
+      ≡ codes "{\"type\":\"talk\",\"protocol\":17,\"a\":{\"address\":\"10.0.0.1\",\"port\":1000},"
+      ++ codes "\"b\":{\"address\":\"10.0.0.2\",\"port\":2000},\"forward\":{\"packets\":1,\"bytes\":60},"
+      ++ codes "\"backward\":{\"packets\":1,\"bytes\":60},\"first\":[1,0,1000000],\"last\":[2,0,1000000]}\n"
 
 -- If one conversation may stand a second is refused, and what belongs to the first one isn't.
 pub record TalkLimit : Type 0 where

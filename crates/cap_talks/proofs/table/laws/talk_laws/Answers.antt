@@ -19,7 +19,7 @@ returns-clause-sums c = sum_law
 
 pub returns-clause-lines : goal.returns-clause-lines
 unfolding rows_of stamp_cmp time_cmp time_at digits
-returns-clause-lines c = record { answered_line = refl; joined_line = refl; begun_line = refl }
+returns-clause-lines c = record { answered_line = refl; joined_line = refl; begun_line = refl; answered_object = refl }
 
 pub returns-clause-limit : goal.returns-clause-limit
 unfolding rows_of
