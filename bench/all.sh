@@ -120,6 +120,8 @@ for words in (["list", "small.pcap"], ["list", "small.pcapng"], ["blocks", "smal
     text_of(*words)
     peer = {"tcpdump -nn -tt -q": ["tcpdump", "-nn", "-tt", "-q", "-r", words[1]]} if words[0] == "list" else {}
     row(" ".join(words), [program, *words], {"plain loop over the text": ["./copy", "text"], **peer})
+for command, file in (("list", "small.pcap"), ("blocks", "small.pcapng"), ("info", "small.pcap"), ("report", "many.pcap")):
+    row(f"{command} --json {file}", [program, command, "--json", file], {"as text": [program, command, file]})
 os.remove("text")
 for source, target in (("mixed.pcap", "pcapng"), ("small.pcap", "pcapng"), ("mixed.pcapng", "pcap"), ("small.pcapng", "pcap")):
     row(f"convert {source}", [program, "convert", "--to", target, "-o", "out", source],
