@@ -99,7 +99,7 @@ impl Write for Disk {
     }
 }
 
-// What is answered and written is `Write` and a front of the text of that many bytes, or all of it.
+// What is answered and written is `Write` and a prefix of the text of that many bytes, or all of it.
 fn is_front(
     rt: &impl Abort,
     answer: Result<(), Fault>,

@@ -92,7 +92,7 @@ fn fails(rt: &impl Abort, alloc: Global, number: u64) {
     same!(rt; (answer, writer.bytes()), (Err(fault), FIRST_LINE.as_bytes()));
 }
 
-// A writer that fails after that many bytes holds a front of the lines.
+// A writer that fails after that many bytes holds a prefix of the lines.
 fn stops(rt: &impl Abort, alloc: Global, size: usize) {
     let mut writer = room_of(rt, alloc, size);
     let source = reader_of(rt, alloc, &[OPTIONS], 4096);

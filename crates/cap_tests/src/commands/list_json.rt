@@ -148,7 +148,7 @@ fn always_memory_packets_are_listed_in_json(rt: HostRuntime) {
     }
 }
 
-// A writer that fails after that many bytes holds a front of the lines.
+// A writer that fails after that many bytes holds a prefix of the lines.
 fn stops(rt: &impl Abort, alloc: Global, wanted: &[u8], size: usize) {
     let mut writer = room_of(rt, alloc, size);
     let source = reader_of(rt, alloc, &[ETHERNET, LONG, FRONT, BACK], 4096);
