@@ -5,6 +5,5 @@ pub mod Frames
 pub mod History
 pub mod Joiners
 pub mod Places
-pub mod Arrivals
 pub mod Completed
 pub mod inner

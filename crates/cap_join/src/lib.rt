@@ -2,7 +2,6 @@
 #![tactic(auto)]
 
 mod ages;
-mod arrivals;
 mod buffers;
 mod datagrams;
 mod groups;
@@ -13,7 +12,6 @@ mod queues;
 mod spares;
 mod tables;
 
-pub use crate::arrivals::Arrived;
 pub use crate::datagrams::{Datagram, JoinFault, Put, Stamped};
 pub use crate::joiners::Joiner;
 pub use crate::laws::{equal_clocks, places_law, worked_rows};

@@ -18,7 +18,7 @@ use Rattle.cap_talks.specs.table.Classes.{classes, classes_in, groups_of}
 use Rattle.cap_talks.specs.table.CountedUnits.{first_unit, unit_by, unit_at, listed, counted_units}
 use Rattle.cap_talks.specs.talks.ReportText.{with_item, taken_after}
 use Rattle.cap_talks.specs.table.TakenText.{body_text, body_text_in, taken_bytes, truncated_of}
-use Rattle.cap_talks.specs.table.Taken.{Taken, Look, plain, datagram, fragment, look, events_with_look, events_of}
+use Rattle.cap_class.specs.Taken.{Taken, Look, plain, datagram, fragment, look, events_with_look, events_of}
 use Rattle.cap_time.specs.declared.stamps.Stamp.{Stamp}
 use Rattle.cap_laws.proofs.LikeReports.{LikeItems, RunsLike, refusals-like}
 use Rattle.cap_laws.specs.Reports.{SameReport}

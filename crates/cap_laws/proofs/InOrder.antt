@@ -28,8 +28,8 @@ use Rattle.cap_laws.specs.InOrder.{ByPlaces, IsByPlaces, ReportByPlaces, refusal
 use Rattle.cap_laws.specs.InOrder.{text_by_places_in, unit_after, unit_by_places, units_at}
 use Rattle.cap_talks.specs.talks.InfoText.{or_else}
 use Rattle.cap_talks.specs.talks.ReportText.{refusal_after, refusal_here, with_item, taken_after}
-use Rattle.cap_talks.specs.table.Taken.{Taken, events_with_look, events_of, Look, plain, datagram, fragment, look}
-use Rattle.cap_talks.specs.table.Taken.{stamped_of}
+use Rattle.cap_class.specs.Taken.{Taken, events_with_look, events_of, Look, plain, datagram, fragment, look}
+use Rattle.cap_class.specs.Taken.{stamped_of}
 use Rattle.cap_talks.specs.table.TakenText.{body_by_in, body_text_in, files_part_in}
 
 turned_by : (r s : Ordering) → r ≡ ordering_reverse s → is_gt s ≡ false → is_lt r ≡ false

@@ -6,19 +6,17 @@ use Rattle.cap_join.specs.Fragments.{Piece}
 use Rattle.cap_join.specs.History.{Event}
 use Rattle.cap_join.specs.Joiners.{open_limit}
 use Rattle.cap_join.specs.Places.{latest_clock, next_place, AreInOrder}
-use Rattle.cap_link.specs.Links.{network_of, is_captured_whole}
 use Rattle.cap_merge.proofs.RunLaws.{NeverFalls, run-rises}
 use Rattle.cap_merge.specs.inner.Clocks.{AtMost, at_most-trans}
 use Rattle.cap_merge.specs.Parts.{item_time, is_refusal}
 use Rattle.cap_merge.specs.Run.{Clocked, opened_track, run}
 use Rattle.cap_source.specs.Feed.{Item, packet, refused}
-use Rattle.cap_talks.specs.table.Taken.{Taken, look, events_with_look}
+use Rattle.cap_class.specs.Taken.{Taken, look, taken, events_with_look}
 use Rattle.cap_time.specs.declared.stamps.Stamp.{Stamp}
-use Rattle.cap_write.specs.Joined.{completed, datagram_at, events_after, events_here, group_after, items_here}
-use Rattle.cap_write.specs.Joined.{items_of_packet, items_with_datagram, joined_items, stamped_of}
+use Rattle.cap_write.specs.Joined.{completed, datagram_of, events_after, events_here, group_after, items_here}
+use Rattle.cap_write.specs.Joined.{items_of_packet, items_with_datagram, joined_items}
 use Rattle.cap_write.specs.Texts.{merged_bytes, merged_refusal}
 use Rattle.cap_laws.proofs.InOrder.{not_before, one_more}
-use Rattle.cap_laws.proofs.JoinedUnits.{events-carried}
 use Rattle.cap_write.specs.PcapRun.{run_bytes, run_refusal}
 use Rattle.cap_laws.specs.JoinedByPlaces.{group_by_places, completed_by_places, items_by_places, joined_by_places}
 use Rattle.cap_laws.specs.JoinedByPlaces.{JoinedByPlaces}
@@ -32,10 +30,8 @@ record Ready (place : ℕ) (es : List Event) (clock : Option Stamp) : Type 0 whe
 -- the events with a packet are those of the report
 events-more : (place : ℕ) (es : List Event) (x : Taken)
     → events_after place es x.clock x.meta x.frame ≡ events_with_look (look place x) x.clock es
-unfolding events_after look
-events-more place es x =
-    events-carried x.clock (stamped_of place x.meta) es (network_of x.meta.interface.link x.frame x.meta.original)
-    (is_captured_whole x.frame x.meta.original)
+unfolding events_after
+events-more place es x = refl
 
 ready-packet : (place : ℕ) (es : List Event) (clock : Option Stamp) (x : Taken) → AtMost clock x.clock
     → Ready place es clock
@@ -69,8 +65,7 @@ same-items : (place : ℕ) (es : List Event) (c clock : Option Stamp) (i : Item)
 unfolding items_of_packet completed completed_by_places
 same-items place es c clock (packet meta frame) rises r =
     let group = same-group es c clock rises r.order r.late in
-    λ i. items_with_datagram meta frame (datagram_at (network_of meta.interface.link frame meta.original)
-    (is_captured_whole frame meta.original) (stamped_of place meta) (λ p. group p i))
+    λ i. items_with_datagram meta frame (datagram_of (look place (taken c meta frame)) (λ p. group p i))
 same-items place es c clock (refused refusal) rises r = refl
 
 same-run : (run : List (Clocked Item)) (place : ℕ) (es : List Event) (clock : Option Stamp) → NeverFalls clock run

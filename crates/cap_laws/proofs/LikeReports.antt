@@ -27,10 +27,10 @@ use Rattle.cap_talks.specs.table.TakenText.{body_text_in, taken_bytes, truncated
 use Rattle.cap_talks.specs.table.TakenText.{joined_text}
 use Rattle.cap_talks.specs.table.TalkLines.{talks_text}
 use Rattle.cap_talks.specs.table.Rows.{is_refused, talk_limit}
-use Rattle.cap_talks.specs.table.Taken.{Taken, Look, plain, datagram, fragment, look_at, look, events_with_look}
-use Rattle.cap_talks.specs.table.Taken.{events_of}
+use Rattle.cap_class.specs.Taken.{Taken, Look, plain, datagram, fragment, look_at, look, events_with_look}
+use Rattle.cap_class.specs.Taken.{events_of}
 use Rattle.cap_talks.specs.table.Talks.{talk_key, rows_of}
-use Rattle.cap_talks.specs.declared.table.classes.Class.TheVariants as class
+use Rattle.cap_class.specs.declared.classes.Class.TheVariants as class
 use Rattle.cap_talks.specs.declared.table.units.CountedUnit.{CountedUnit}
 use Rattle.cap_time.specs.declared.stamps.Stamp.{Stamp}
 use Rattle.cap_laws.proofs.LikePieces.{IsLike, IsLikeFrame, Like, LikeEvent, data-like, events-groups, header-like}

@@ -21,7 +21,7 @@ use Rattle.cap_time.specs.Time.{time_cmp, time_at, floor_of, remainder_of}
 use Rattle.cap_talks.specs.table.Classes.{classes, group_class}
 use Rattle.cap_join.specs.Completed.{completed_of}
 use Rattle.cap_talks.specs.table.TakenText.{body_text_in, files_part_in}
-use Rattle.cap_talks.specs.table.Taken.{look, events_of}
+use Rattle.cap_class.specs.Taken.{look, events_of}
 use Rattle.cap_talks.specs.table.CountedUnits.{group_unit, unit_at, counted_units}
 use Rattle.cap_laws.specs.WorkedReport.{Overlapped, Tagged}
 

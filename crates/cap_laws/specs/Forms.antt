@@ -15,7 +15,7 @@ use Rattle.cap_talks.specs.table.CountedUnits.{counted_units, joined_in, given_u
 use Rattle.cap_talks.specs.talks.ReportText.{taken_after}
 use Rattle.cap_talks.specs.table.TakenText.{body_text, taken_bytes, truncated_of, total_text, frames_text, joined_text}
 use Rattle.cap_talks.specs.table.TalkLines.{talk_texts, talks_text}
-use Rattle.cap_talks.specs.table.Taken.{Taken}
+use Rattle.cap_class.specs.Taken.{Taken}
 use Rattle.cap_talks.specs.table.Talks.{Talk, rows_of}
 use Rattle.cap_write.specs.Pcap.{pcap_bytes, pcap_refusal}
 use Rattle.cap_laws.specs.Reports.{refused_at}

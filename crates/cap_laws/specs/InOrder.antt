@@ -16,12 +16,12 @@ use Rattle.cap_merge.specs.Run.{Clocked, opened_track, run}
 use Rattle.cap_print.specs.declared.forms.Form.{Form}
 use Rattle.cap_source.specs.Feed.{Item, packet, refused}
 use Rattle.cap_source.specs.declared.feeds.FileEnd.{FileEnd}
-use Rattle.cap_talks.specs.declared.table.classes.Class.{Class}
+use Rattle.cap_class.specs.declared.classes.Class.{Class}
 use Rattle.cap_talks.specs.table.Classes.{classes, classes_in}
 use Rattle.cap_join.specs.Completed.{completed_pieces_at, if_complete}
 use Rattle.cap_talks.specs.talks.InfoText.{or_else}
 use Rattle.cap_talks.specs.talks.ReportText.{report_refusal, report_text_in, taken_after, with_item}
-use Rattle.cap_talks.specs.table.Taken.{Taken, events_of, Look, plain, datagram, fragment, look, stamped_of}
+use Rattle.cap_class.specs.Taken.{Taken, events_of, Look, plain, datagram, fragment, look, stamped_of}
 use Rattle.cap_talks.specs.table.TakenText.{body_by_in, files_part_in}
 
 -- what is known of the fragments among some packets

@@ -2,18 +2,18 @@
 use Rattle.std.specs.Prelude.{◌≡◌, ℕ, ◌+◌, List, [], ◌∷◌, ◌++◌, map, Option}
 use Rattle.cap_bytes.specs.declared.faults.Refusal.{Refusal}
 use Rattle.cap_bytes.specs.declared.numbers.Order.{Order}
+use Rattle.cap_class.specs.Taken.{look, taken}
 use Rattle.cap_join.specs.Fragments.{Piece}
 use Rattle.cap_join.specs.History.{Event, fragment_key}
 use Rattle.cap_join.specs.Joiners.{open_limit}
 use Rattle.cap_join.specs.Places.{goes_on, group_by, marks}
-use Rattle.cap_link.specs.Links.{network_of, is_captured_whole}
 use Rattle.cap_merge.specs.Parts.{item_time, is_refusal}
 use Rattle.cap_merge.specs.Run.{Clocked, opened_track, run}
 use Rattle.cap_source.specs.Feed.{Item, packet, refused}
 use Rattle.cap_source.specs.declared.packets.Meta.{Meta}
 use Rattle.cap_time.specs.declared.stamps.Stamp.{Stamp}
-use Rattle.cap_write.specs.Joined.{Complete, events_here, items_with_datagram, joined_bytes, joined_refusal, stamped_of}
-use Rattle.cap_write.specs.Joined.{datagram_at}
+use Rattle.cap_write.specs.Joined.{Complete, datagram_of, events_here, items_with_datagram, joined_bytes}
+use Rattle.cap_write.specs.Joined.{joined_refusal}
 use Rattle.cap_write.specs.PcapRun.{joined_pcap_bytes, joined_pcap_refusal, run_bytes, run_refusal}
 use Rattle.cap_write.specs.Texts.{merged_bytes, merged_refusal}
 
@@ -24,8 +24,7 @@ group_by_places clock events p = (group_by clock p (goes_on (fragment_key p) (ma
 -- the datagram that a packet completes, which has that place in the run and that clock
 unfoldable pub completed_by_places : ℕ → List Event → Option Stamp → Meta → List ℕ → Option Complete
 completed_by_places place events clock meta frame =
-    datagram_at (network_of meta.interface.link frame meta.original) (is_captured_whole frame meta.original)
-    (stamped_of place meta) (group_by_places clock events)
+    datagram_of (look place (taken clock meta frame)) (group_by_places clock events)
 
 -- what is to be written of an item of that clock
 abbrev pub items_by_places : ℕ → List Event → Option Stamp → Item → List Item

@@ -1,7 +1,7 @@
 -- What `join` writes is what the report counts.
 use Rattle.std.specs.Prelude.{◌≡◌, List, ◌∷◌, Bool, true, false, ◌&&◌, ◌==◌, length, is_some}
 use Rattle.cap_talks.specs.table.CountedUnits.{unit_at}
-use Rattle.cap_talks.specs.table.Taken.{Taken, Look, plain, datagram, fragment, look, events_of}
+use Rattle.cap_class.specs.Taken.{Taken, Look, plain, datagram, fragment, look, events_of}
 use Rattle.cap_write.specs.Joined.{completed, events_after}
 
 -- all data of a datagram was captured, as that of each fragment is

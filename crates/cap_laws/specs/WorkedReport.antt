@@ -8,8 +8,8 @@ use Rattle.cap_time.specs.Stamp.{stamp_in}
 use Rattle.cap_time.specs.declared.resolutions.Interface.{Interface}
 use Rattle.cap_talks.specs.table.Classes.{classes}
 use Rattle.cap_talks.specs.table.TakenText.{text_of}
-use Rattle.cap_talks.specs.table.Taken.{Taken}
-use Rattle.cap_talks.specs.declared.table.classes.Class.TheVariants.{Bad, Unjoined, Counted}
+use Rattle.cap_class.specs.Taken.{Taken}
+use Rattle.cap_class.specs.declared.classes.Class.TheVariants.{Bad, Unjoined, Counted}
 
 -- an interface of a link type (LINKTYPE registry): 1 is Ethernet, 101 IP alone
 abbrev pub worked_interface : ℕ → Interface

@@ -4,8 +4,6 @@
 mod files;
 mod lanes;
 mod merging;
-mod walks;
 
 pub use crate::files::merge_files;
 pub use crate::merging::{Merged, RunPacket};
-pub use crate::walks::next_of;

@@ -27,7 +27,7 @@ use Rattle.cap_talks.specs.inner.table.Adding.{datagram_unit, datagram_class, is
 use Rattle.cap_join.specs.Completed.{if_complete, completed_of}
 use Rattle.cap_talks.specs.table.Classes.{class_of, sum_of}
 use Rattle.cap_talks.specs.inner.table.Looking.{is_plain}
-use Rattle.cap_talks.specs.table.Taken.{Taken, plain, datagram, fragment, look, stamped_of, events_of}
+use Rattle.cap_class.specs.Taken.{Taken, plain, datagram, fragment, look, stamped_of, events_of}
 use Rattle.std.specs.Prelude.{Err}
 use Rattle.cap_talks.specs.declared.table.talks.TalksFault.{TalksFault}
 use Rattle.cap_talks.specs.inner.table.Tallies.{Joins, LimitBy, TallyState, TallyStands, IsSoundTally, WaitingFits}
@@ -35,8 +35,8 @@ use Rattle.cap_talks.specs.inner.table.Tallies.{Looks, one_if_waiting}
 use Rattle.cap_talks.specs.inner.table.Tallies.{counted_one, with_frames, with_group}
 use Rattle.cap_talks.specs.table.CountedUnits.{counted_in, first_unit, whole_unit, unit_at, listed, counted_units}
 use Rattle.cap_talks.specs.table.CountedUnits.{is_limit_at}
-use Rattle.cap_talks.specs.declared.table.classes.Class.{Class}
-use Rattle.cap_talks.specs.declared.table.classes.Class.TheVariants as class
+use Rattle.cap_class.specs.declared.classes.Class.{Class}
+use Rattle.cap_class.specs.declared.classes.Class.TheVariants as class
 use Rattle.cap_talks.specs.declared.table.classes.ClassCounts.{ClassCounts}
 
 -- no datagram waits: then it doesn't matter what comes next

@@ -13,10 +13,10 @@ use Rattle.cap_talks.specs.declared.table.units.CountedUnit.{CountedUnit}
 use Rattle.cap_talks.proofs.Recount.{some_of}
 use Rattle.cap_talks.proofs.Steps.{classes-plain, classes-datagram, classes-kept, classes-completed}
 use Rattle.cap_talks.specs.table.Classes.{class_of, classes, group_class, times}
-use Rattle.cap_talks.specs.table.Taken.{Taken, Look, plain, datagram, fragment, look, events_of, stamped_of}
+use Rattle.cap_class.specs.Taken.{Taken, Look, plain, datagram, fragment, look, events_of, stamped_of}
 use Rattle.cap_talks.specs.table.CountedUnits.{whole_unit, group_unit, first_unit, unit_by, unit_at, listed}
 use Rattle.cap_talks.specs.table.CountedUnits.{counted_units}
-use Rattle.cap_talks.specs.declared.table.classes.Class.TheVariants as class
+use Rattle.cap_class.specs.declared.classes.Class.TheVariants as class
 
 -- a datagram is a unit if its class is that of those that count
 frames_whole : (header : HeaderFields) (captured : List ℕ) (s : Stamped)

@@ -22,7 +22,7 @@ use Rattle.cap_talks.specs.inner.talks.Reporting.{TookAll, TakesAll, TellsReport
 use Rattle.cap_talks.specs.talks.ReportText.{taken_after, report_text_in, report_refusal}
 use Rattle.cap_talks.specs.table.TakenText.{text_of_in}
 use Rattle.cap_talks.specs.inner.table.Stepping.{TableState, TableStands, endings_so_far}
-use Rattle.cap_talks.specs.table.Taken.{Taken}
+use Rattle.cap_class.specs.Taken.{Taken}
 use Rattle.cap_talks.specs.talks.Telling.{Tells}
 use Rattle.cap_talks.proofs.Telling.{tells-printed}
 

@@ -12,7 +12,7 @@ use Rattle.cap_join.specs.ByteMap.{completes, covers_below, holds, block_count}
 use Rattle.cap_join.proofs.Grouping.{covers_below-some}
 use Rattle.cap_join.specs.Fragments.{Piece, piece_of, end_of}
 use Rattle.cap_join.specs.declared.datagrams.Stamped.{Stamped}
-use Rattle.cap_talks.specs.table.Taken.{Taken, Look, plain, datagram, fragment, look_by, look_in, look}
+use Rattle.cap_class.specs.Taken.{Taken, Look, plain, datagram, fragment, look_by, look_in, look}
 
 -- a fragment after which more follow, or that doesn't begin at 0
 lone : (p : Piece) → (p.more || not (p.start == 0)) ≡ true → completes (p ∷ []) ≡ false

@@ -11,9 +11,9 @@ use Rattle.cap_join.specs.Fragments.{Piece, piece_of}
 use Rattle.cap_join.specs.declared.datagrams.Stamped.{Stamped}
 use Rattle.cap_talks.specs.table.Classes.{class_by, class_in, classes_in, group_class, has_place, is_class, times}
 use Rattle.cap_join.specs.Completed.{one_at, occurs, occurs_in, comes}
-use Rattle.cap_talks.specs.table.Taken.{Taken, Look, plain, datagram, fragment, look_by, look_in, look, events_of}
-use Rattle.cap_talks.specs.declared.table.classes.Class.{Class}
-use Rattle.cap_talks.specs.declared.table.classes.Class.TheVariants as class
+use Rattle.cap_class.specs.Taken.{Taken, Look, plain, datagram, fragment, look_by, look_in, look, events_of}
+use Rattle.cap_class.specs.declared.classes.Class.{Class}
+use Rattle.cap_class.specs.declared.classes.Class.TheVariants as class
 
 -- ---- places
 

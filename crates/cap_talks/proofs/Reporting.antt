@@ -20,7 +20,7 @@ use Rattle.cap_talks.specs.inner.talks.Reporting.{TookAll, TakesAll}
 use Rattle.cap_talks.specs.inner.table.Stepping.{clocked, next_by, KeepsNext, TableState, TableStands, StepKeeps}
 use Rattle.cap_talks.specs.inner.table.Stepping.{TableTakes}
 use Rattle.cap_talks.specs.inner.table.Stepping.{TableSteps, IsMore}
-use Rattle.cap_talks.specs.table.Taken.{Taken}
+use Rattle.cap_class.specs.Taken.{Taken}
 use Rattle.cap_talks.specs.table.CountedUnits.{is_limit_at}
 use Rattle.cap_talks.specs.declared.table.tables.Step.{Step}
 use Rattle.cap_talks.specs.declared.table.tables.Step.TheVariants as steps

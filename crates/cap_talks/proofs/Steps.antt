@@ -14,9 +14,9 @@ use Rattle.cap_talks.proofs.Recount.{unjoined, classes_looks, some_of, recount}
 use Rattle.cap_talks.specs.table.Classes.{class_of, class_by, class_in, classes, classes_in, counts_of, group_class}
 use Rattle.cap_talks.specs.table.Classes.{groups_of, has_place, sum_of, times, OneClass}
 use Rattle.cap_join.specs.Completed.{completed_of, occurs, occurs_in}
-use Rattle.cap_talks.specs.table.Taken.{Taken, Look, plain, datagram, fragment, look, events_with_look, events_of}
-use Rattle.cap_talks.specs.declared.table.classes.Class.{Class}
-use Rattle.cap_talks.specs.declared.table.classes.Class.TheVariants as class
+use Rattle.cap_class.specs.Taken.{Taken, Look, plain, datagram, fragment, look, events_with_look, events_of}
+use Rattle.cap_class.specs.declared.classes.Class.{Class}
+use Rattle.cap_class.specs.declared.classes.Class.TheVariants as class
 
 -- by what the packet is
 classes-are : (x : Taken) (xs : List Taken) (l : Look) → look (length xs) x ≡ l

@@ -10,7 +10,7 @@ use Rattle.cap_talks.specs.counts.Counting.{counted}
 use Rattle.cap_talks.specs.counts.FileLines.{file_facts, ending_at}
 use Rattle.cap_talks.specs.counts.FileLines.{ended_from, counted_texts_in}
 use Rattle.cap_talks.specs.table.TakenText.{file_line_in, metas_of}
-use Rattle.cap_talks.specs.table.Taken.{Taken}
+use Rattle.cap_class.specs.Taken.{Taken}
 use Rattle.cap_talks.specs.inner.table.Totals.{counts_from}
 use Rattle.cap_talks.specs.declared.counts.counts.Counts.{Counts}
 

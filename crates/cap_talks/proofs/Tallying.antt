@@ -19,14 +19,14 @@ use Rattle.cap_talks.proofs.Steps.{classes-plain, classes-datagram, classes-kept
 use Rattle.cap_talks.specs.inner.table.Adding.{datagram_unit, datagram_class}
 use Rattle.cap_talks.specs.table.Classes.{class_of, classes, counts_of, group_class, groups_of, joined_transport, times}
 use Rattle.cap_join.specs.Completed.{completed_of}
-use Rattle.cap_talks.specs.table.Taken.{Taken, Look, plain, datagram, fragment, look, stamped_of, events_with_look}
-use Rattle.cap_talks.specs.table.Taken.{events_of}
+use Rattle.cap_class.specs.Taken.{Taken, Look, plain, datagram, fragment, look, stamped_of, events_with_look}
+use Rattle.cap_class.specs.Taken.{events_of}
 use Rattle.cap_talks.specs.inner.table.Tallies.{TallyState, TallyStands, counted_one, with_frames, with_group}
 use Rattle.cap_talks.specs.table.CountedUnits.{whole_unit, group_unit, first_unit, unit_by, unit_at, listed}
 use Rattle.cap_talks.specs.table.CountedUnits.{counted_units}
 use Rattle.cap_talks.specs.table.CountedUnits.{counted_in, joined_in}
-use Rattle.cap_talks.specs.declared.table.classes.Class.{Class}
-use Rattle.cap_talks.specs.declared.table.classes.Class.TheVariants as class
+use Rattle.cap_class.specs.declared.classes.Class.{Class}
+use Rattle.cap_class.specs.declared.classes.Class.TheVariants as class
 use Rattle.cap_talks.specs.declared.table.classes.ClassCounts.{ClassCounts}
 
 -- ---- by what a packet is

@@ -7,7 +7,7 @@ use Rattle.std.proofs.lemmas.Bool.Decides.{nat_tests}
 use Rattle.cap_source.specs.declared.packets.Meta.{Meta}
 use Rattle.cap_talks.specs.counts.Counting.{counted, with_packet, are_in_order, original_bytes, truncated_packets}
 use Rattle.cap_talks.specs.table.TakenText.{metas_of, taken_bytes, truncated_of}
-use Rattle.cap_talks.specs.table.Taken.{Taken}
+use Rattle.cap_class.specs.Taken.{Taken}
 use Rattle.cap_talks.specs.inner.table.Totals.{TotalsState, TotalsStand, IsSoundTotals, counts_from, is_room}
 use Rattle.cap_talks.specs.declared.counts.counts.Counts.{Counts}
 use Rattle.cap_talks.proofs.Counting.{counted-more, counted-in_order}

@@ -17,7 +17,7 @@ use Rattle.cap_time.specs.declared.stamps.Stamp.{Stamp}
 use Rattle.cap_time.proofs.Chosen.{not_trans}
 use Rattle.cap_talks.specs.table.CountedUnits.{timed_frame, unit_of, whole_unit}
 use Rattle.cap_talks.specs.inner.table.Adding.{datagram_unit}
-use Rattle.cap_talks.specs.table.Taken.{Taken}
+use Rattle.cap_class.specs.Taken.{Taken}
 use Rattle.cap_talks.specs.inner.table.Tallies.{TallyState, Joins, TallyStands}
 
 by_ends : (protocol frames bytes : ℕ) (first last : Option TimedFrame) (ends : Option (End × End))

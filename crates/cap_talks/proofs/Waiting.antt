@@ -6,7 +6,7 @@ use Rattle.cap_join.specs.History.{Event, arrives, open_groups_after, step}
 use Rattle.cap_join.specs.Joiners.{JoinerState, JoinerStandsFor, open_limit}
 use Rattle.cap_join.specs.declared.datagrams.Datagram.{Datagram}
 use Rattle.cap_talks.specs.table.CountedUnits.{given_up_in}
-use Rattle.cap_talks.specs.table.Taken.{Taken, fragment, look, events_of, events_with_look}
+use Rattle.cap_class.specs.Taken.{Taken, fragment, look, events_of, events_with_look}
 use Rattle.cap_talks.specs.inner.table.Tallies.{TallyState, WaitsFor, TallyStands, IsSoundTally, one_if_waiting}
 use Rattle.cap_talks.proofs.LoneFragments.{no-lone}
 use Rattle.cap_talks.proofs.Room.{few-open, waiting-room}

@@ -2,7 +2,6 @@ pub mod Talks
 pub mod Units
 pub mod Rows
 pub mod TalkLines
-pub mod Taken
 pub mod Classes
 pub mod CountedUnits
 pub mod TakenText

@@ -5,7 +5,6 @@ mod adding;
 mod classes;
 mod keys;
 mod laws;
-mod looks;
 mod report_lines;
 mod rows;
 mod tables;
@@ -15,9 +14,8 @@ mod tallies;
 mod totals;
 mod units;
 
-pub use crate::table::classes::Class;
+pub use crate::table::classes::packet_class;
 pub use crate::table::laws::talk_laws;
-pub use crate::table::looks::packet_class;
 pub use crate::table::rows::{TalkKey, TalkRow};
 pub use crate::table::tables::{Held, Step, Table};
 pub use crate::table::units::{CountedUnit, End, TimedFrame};

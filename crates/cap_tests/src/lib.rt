@@ -3,8 +3,6 @@
 #![tactic(auto)]
 
 #[cfg(test)]
-mod arrivals;
-#[cfg(test)]
 mod blocks;
 #[cfg(test)]
 mod bytes;
@@ -35,6 +33,8 @@ mod json_lines;
 mod left;
 #[cfg(test)]
 mod link;
+#[cfg(test)]
+mod looks;
 #[cfg(test)]
 mod merge;
 #[cfg(test)]

@@ -1,14 +1,15 @@
 //! Frames of each link type and what they carry.
-mod vectors;
+pub(crate) mod vectors;
 
 use crate::checks::{holds, same};
 use crate::link::vectors::{
     CAPTURED_FRAME, COOKED_2_FRAME, COOKED_2_TAGGED_FRAME, COOKED_FRAME, FRAGMENT, IPV6_FRAME,
     LENGTH_FRAME, PACKET, TAG_FRAME, TAGGED_FRAME,
 };
+use cap_class::Class;
 use cap_link::{Network, network, tags_law};
 use cap_source::{Format, Meta};
-use cap_talks::{Class, packet_class};
+use cap_talks::packet_class;
 use cap_time::{Interface, Resolution};
 use std::process::Abort;
 
@@ -80,7 +81,7 @@ fn carries_none(rt: &impl Abort, link: u16, seen: Option<&[u8]>, original: u32, 
 }
 
 // What is known of a packet of that link type and original length.
-fn meta_of(rt: &impl Abort, link: u16, original: u32) -> Meta {
+pub(crate) fn meta_of(rt: &impl Abort, link: u16, original: u32) -> Meta {
     let resolution = Resolution::from_code(6).expect(rt, "the code of microseconds");
     Meta {
         file: 1,

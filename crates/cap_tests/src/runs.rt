@@ -3,8 +3,10 @@ ghost use Rattle.std.specs.Prelude.{◌≤◌, ◌<ℤ◌, ◌^◌, pos, IfSome}
 ghost use Rattle.cap_time.specs.Stamp.{seconds_of};
 
 use crate::checks::holds;
+use cap_class::{Seen, look, stamped_of};
 use cap_ip::{Header, HeaderOr};
-use cap_join::{Arrived, JoinFault, Joiner, Put, Stamped};
+use cap_join::{JoinFault, Joiner, Put, Stamped};
+use cap_source::Meta;
 use cap_time::{Interface, Resolution, Stamp};
 use std::alloc::Global;
 use std::process::Abort;
@@ -104,18 +106,17 @@ impl Run {
         Ok(put)
     }
 
-    /// Takes a packet without a time, which was captured whole.
-    pub(crate) fn take<'a>(&mut self, rt: &impl Abort, bytes: &'a [u8]) -> Arrived<'a> {
+    /// Puts the fragment that a packet without a clock is seen as.
+    pub(crate) fn put_seen(&mut self, rt: &impl Abort, meta: &Meta, frame: &[u8]) -> Put {
         holds!(rt; self.place < 1_000);
-        let stamped = Stamped {
-            time: None,
-            place: self.place,
-            original: 28,
+        let Seen::Fragment(header, data) = look(meta, frame) else {
+            panic!(rt; "no fragment");
         };
-        match self.joiner.take(None, bytes, true, stamped) {
-            Ok(arrived) => {
+        let stamped = stamped_of(self.place, meta.time(), meta);
+        match self.joiner.put(None, &header, data, stamped) {
+            Ok(put) => {
                 self.place += 1;
-                arrived
+                put
             }
             Err(fault) => panic!(rt; "{fault:?}"),
         }

@@ -7,41 +7,43 @@ use Rattle.std.specs.Prelude.{IfOk, Result, Ok, Err}
 use Rattle.cap_bytes.specs.Printing.{Prints}
 use Rattle.cap_bytes.specs.declared.faults.Fault.{Fault}
 use Rattle.cap_bytes.specs.declared.numbers.Order.{Order}
-use Rattle.cap_ip.specs.Read.{Reading, found, bad, cut}
-use Rattle.cap_join.specs.Arrivals.{IsArrived, IsFragmentOf}
 use Rattle.cap_join.specs.Fragments.{Piece}
 use Rattle.cap_join.specs.History.{Event}
-use Rattle.cap_join.specs.declared.arrivals.Arrived.{Arrived}
-use Rattle.cap_join.specs.declared.arrivals.Arrived.TheVariants as as_
-use Rattle.cap_join.specs.declared.datagrams.Stamped.{Stamped}
+use Rattle.cap_join.specs.ByteMap.{completes}
+use Rattle.cap_join.specs.inner.Groups.{IsDatagramOf}
+use Rattle.cap_join.specs.Joiners.{IsAnswer}
+use Rattle.cap_join.specs.declared.datagrams.Datagram.{Datagram}
+use Rattle.cap_join.specs.declared.datagrams.Put.{Put}
+use Rattle.cap_join.specs.declared.datagrams.Put.TheVariants as puts
 use Rattle.cap_source.specs.Feed.{Item, packet}
 use Rattle.cap_source.specs.declared.packets.Meta.{Meta}
 use Rattle.cap_time.specs.declared.stamps.Stamp.{Stamp}
 use Rattle.cap_write.proofs.Forming.{Prints-untimed, no-time, stop-nothing, text-nothing}
 use Rattle.cap_write.specs.inner.Interfaces.{HasUnits}
-use Rattle.cap_write.specs.inner.Datagrams.{IsFilled, answered_datagram}
+use Rattle.cap_write.specs.inner.Datagrams.{IsFilled}
 use Rattle.cap_write.specs.inner.Forms.{FormState, form_after, form_behind, form_stop, form_text}
-use Rattle.cap_write.specs.Joined.{Complete, joined_of, completed_in, completed, datagram_meta, items_of_packet}
+use Rattle.cap_write.specs.Joined.{Complete, complete_of, joined_of, completed, datagram_meta, items_of_packet}
 
-answered-pieces : (ps : List Piece) (arrived : Arrived) → IsFragmentOf ps arrived
-    → answered_datagram arrived ≡ joined_of ps
+-- a datagram that a joiner answered is the one that its fragments make
+joined-is : (ps : List Piece) (d : Datagram) → completes ps ≡ true → IsDatagramOf d ps
+    → complete_of d.header d.payload.items (length d.payload.items) ≡ joined_of ps
 unfolding joined_of
-answered-pieces ps arrived h = grind arith
+joined-is ps d whole h = grind arith
 
-pub answered-is : (r : Reading) (arrived : Arrived) (clock : Option Stamp) (stamped : Stamped) (events : List Event)
-    → IsArrived r clock stamped events arrived → answered_datagram arrived ≡ completed_in r clock stamped events
-answered-is (found header captured) arrived clock stamped events h =
-    grind (arith, answered-pieces, common_steps, nat_tests)
-answered-is bad as_.Bad clock stamped events h = refl
-answered-is bad as_.Cut clock stamped events h = absurd h
-answered-is bad (as_.Whole head bytes) clock stamped events h = absurd h
-answered-is bad as_.Kept clock stamped events h = absurd h
-answered-is bad (as_.Joined d) clock stamped events h = absurd h
-answered-is cut as_.Bad clock stamped events h = absurd h
-answered-is cut as_.Cut clock stamped events h = refl
-answered-is cut (as_.Whole head bytes) clock stamped events h = absurd h
-answered-is cut as_.Kept clock stamped events h = absurd h
-answered-is cut (as_.Joined d) clock stamped events h = absurd h
+-- fragments that make none yet
+filled-none : (ps : List Piece) (bytes : List ℕ) → completes ps ≡ false → IsFilled (joined_of ps) false bytes
+unfolding joined_of
+filled-none ps bytes open_still = grind arith
+
+pub filled-kept : (put : Put) (ps : List Piece) (bytes : List ℕ) → put ≡ puts.Kept → IsAnswer put ps
+    → IsFilled (joined_of ps) false bytes
+filled-kept put ps bytes is h = filled-none ps bytes (subst (λ (q : Put). IsAnswer q ps) is h)
+
+pub joined-put : (put : Put) (d : Datagram) (ps : List Piece) → put ≡ puts.Joined d → IsAnswer put ps
+    → complete_of d.header d.payload.items (length d.payload.items) ≡ joined_of ps
+joined-put put d ps is h =
+    let both = subst (λ (q : Put). IsAnswer q ps) is h in
+    joined-is ps d both.0 both.1
 
 -- what is to be written of a packet, by what the buffer has
 pub items-timed : (place : ℕ) (events : List Event) (clock : Option Stamp) (meta : Meta) (frame : List ℕ) (units : ℕ)

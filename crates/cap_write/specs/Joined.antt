@@ -3,22 +3,16 @@ use Rattle.std.specs.Prelude.{ℕ, ◌+◌, ◌==◌, ◌&&◌, List, [], ◌∷
 use Rattle.std.specs.Prelude.{is_some, option_and_then, if◌then◌else◌}
 use Rattle.cap_bytes.specs.declared.faults.Refusal.{Refusal}
 use Rattle.cap_bytes.specs.declared.numbers.Order.{Order}
+use Rattle.cap_class.specs.Taken.{Look, plain, datagram, fragment, look, taken, events_with_look}
 use Rattle.cap_ip.specs.Header.{HeaderFields}
-use Rattle.cap_ip.specs.Read.{Reading, found, bad, cut, read_of}
 use Rattle.cap_ip.specs.Transport.{transport_of}
 use Rattle.cap_ip.specs.Written.{ipv4_header_bytes}
-use Rattle.cap_ip.specs.declared.headers.Fragment.{Fragment}
 use Rattle.cap_ip.specs.declared.transports.Transport.{Transport}
 use Rattle.cap_ip.specs.declared.transports.Transport.TheVariants as transports
-use Rattle.cap_join.specs.Arrivals.{events_with_reading}
 use Rattle.cap_join.specs.ByteMap.{completes, joined_header, joined_data}
-use Rattle.cap_join.specs.Fragments.{Piece, piece_of}
+use Rattle.cap_join.specs.Fragments.{Piece}
 use Rattle.cap_join.specs.History.{Event, joined_pieces, open_groups_after}
 use Rattle.cap_join.specs.Joiners.{open_limit}
-use Rattle.cap_join.specs.declared.datagrams.Stamped.{Stamped}
-use Rattle.cap_link.specs.Links.{network_of, is_captured_whole}
-use Rattle.cap_link.specs.Seen.{Carried, ipv4, other_link, not_ipv4, short, cut as ends}
-use Rattle.cap_source.specs.Times.{meta_time}
 use Rattle.cap_merge.specs.Run.{Clocked}
 use Rattle.cap_source.specs.Feed.{Item, packet, refused}
 use Rattle.cap_source.specs.declared.packets.Meta.{Meta}
@@ -55,62 +49,24 @@ joined_of pieces =
     if completes pieces then option_and_then (λ h. complete_of h (joined_data pieces) (length (joined_data pieces)))
     (joined_header pieces) else None
 
--- The datagram that a packet completes, of which that was read, if `group` has the fragments of a fragment's group: the
+-- The datagram that a packet completes, by what it is by itself, if `group` has the fragments of a fragment's group: the
 -- packet is a whole datagram, or the last fragment that was missing.
-abbrev pub datagram_by : Option Fragment → HeaderFields → List ℕ → Stamped → (Piece → List Piece) → Option Complete
-datagram_by None header captured stamped group = complete_of header captured header.data_length
-datagram_by (Some fragment) header captured stamped group = joined_of (group (piece_of header captured stamped))
+abbrev pub datagram_of : Look → (Piece → List Piece) → Option Complete
+datagram_of (plain c) group = None
+datagram_of (datagram header captured) group = complete_of header captured header.data_length
+datagram_of (fragment p) group = joined_of (group p)
 
-abbrev pub datagram_in : Reading → Stamped → (Piece → List Piece) → Option Complete
-datagram_in (found header captured) stamped group = datagram_by header.fragment header captured stamped group
-datagram_in bad stamped group = None
-datagram_in cut stamped group = None
-
--- the same of what a frame carries, of which all was captured or not
-abbrev pub datagram_at : Carried → Bool → Stamped → (Piece → List Piece) → Option Complete
-datagram_at (ipv4 bytes) whole stamped group = datagram_in (read_of bytes whole) stamped group
-datagram_at other_link whole stamped group = None
-datagram_at not_ipv4 whole stamped group = None
-datagram_at short whole stamped group = None
-datagram_at ends whole stamped group = None
-
--- the same at a clock, after some events at a joiner
+-- a fragment's group at a clock, after some events at a joiner
 abbrev pub group_after : Option Stamp → List Event → Piece → List Piece
 group_after clock events p = joined_pieces clock p (open_groups_after open_limit events)
 
-abbrev pub completed_by : Option Fragment → HeaderFields → List ℕ → Option Stamp → Stamped → List Event
-    → Option Complete
-completed_by fragment header captured clock stamped events =
-    datagram_by fragment header captured stamped (group_after clock events)
-
-abbrev pub completed_in : Reading → Option Stamp → Stamped → List Event → Option Complete
-completed_in reading clock stamped events = datagram_in reading stamped (group_after clock events)
-
-abbrev pub completed_at : Carried → Bool → Option Stamp → Stamped → List Event → Option Complete
-completed_at carried whole clock stamped events = datagram_at carried whole stamped (group_after clock events)
-
--- and the events after it, the latest first
-abbrev pub events_at : Carried → Bool → Option Stamp → Stamped → List Event → List Event
-events_at (ipv4 bytes) whole clock stamped events = events_with_reading (read_of bytes whole) clock stamped events
-events_at other_link whole clock stamped events = events
-events_at not_ipv4 whole clock stamped events = events
-events_at short whole clock stamped events = events
-events_at ends whole clock stamped events = events
-
--- what is known of a packet's frame, that has a place in the run
-abbrev pub stamped_of : ℕ → Meta → Stamped
-stamped_of place meta = record { time = meta_time meta; place = place; original = meta.original }
-
 -- the datagram that a packet completes, which has that place in the run and that clock
 unfoldable pub completed : ℕ → List Event → Option Stamp → Meta → List ℕ → Option Complete
-completed place events clock meta frame =
-    completed_at (network_of meta.interface.link frame meta.original) (is_captured_whole frame meta.original) clock
-    (stamped_of place meta) events
+completed place events clock meta frame = datagram_of (look place (taken clock meta frame)) (group_after clock events)
 
+-- and the events after it, the latest first
 unfoldable pub events_after : ℕ → List Event → Option Stamp → Meta → List ℕ → List Event
-events_after place events clock meta frame =
-    events_at (network_of meta.interface.link frame meta.original) (is_captured_whole frame meta.original) clock
-    (stamped_of place meta) events
+events_after place events clock meta frame = events_with_look (look place (taken clock meta frame)) clock events
 
 -- the interface of a written datagram: no link header (LINKTYPE_RAW, 101) and no limit; times as at the packet's own
 abbrev pub raw_interface : Interface → Interface

@@ -1,5 +1,5 @@
 pub mod Datagrams
 pub mod Forms
 pub mod Interfaces
-pub mod PlacedPackets
+pub mod RunPackets
 pub mod Times

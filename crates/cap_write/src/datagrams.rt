@@ -1,22 +1,33 @@
 //! IPv4 datagrams as packets: whole ones, and those that are joined of fragments.
-ghost use Rattle.std.specs.Prelude.{◌≡◌, ◌+◌, ◌≤◌, ◌<◌, ◌++◌, ◌==◌, ◌&&◌, length, List, IsTrue, IsOkUnless, IfOk, OnOk};
-ghost use Rattle.cap_ip.specs.Read.{read_of};
+ghost use Rattle.std.specs.Prelude.{◌≡◌, ◌+◌, ◌≤◌, ◌<◌, ◌^◌, ◌++◌, ◌==◌, ◌&&◌, ◌∷◌, length, List, IsTrue, IsOkUnless};
+ghost use Rattle.std.specs.Prelude.{IfOk, OnOk, IsSome};
+ghost use Rattle.cap_class.specs.Taken.{stamped_of};
+ghost use Rattle.cap_ip.specs.Header.{IsWellFormed};
 ghost use Rattle.cap_ip.specs.Transport.{transport_of};
 ghost use Rattle.cap_ip.specs.Written.{ipv4_header_bytes};
-ghost use Rattle.cap_join.specs.Arrivals.{events_with_reading};
-ghost use Rattle.cap_join.specs.History.{Event};
+ghost use Rattle.cap_join.specs.Fragments.{piece_of};
+ghost use Rattle.cap_join.specs.History.{Event, arrives};
 ghost use Rattle.cap_join.specs.Joiners.{JoinerStandsFor};
-ghost use Rattle.cap_write.specs.inner.Datagrams.{IsFilled, IsShort, JoinerStands, answered_datagram};
-ghost use Rattle.cap_write.specs.inner.PlacedPackets.{stamped_in, whole_in};
-ghost use Rattle.cap_write.specs.Joined.{has_form, complete_of, completed_in, completed, events_after};
+ghost use Rattle.cap_write.specs.inner.Datagrams.{IsFilled, JoinerStands};
+ghost use Rattle.cap_write.specs.inner.RunPackets.{completed_by, events_behind};
+ghost use Rattle.cap_write.specs.Joined.{complete_of, group_after, has_form, joined_of};
 
-use crate::placed_packets::{Joining, PlacedPacket};
 use cap_bytes::Fault;
+use cap_class::{Seen, look, stamped_of};
 use cap_ip::{Header, Transport, transport};
-use cap_join::{Arrived, Joiner, Stamped};
-use cap_link::{Network, network};
-use cap_source::Meta;
-use cap_time::Stamp;
+use cap_join::{Joiner, Put};
+use cap_merge::RunPacket;
+
+/// A run whose datagrams are being joined: a joiner, and a buffer for a datagram.
+#[derive(Drop)]
+pub(crate) struct Joining {
+    /// The joiner.
+    pub joiner: Joiner,
+    /// The bytes of the datagram that was completed last.
+    pub packet: Vec<u8>,
+    /// The place in the run of the packet that comes next, from 0.
+    pub place: u64,
+}
 
 // Appends bytes.
 fn append(packet: &mut Vec<u8>, bytes: &[u8]) -> Result<(), Fault>
@@ -81,86 +92,70 @@ fn fill_complete(
     Ok(true)
 }
 
-// Puts the datagram that a joiner answered into the packet, if it is complete.
-fn fill_answered(packet: &mut Vec<u8>, arrived: Arrived<'_>) -> Result<bool, Fault>
-    requires short { IsShort arrived }
-    ensures filled { IfOk result (λ some. IsFilled (answered_datagram arrived.entry) some packet.new.items) }
-    ensures short { IfOk result (λ some. IsTrue some → length packet.new.items ≤ 65535) }
-    ensures fault { IsOkUnless result Fault.Memory }
-{
-    match arrived {
-        Arrived::Bad => Ok(false),
-        Arrived::Cut => Ok(false),
-        Arrived::Whole(header, captured) => {
-            fill_complete(packet, &header, captured, header.data_length())
-        }
-        Arrived::Kept => Ok(false),
-        Arrived::Joined(datagram) => {
-            let bytes = datagram.payload.as_slice();
-            fill_complete(packet, &datagram.header, bytes, bytes.len() as u32)
-        }
-    }
-}
-
-// What is known of a packet's frame.
-fn stamped_of(run: &PlacedPacket<'_>) -> Stamped
-    ensures { result ≡ stamped_in run.now }
-{
-    Stamped {
-        time: run.meta.time(),
-        place: run.place,
-        original: run.meta.original,
-    }
-}
-
-// Takes the IPv4 packet that a packet of a run carries, and puts the datagram that it completes, if it does, into the
-// room.
-fn take_ipv4(joining: &mut Joining, run: &PlacedPacket<'_>, bytes: &[u8]) -> Result<bool, Fault>
+// Puts a fragment, and the datagram that it completes into `joining.packet`, if it does.
+fn take_fragment(
+    joining: &mut Joining,
+    run: RunPacket<'_>,
+    header: &Header,
+    bytes: &[u8],
+) -> Result<bool, Fault>
+    requires formed { IsWellFormed header.now }
+    requires fragment { IsSome header.now.fragment }
+    requires whole { length bytes.now ≡ header.now.data_length }
     requires stands { JoinerStands joining.old.joiner }
-    requires place { joining.old.joiner.next ≤ run.now.place }
+    requires place { joining.old.joiner.next ≤ joining.old.place }
+    requires last { joining.old.place < 2 ^ 63 }
     ensures filled { IfOk result (λ some. (events : List Event) → JoinerStandsFor joining.old.joiner events →
-        IsFilled (completed_in (read_of bytes.now (whole_in run.now)) run.now.clock (stamped_in run.now) events) some
+        IsFilled (joined_of (group_after run.entry.clock.now events
+        (piece_of header.now bytes.now (stamped_of joining.old.place run.entry.meta.now)))) some
         joining.new.packet.items) }
     ensures stands { OnOk result ((events : List Event) → JoinerStandsFor joining.old.joiner events →
-        JoinerStandsFor joining.new.joiner (events_with_reading (read_of bytes.now (whole_in run.now)) run.now.clock
-        (stamped_in run.now) events)) }
-    ensures next { OnOk result (joining.new.joiner.next ≤ run.now.place + 1) }
+        JoinerStandsFor joining.new.joiner (arrives run.entry.clock.now
+        (piece_of header.now bytes.now (stamped_of joining.old.place run.entry.meta.now)) ∷ events)) }
+    ensures next { OnOk result (joining.new.joiner.next ≤ joining.old.place + 1) }
     ensures short { IfOk result (λ some. IsTrue some → length joining.new.packet.items ≤ 65535) }
+    ensures same { joining.new.place ≡ joining.old.place }
     ensures fault { IsOkUnless result Fault.Memory }
 {
-    let whole = run.frame.len() >= run.meta.original as usize;
-    match joining
-        .joiner
-        .take(run.clock, bytes, whole, stamped_of(run))
-    {
-        Ok(arrived) => fill_answered(&mut joining.packet, arrived),
+    let stamped = stamped_of(joining.place, run.meta.time(), run.meta);
+    match joining.joiner.put(*run.clock, header, bytes, stamped) {
+        Ok(Put::Kept) => Ok(false),
+        Ok(Put::Joined(datagram)) => {
+            let data = datagram.payload.as_slice();
+            fill_complete(
+                &mut joining.packet,
+                &datagram.header,
+                data,
+                data.len() as u32,
+            )
+        }
         Err(_) => Err(Fault::Memory),
     }
 }
 
-/// Takes a packet of a run, and puts the datagram that it completes into `joining.packet`. Answers whether there
+/// Takes a packet of a run, and puts the datagram that it completes into `joining.packet`. Returns whether there
 /// is one: a whole datagram, or one whose last missing fragment this is, if all of its data was captured and has
-/// the form of its protocol. `Memory` comes if a growth was refused.
+/// the form of its protocol. Returns `Memory` if a growth was refused.
 #[tactic(auto, unfolding(crate::specs::Joined::completed, crate::specs::Joined::events_after))]
-pub(crate) fn take_packet(joining: &mut Joining, run: &PlacedPacket<'_>) -> Result<bool, Fault>
+pub(crate) fn take_packet(joining: &mut Joining, run: RunPacket<'_>) -> Result<bool, Fault>
     requires stands { JoinerStands joining.old.joiner }
-    requires place { joining.old.joiner.next ≤ run.now.place }
+    requires place { joining.old.joiner.next ≤ joining.old.place }
+    requires last { joining.old.place < 2 ^ 63 }
     ensures filled { IfOk result (λ some. (events : List Event) → JoinerStandsFor joining.old.joiner events →
-        IsFilled (completed run.now.place events run.now.clock run.now.meta.now run.now.frame.now) some
-        joining.new.packet.items) }
+        IsFilled (completed_by joining.old.place run.entry events) some joining.new.packet.items) }
     ensures stands { OnOk result ((events : List Event) → JoinerStandsFor joining.old.joiner events →
-        JoinerStandsFor joining.new.joiner
-        (events_after run.now.place events run.now.clock run.now.meta.now run.now.frame.now)) }
-    ensures next { OnOk result (joining.new.joiner.next ≤ run.now.place + 1) }
+        JoinerStandsFor joining.new.joiner (events_behind joining.old.place run.entry events)) }
+    ensures next { OnOk result (joining.new.joiner.next ≤ joining.old.place + 1) }
     ensures short { IfOk result (λ some. IsTrue some → length joining.new.packet.items ≤ 65535) }
+    ensures same { joining.new.place ≡ joining.old.place }
     ensures fault { IsOkUnless result Fault.Memory }
 {
-    let meta = run.meta;
-    match network(meta.interface.link, run.frame, meta.original) {
-        Network::Ipv4(bytes) => take_ipv4(joining, run, bytes),
-        Network::OtherLink => Ok(false),
-        Network::NotIpv4 => Ok(false),
-        Network::Short => Ok(false),
-        Network::Cut => Ok(false),
+    match look(run.meta, run.frame) {
+        Seen::Plain(_) => Ok(false),
+        Seen::Datagram(header, captured) => {
+            joining.joiner.flush(header.key());
+            fill_complete(&mut joining.packet, &header, captured, header.data_length())
+        }
+        Seen::Fragment(header, bytes) => take_fragment(joining, run, &header, bytes),
     }
 }

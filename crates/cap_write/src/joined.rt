@@ -11,18 +11,17 @@ ghost use Rattle.cap_source.specs.inner.Walk.{Walks, SameEndings};
 ghost use Rattle.cap_source.specs.inner.Growing.{IfMemory, IsAtPacket};
 ghost use Rattle.cap_write.specs.inner.Datagrams.{JoinerStands};
 ghost use Rattle.cap_write.specs.inner.Forms.{IsFew, form_behind, form_refusal, form_stop, form_text, form_state};
-ghost use Rattle.cap_write.specs.Joined.{datagram_meta, events_after, joined_items, joined_bytes, joined_refusal};
+ghost use Rattle.cap_write.specs.Joined.{datagram_meta, joined_items, joined_bytes, joined_refusal};
 ghost use Rattle.cap_write.specs.PcapRun.{joined_pcap_bytes, joined_pcap_refusal};
-ghost use Rattle.cap_write.specs.inner.PlacedPackets.{items_of_placed};
+ghost use Rattle.cap_write.specs.inner.RunPackets.{events_behind, items_by};
 
-use crate::datagrams::take_packet;
+use crate::datagrams::{Joining, take_packet};
 use crate::forms::{Form, end_of, put_in};
 use crate::interfaces::{Origins, units_of};
-use crate::placed_packets::{Joining, PlacedPacket};
 use cap_blocks::put_section;
 use cap_bytes::{Fault, Order, Sink};
 use cap_join::Joiner;
-use cap_merge::{Merged, next_of};
+use cap_merge::{Merged, RunPacket};
 use cap_source::{Meta, PacketFeed};
 use cap_time::Interface;
 use std::alloc::Global;
@@ -57,27 +56,29 @@ fn put_completed<W: Sink>(
     form: &mut Form,
     joining: &mut Joining,
     order: Order,
-    run: &PlacedPacket<'_>,
+    run: RunPacket<'_>,
     writer: &mut W,
 ) -> Result<(), Fault>
     requires limit { IsFew (form_state form.old) }
     requires stands { JoinerStands joining.old.joiner }
-    requires place { joining.old.joiner.next ≤ run.now.place }
+    requires place { joining.old.joiner.next ≤ joining.old.place }
+    requires last { joining.old.place < 2 ^ 63 }
     ensures text { IsTrue (W.tells_held writer.old) → (events : List Event) → JoinerStandsFor joining.old.joiner events
-        → Prints (form_text order (form_state form.old) (items_of_placed run.now events))
-        (form_stop (form_state form.old) (items_of_placed run.now events))
+        → Prints (form_text order (form_state form.old) (items_by joining.old.place run.entry events))
+        (form_stop (form_state form.old) (items_by joining.old.place run.entry events))
         (W.held writer.old) result (W.held writer.new) }
     ensures form { OnOk result ((events : List Event) → JoinerStandsFor joining.old.joiner events
-        → (form_state form.new ≡ form_behind (form_state form.old) (items_of_placed run.now events))
-        × (form_stop (form_state form.old) (items_of_placed run.now events) ≡ None)) }
+        → (form_state form.new ≡ form_behind (form_state form.old) (items_by joining.old.place run.entry events))
+        × (form_stop (form_state form.old) (items_by joining.old.place run.entry events) ≡ None)) }
     ensures stands { OnOk result ((events : List Event) → JoinerStandsFor joining.old.joiner events
         → JoinerStandsFor joining.new.joiner
-        (events_after run.now.place events run.now.clock run.now.meta.now run.now.frame.now)) }
-    ensures next { OnOk result (joining.new.joiner.next ≤ run.now.place + 1) }
+        (events_behind joining.old.place run.entry events)) }
+    ensures next { OnOk result (joining.new.joiner.next ≤ joining.old.place + 1) }
+    ensures same { joining.new.place ≡ joining.old.place }
     ensures limit { IsFew (form_state form.new) }
     ensures writer { WriterKeeps (writer_of W.Sink writer.old) (is_write result) (writer_of W.Sink writer.new) }
     ensures read { IsReadFault result → ⊥ }
-    ensures memory { IfMemory result (IsSome run.now.meta.now.units) }
+    ensures memory { IfMemory result (IsSome run.entry.meta.now.units) }
 {
     units_of(run.meta)?;
     if take_packet(joining, run)? {
@@ -111,20 +112,14 @@ fn put_joined<F: PacketFeed, W: Sink>(
     let mut joining = Joining {
         joiner: Joiner::new(alloc),
         packet: Vec::new(alloc),
+        place: 0,
     };
-    let mut place: u64 = 0;
     // 32 files at most, of fewer than 2^40 packets each: so the place stays below 2^63
     let _ = merged.files();
-    while let Some(meta) = next_of(merged)? {
-        let run = PlacedPacket {
-            place,
-            clock: merged.clock(),
-            meta: &meta,
-            frame: merged.frame(),
-        };
-        put_completed(form, &mut joining, order, &run, writer)?;
+    while merged.has_packet()? {
+        put_completed(form, &mut joining, order, merged.next_packet(), writer)?;
         merged.pass();
-        place += 1;
+        joining.place += 1;
     }
     end_of(form)
 }

@@ -11,7 +11,6 @@ mod merged;
 mod packets;
 mod pcap;
 mod pcapng;
-mod placed_packets;
 
 pub use crate::files::{to_pcap, to_pcapng};
 pub use crate::joined::{write_joined, write_joined_pcap};

@@ -6,7 +6,7 @@ use Rattle.cap_bytes.specs.declared.faults.Tail.{Tail}
 use Rattle.cap_merge.specs.inner.Readers.{IsUnreadRun, ReaderFacts}
 use Rattle.cap_talks.specs.inner.table.Stepping.{TableSteps, StepKeeps, TableState, TableStands, endings_so_far}
 use Rattle.cap_talks.specs.inner.table.TableView.{table_of}
-use Rattle.cap_talks.specs.table.Taken.{Taken}
+use Rattle.cap_class.specs.Taken.{Taken}
 use Rattle.cap_talks.specs.table.TakenText.{text_of}
 use Rattle.cap_talks.specs.declared.table.tables.Step.{Step}
 use Rattle.cap_talks.specs.declared.table.tables.Step.TheVariants.{Took, Done}

@@ -11,9 +11,9 @@ use Rattle.cap_join.specs.Fragments.{Piece}
 use Rattle.cap_join.specs.Joiners.{open_limit}
 use Rattle.cap_join.specs.Completed.{completed_of}
 use Rattle.cap_source.specs.declared.packets.Meta.{Meta}
-use Rattle.cap_talks.specs.table.Taken.{Taken, Look, plain, datagram, fragment, look, events_of}
-use Rattle.cap_talks.specs.declared.table.classes.Class.{Class}
-use Rattle.cap_talks.specs.declared.table.classes.Class.TheVariants as class
+use Rattle.cap_class.specs.Taken.{Taken, Look, plain, datagram, fragment, look, taken, events_of}
+use Rattle.cap_class.specs.declared.classes.Class.{Class}
+use Rattle.cap_class.specs.declared.classes.Class.TheVariants as class
 use Rattle.cap_talks.specs.declared.table.classes.ClassCounts.{ClassCounts}
 
 -- a datagram's class, by what its data says of its ports
@@ -51,7 +51,7 @@ classes_in groups (x ∷ xs) = class_by groups (look (length xs) x) ∷ classes_
 
 -- the class of a packet in a run of it alone, where no group is completed
 unfoldable pub lone_class : Meta → List ℕ → Class
-lone_class meta frame = class_by [] (look 0 (record { clock = None; meta = meta; frame = frame }))
+lone_class meta frame = class_by [] (look 0 (taken None meta frame))
 
 -- the groups that were completed among some packets
 abbrev pub groups_of : List Taken → List (List Piece)

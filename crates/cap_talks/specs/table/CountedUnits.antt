@@ -23,8 +23,8 @@ use Rattle.cap_talks.specs.declared.table.units.TimedFrame.{TimedFrame}
 use Rattle.cap_time.specs.declared.stamps.Stamp.{Stamp}
 use Rattle.cap_talks.specs.table.Classes.{group_class, groups_of, is_class}
 use Rattle.cap_join.specs.Completed.{if_complete}
-use Rattle.cap_talks.specs.table.Taken.{Taken, Look, plain, datagram, fragment, look, events_of, stamped_of}
-use Rattle.cap_talks.specs.declared.table.classes.Class.TheVariants as class
+use Rattle.cap_class.specs.Taken.{Taken, Look, plain, datagram, fragment, look, events_of, stamped_of}
+use Rattle.cap_class.specs.declared.classes.Class.TheVariants as class
 
 -- a frame, if it has a time
 abbrev pub timed_frame : Option Stamped → Option TimedFrame

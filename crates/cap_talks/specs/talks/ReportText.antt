@@ -7,7 +7,7 @@ use Rattle.cap_print.specs.declared.forms.Form.TheVariants.{Text}
 use Rattle.cap_source.specs.Feed.{Item, packet, refused}
 use Rattle.cap_source.specs.declared.feeds.FileEnd.{FileEnd}
 use Rattle.cap_time.specs.declared.stamps.Stamp.{Stamp}
-use Rattle.cap_talks.specs.table.Taken.{Taken}
+use Rattle.cap_class.specs.Taken.{Taken}
 use Rattle.cap_talks.specs.table.CountedUnits.{is_limit_at, limit_refusal}
 use Rattle.cap_talks.specs.table.TakenText.{text_of_in}
 use Rattle.cap_talks.specs.talks.InfoText.{or_else}

@@ -1,36 +1,19 @@
 //! Units that packets complete, and how they are added to the conversations.
 ghost use Rattle.std.specs.Prelude.{◌≡◌, ◌+◌, ◌++◌, ◌<◌, ◌≤◌, ◌^◌, List, length, IfSome, OnOk, OnErr};
 ghost use Rattle.cap_ip.specs.Transport.{transport_of};
-ghost use Rattle.cap_source.specs.Times.{meta_time};
 ghost use Rattle.cap_talks.specs.table.Rows.{TalksStandFor, IsUnitInOrder, frames_in, bytes_in};
 ghost use Rattle.cap_talks.specs.table.Talks.{frames_of, units_bytes};
 ghost use Rattle.cap_talks.specs.declared.table.units.CountedUnit.{CountedUnit};
 ghost use Rattle.cap_talks.specs.inner.table.Adding.{datagram_unit, datagram_class, is_over};
 ghost use Rattle.cap_talks.specs.table.Classes.{class_of};
-ghost use Rattle.cap_talks.specs.table.Taken.{stamped_of};
 ghost use Rattle.cap_talks.specs.inner.table.Tallies.{LimitBy};
 ghost use Rattle.cap_talks.specs.table.CountedUnits.{listed, timed_frame, whole_unit};
 
-use crate::table::classes::Class;
 use crate::table::talks::{Talks, TalksFault};
 use crate::table::units::{CountedUnit, TimedFrame, ends_of};
+use cap_class::Class;
 use cap_ip::{Header, Transport, transport};
 use cap_join::{Datagram, Stamped};
-use cap_source::Meta;
-use cap_time::Stamp;
-
-/// What is known of a packet's frame, which has that place in the run and that time.
-#[inline(always)]
-pub(crate) fn stamped_of(place: u64, time: Option<Stamp>, meta: &Meta) -> Stamped
-    requires time { time ≡ meta_time meta.now }
-    ensures { result ≡ stamped_of place meta.now }
-{
-    Stamped {
-        time,
-        place,
-        original: meta.original,
-    }
-}
 
 // A frame, if it has a time.
 fn timed_frame(frame: Option<Stamped>) -> Option<TimedFrame>

@@ -14,7 +14,7 @@ ghost use Rattle.cap_talks.specs.inner.table.Stepping.{TableStands, StepKeeps, T
 ghost use Rattle.cap_talks.specs.inner.table.Stepping.{endings_so_far};
 ghost use Rattle.cap_talks.specs.table.CountedUnits.{limit_refusal};
 ghost use Rattle.cap_talks.specs.table.TakenText.{text_of, text_of_in};
-ghost use Rattle.cap_talks.specs.table.Taken.{Taken};
+ghost use Rattle.cap_class.specs.Taken.{Taken};
 
 use crate::counts::{Counted, Counts, put_files};
 use crate::table::report_lines::total_line_in;

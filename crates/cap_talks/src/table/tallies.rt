@@ -6,10 +6,10 @@ ghost use Rattle.cap_bytes.specs.Device.{WriterKeeps, writer_of};
 ghost use Rattle.cap_bytes.specs.Printing.{Prints, is_write};
 ghost use Rattle.cap_join.specs.Fragments.{piece_of};
 ghost use Rattle.cap_join.specs.Joiners.{most_bytes};
-ghost use Rattle.cap_talks.specs.inner.table.Looking.{is_datagram, is_plain, taken_of};
+ghost use Rattle.cap_talks.specs.inner.table.Looking.{is_plain, taken_of};
 ghost use Rattle.cap_print.specs.Facts.{line_in};
 ghost use Rattle.cap_talks.specs.table.TakenText.{frames_facts, joined_facts};
-ghost use Rattle.cap_talks.specs.table.Taken.{Taken, datagram, fragment, look, stamped_of};
+ghost use Rattle.cap_class.specs.Taken.{Taken, datagram, fragment, look, plain, stamped_of};
 ghost use Rattle.cap_talks.specs.inner.table.Tallies.{TallyStands, LimitBy, one_if_waiting, tally_text_in};
 ghost use Rattle.cap_talks.specs.inner.table.Tallies.{counted_one, waiting_bytes};
 ghost use Rattle.cap_talks.specs.inner.table.Tallies.{Looks};
@@ -19,13 +19,13 @@ ghost use Rattle.cap_talks.specs.declared.table.talks.TalksFault.TheVariants.{Me
 ghost use Rattle.cap_talks.specs.table.Classes.{sum_of};
 ghost use Rattle.cap_talks.specs.table.CountedUnits.{is_limit_at};
 
-use crate::table::adding::{add_unit, class_of, joined_class, joined_unit, stamped_of, whole_unit};
-use crate::table::classes::{Class, ClassCounts};
-use crate::table::looks::{Seen, look};
+use crate::table::adding::{add_unit, class_of, joined_class, joined_unit, whole_unit};
+use crate::table::classes::ClassCounts;
 use crate::table::report_lines::{frames_line_in, joined_line_in};
 use crate::table::talk_lines::put_talks;
 use crate::table::talks::{Talks, TalksFault};
 use cap_bytes::{Fault, Sink, put_all};
+use cap_class::{Class, Seen, look, stamped_of};
 use cap_ip::{Header, transport};
 use cap_join::{Datagram, Joiner, Put, Stamped};
 use cap_merge::RunPacket;
@@ -131,11 +131,9 @@ impl Tally {
         }
     }
 
-    // Takes a packet that is a fragment, while no datagram waits. It is counted, or it completes a datagram, which
-    // waits from then on; the answer is whether one does. It isn't inlined, so that what it answers takes no room where
-    // whole datagrams are taken.
-    #[inline(never)]
-    fn take_fragment(
+    // Puts a fragment, while no datagram waits: counts it, or completes a datagram, which waits from then on. Returns
+    // whether one does.
+    fn put_fragment(
         &mut self,
         packet: RunPacket<'_>,
         header: Header,
@@ -204,31 +202,19 @@ impl Tally {
         Ok(())
     }
 
-    // Takes a packet that is no whole datagram, while none is pending: counts it, or completes a datagram, which
-    // becomes pending. Returns whether one is. It isn't inlined, and looks at the packet once more, so that what it
-    // takes has no room where whole datagrams are taken.
-    #[inline(never)]
-    fn take_other(&mut self, packet: RunPacket<'_>) -> Result<bool, TalksFault>
+    // Counts a packet that is neither a datagram nor a fragment, while no datagram waits.
+    #[inline(always)]
+    fn count_plain(&mut self, packet: RunPacket<'_>, class: Class)
         requires none { self.old.waiting ≡ None }
-        requires other { is_datagram (look 0 (taken_of packet)) ≡ false }
         requires few { self.old.place < 2 ^ 62 }
-        ensures looks { IfOk result (λ waits. Looks self.old (taken_of packet.entry) waits self.new) }
-        ensures waits { IfOk result (λ waits. WaitsIf self.new.waiting waits) }
-        ensures place { IfOk result (λ waits. self.new.place ≡ (if waits then self.old.place else self.old.place + 1)) }
-        ensures fault { IfErr result (λ e. e ≡ Memory) }
-        ensures grows { OnErr result ((xs : List Taken) → TallyStands self.old xs (Some (taken_of packet.entry))
-            → is_plain (look (length xs) (taken_of packet.entry)) ≡ false) }
-        ensures err { OnErr result (self.new ≡ self.old) }
+        requires look { (place : ℕ) → look place (taken_of packet) ≡ plain class }
+        ensures looks { Looks self.old (taken_of packet.entry) false self.new }
+        ensures none { self.new.waiting ≡ None }
+        ensures place { self.new.place ≡ self.old.place + 1 }
     {
-        match look(packet.meta, packet.frame) {
-            Seen::Plain(class) => {
-                self.classes = with_frames(self.classes, class, 1);
-                self.place += 1;
-                Ok(false)
-            }
-            Seen::Datagram(_, _) => unreachable!(),
-            Seen::Fragment(header, bytes) => self.take_fragment(packet, header, bytes),
-        }
+        let _ = packet;
+        self.classes = with_frames(self.classes, class, 1);
+        self.place += 1;
     }
 
     // Counts the datagram that waits, and with it the packet that completed it.
@@ -255,6 +241,38 @@ impl Tally {
         self.joined += counted_one(class);
         self.waiting = None;
         self.place += 1;
+        Ok(())
+    }
+
+    // Takes a fragment, while no datagram waits, and counts the datagram that it completes, if it does. It isn't inlined, so
+    // that what it returns takes no room where whole datagrams are taken.
+    #[inline(never)]
+    fn take_fragment(
+        &mut self,
+        packet: RunPacket<'_>,
+        header: Header,
+        bytes: &[u8],
+    ) -> Result<(), TalksFault>
+        requires none { self.old.waiting ≡ None }
+        requires few { self.old.place < 2 ^ 62 }
+        requires fragment { IsSome header.fragment }
+        requires whole { length bytes.now ≡ header.data_length }
+        requires look { (place : ℕ) → look place (taken_of packet)
+            ≡ fragment (piece_of header bytes.now (stamped_of place packet.meta.now)) }
+        ensures stands { OnOk result (Looks self.old (taken_of packet.entry) false self.new) }
+        ensures limit { IfErr result (λ e. (xs : List Taken) → TallyStands self.old xs (Some (taken_of packet.entry))
+            → LimitBy (Err e) (is_limit_at xs (taken_of packet.entry))) }
+        ensures grows { OnErr result ((xs : List Taken) → TallyStands self.old xs (Some (taken_of packet.entry))
+            → is_plain (look (length xs) (taken_of packet.entry)) ≡ false) }
+        ensures none { OnOk result (self.new.waiting ≡ None) }
+        ensures place { OnOk result (self.new.place ≡ self.old.place + 1) }
+        ensures same { OnErr result (self.new.place ≡ self.old.place) }
+        ensures err { OnErr result ((xs : List Taken) → TallyStands self.old xs (Some (taken_of packet.entry))
+            → TallyStands self.new xs (Some (taken_of packet.entry))) }
+    {
+        if self.put_fragment(packet, header, bytes)? {
+            return self.take_waiting();
+        }
         Ok(())
     }
 
@@ -285,13 +303,14 @@ impl Tally {
         if self.is_waiting() {
             return self.take_waiting();
         }
-        if let Seen::Datagram(header, captured) = look(packet.meta, packet.frame) {
-            return self.take_datagram(packet, time, header, captured);
+        match look(packet.meta, packet.frame) {
+            Seen::Plain(class) => {
+                self.count_plain(packet, class);
+                Ok(())
+            }
+            Seen::Datagram(header, captured) => self.take_datagram(packet, time, header, captured),
+            Seen::Fragment(header, bytes) => self.take_fragment(packet, header, bytes),
         }
-        if self.take_other(packet)? {
-            return self.take_waiting();
-        }
-        Ok(())
     }
 
     // Whether a joined datagram waits for its conversation.

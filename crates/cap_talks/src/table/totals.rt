@@ -3,8 +3,8 @@ ghost use Rattle.std.specs.Prelude.{◌≡◌, ◌+◌, ◌-◌, ◌≤◌, ◌<
 ghost use Rattle.std.specs.Prelude.{slice_index_or, slice_set, if◌then◌else◌};
 ghost use Rattle.cap_source.specs.Times.{meta_time};
 ghost use Rattle.cap_talks.specs.counts.Counting.{counted, with_packet};
-ghost use Rattle.cap_talks.specs.inner.table.Looking.{taken};
-ghost use Rattle.cap_talks.specs.table.Taken.{Taken};
+ghost use Rattle.cap_class.specs.Taken.{taken};
+ghost use Rattle.cap_class.specs.Taken.{Taken};
 ghost use Rattle.cap_talks.specs.inner.table.Totals.{TotalsStand, is_room};
 ghost use Rattle.cap_time.specs.declared.stamps.Stamp.{Stamp};
 

@@ -9,7 +9,7 @@ use Rattle.cap_talks.specs.table.Units.{ends_of}
 use Rattle.cap_talks.specs.declared.table.units.CountedUnit.{CountedUnit}
 use Rattle.cap_talks.specs.table.Classes.{class_of}
 use Rattle.cap_talks.specs.table.CountedUnits.{timed_frame, unit_of}
-use Rattle.cap_talks.specs.declared.table.classes.Class.{Class}
+use Rattle.cap_class.specs.declared.classes.Class.{Class}
 
 -- the unit that a joined datagram is, and its class
 unfoldable pub datagram_unit : Datagram → Option CountedUnit

@@ -14,7 +14,7 @@ use Rattle.cap_time.specs.declared.stamps.Stamp.{Stamp}
 use Rattle.cap_talks.specs.table.CountedUnits.{is_limit_at}
 use Rattle.cap_talks.specs.table.CountedUnits.{limit_refusal}
 use Rattle.cap_talks.specs.inner.table.Looking.{is_plain}
-use Rattle.cap_talks.specs.table.Taken.{Taken, look}
+use Rattle.cap_class.specs.Taken.{Taken, look}
 use Rattle.cap_talks.specs.inner.table.Tallies.{TallyState, TallyStands}
 use Rattle.cap_talks.specs.inner.table.Totals.{TotalsState, TotalsStand}
 use Rattle.cap_talks.specs.declared.table.tables.Step.{Step}

@@ -16,10 +16,10 @@ use Rattle.cap_talks.specs.table.Rows as talks
 use Rattle.cap_talks.specs.table.Classes.{classes, counts_of, is_class}
 use Rattle.cap_talks.specs.table.TakenText.{frames_facts, joined_facts}
 use Rattle.cap_talks.specs.table.TalkLines.{talk_texts_in, talks_facts}
-use Rattle.cap_talks.specs.table.Taken.{Taken, fragment, look, events_of}
+use Rattle.cap_class.specs.Taken.{Taken, fragment, look, events_of}
 use Rattle.cap_talks.specs.table.CountedUnits.{counted_units, joined_in, is_limit_at}
-use Rattle.cap_talks.specs.declared.table.classes.Class.{Class}
-use Rattle.cap_talks.specs.declared.table.classes.Class.TheVariants as class
+use Rattle.cap_class.specs.declared.classes.Class.{Class}
+use Rattle.cap_class.specs.declared.classes.Class.TheVariants as class
 use Rattle.cap_talks.specs.declared.table.classes.ClassCounts.{ClassCounts}
 use Rattle.cap_talks.specs.declared.table.talks.TalksFault.{TalksFault}
 use Rattle.cap_talks.specs.declared.table.talks.TalksFault.TheVariants as faults

@@ -3,7 +3,7 @@ use Rattle.std.specs.Prelude.{◌≡◌, ℕ, ◌+◌, ◌*◌, ◌^◌, ◌&&�
 use Rattle.std.specs.List.{AllByRecursion, range_with_len}
 use Rattle.cap_talks.specs.counts.Counting.{counted, are_in_order}
 use Rattle.cap_talks.specs.table.TakenText.{metas_of, taken_bytes, truncated_of}
-use Rattle.cap_talks.specs.table.Taken.{Taken}
+use Rattle.cap_class.specs.Taken.{Taken}
 use Rattle.cap_talks.specs.declared.counts.counts.Counts.{Counts}
 
 -- The counts of each file, by number from 1; how many packets there are, their bytes, and how many are truncated.

@@ -8,7 +8,7 @@ use Rattle.cap_write.proofs.joined.put_joined.Given as goal
 abbrev pub invariant-loop-joining : goal.invariant-loop-joining
 invariant-loop-joining g l =
     Joining l.order (parts_of l.fn.merged) (parts_of l.merged) (form_state l.fn.form)
-    (form_state l.form) l.joining.joiner l.place
+    (form_state l.form) l.joining.joiner l.joining.place
     (g.W.Device.has_failed l.fn.writer) (g.W.Device.has_failed l.writer)
     (record {
       told = g.W.Sink.tells_held l.fn.writer;

@@ -5,9 +5,9 @@ use Rattle.cap_merge.specs.inner.MergedLaws.{merged-is-feed}
 use Rattle.cap_merge.specs.Parts.{merged_feed}
 use Rattle.cap_merge.specs.inner.View.{parts_of}
 use Rattle.cap_source.specs.declared.feeds.FeedHeld.{FeedHeld}
-use Rattle.cap_talks.specs.inner.table.Looking.{taken}
+use Rattle.cap_class.specs.Taken.{taken}
 use Rattle.cap_talks.specs.inner.table.Stepping.{next_taken, clocked}
-use Rattle.cap_talks.specs.table.Taken.{Taken}
+use Rattle.cap_class.specs.Taken.{Taken}
 use Rattle.cap_talks.specs.inner.table.Tallies.{LimitBy, TallyStands}
 use Rattle.cap_talks.specs.table.CountedUnits.{is_limit_at}
 use Rattle.cap_talks.proofs.Stepping.{known-packet, known-end, faulted, stands-asked, next-is, first-asked, run-packet}

@@ -1,7 +1,7 @@
 use Rattle.std.proofs.Common.{◌≡◌, false, ◌∷◌, List, length, Some, Err, arith}
 use Rattle.std.specs.Prelude.{OnOk, OnErr, Result, Ok, Option}
 use Rattle.cap_talks.specs.inner.table.Looking.{is_plain}
-use Rattle.cap_talks.specs.table.Taken.{Taken, look}
+use Rattle.cap_class.specs.Taken.{Taken, look}
 use Rattle.cap_talks.specs.inner.table.Tallies.{TallyState, TallyStands, Looks}
 use Rattle.cap_talks.specs.table.CountedUnits.{is_limit_at}
 use Rattle.cap_talks.specs.declared.table.talks.TalksFault.{TalksFault}
@@ -19,16 +19,6 @@ taken_on old mid new x (Err e) f h = tt
 pub returns-then-is_waiting-clause-stands : goal.returns-then-is_waiting-clause-stands
 returns-then-is_waiting-clause-stands c = grind (arith, taken_on, c.take_waiting.ensures.stands)
 
-pub returns-then-branch-clause-stands : goal.returns-then-branch-clause-stands
-returns-then-branch-clause-stands c =
-    grind (
-      arith,
-      taken_on,
-      c.if-branch.true,
-      c.in_ok-take_other.ensures.looks,
-      c.take_waiting-then-branch.ensures.stands,
-    )
-
 -- a packet of which something is kept
 kept_on : (old mid : TallyState) (x : Taken) (result : Result (Unit {0}) TalksFault)
     → ((xs : List Taken) → TallyStands old xs (Some x) → TallyStands mid xs (Some x))
@@ -39,7 +29,3 @@ kept_on old mid x (Err e) f h = λ xs s. h xs x (f xs s)
 
 pub returns-then-is_waiting-clause-grows : goal.returns-then-is_waiting-clause-grows
 returns-then-is_waiting-clause-grows c = grind (arith, kept_on, c.take_waiting.ensures.grows)
-
-pub returns-then-branch-clause-grows : goal.returns-then-branch-clause-grows
-returns-then-branch-clause-grows c =
-    grind (arith, kept_on, c.if-branch.true, c.in_ok-take_other.ensures.looks, c.take_waiting-then-branch.ensures.grows)

@@ -1,100 +1,39 @@
-use Rattle.std.proofs.Common.{rules, ℕ, ◌∷◌, ap, ◌∙◌, subst, arith}
-use Rattle.cap_join.specs.inner.Fitting.{FitsPut}
-use Rattle.cap_join.specs.Fragments.{piece_of}
-use Rattle.cap_join.specs.History.{arrives, joined_pieces, open_groups_after}
-use Rattle.cap_join.specs.Joiners.{IsAnswer, open_limit}
-use Rattle.cap_join.specs.Joiners as joiners
-use Rattle.cap_talks.specs.inner.table.Looking.{taken_of}
-use Rattle.cap_talks.specs.table.Taken.{stamped_of}
-use Rattle.cap_talks.specs.inner.table.Tallies.{TallyState}
-use Rattle.cap_talks.specs.inner.table.TallyView.{tally_view}
-use Rattle.cap_talks.proofs.Exits.{sum-taken, looks-kept, sound-kept, looks-waiting, sound-waiting, kept-of, joined-of}
+use Rattle.std.proofs.Common.{◌≡◌, false, ◌∷◌, List, length, Some, Err, arith}
+use Rattle.std.specs.Prelude.{OnOk, OnErr, Result, Ok, Option}
+use Rattle.cap_talks.specs.inner.table.Looking.{is_plain}
+use Rattle.cap_class.specs.Taken.{Taken, look}
+use Rattle.cap_talks.specs.inner.table.Tallies.{TallyState, TallyStands, Looks}
+use Rattle.cap_talks.specs.table.CountedUnits.{is_limit_at}
+use Rattle.cap_talks.specs.declared.table.talks.TalksFault.{TalksFault}
 use Rattle.cap_talks.proofs.table.tallies.Tally.take_fragment.Goals as goal
 
-pub with_frames-self-inside-requires : goal.with_frames-self-inside-requires
-with_frames-self-inside-requires c = search (rules, sum-taken)
+-- a datagram that waited, of the packet
+taken_on : (old mid new : TallyState) (x : Taken) (result : Result (Unit {0}) TalksFault)
+    → ((xs : List Taken) → TallyStands old xs (Some x) → TallyStands mid xs (Some x))
+    → OnOk result ((xs : List Taken) (y : Taken) → TallyStands mid xs (Some y) → (is_limit_at xs y ≡ false)
+    × ((next : Option Taken) → TallyStands new (y ∷ xs) next))
+    → OnOk result (Looks old x false new)
+taken_on old mid new x (Ok u) f h = λ xs s. h xs x (f xs s)
+taken_on old mid new x (Err e) f h = tt
 
-pub invariant_of-self : goal.invariant_of-self
-invariant_of-self c =
-    let t = tally_view c.self.inside in
-    let x = taken_of c.args.packet in
-    let e = c.in-Ok-Kept.ensures in
-    let p = λ (place : ℕ). piece_of c.args.header c.args.bytes.now (stamped_of place c.args.packet.meta.now) in
-    let own = c.stamped_of-stamped.ensures in
-    sound-kept t x (ap (λ (n : TallyState). n.waiting) c.self.view_is ∙ c.requires.none) p
-    c.requires.look
-    c.put.new.self
-    (λ es stands. subst (λ s. joiners.JoinerStandsFor c.put.new.self
-    (arrives c.args.packet.clock.now (piece_of c.args.header c.args.bytes.now s) ∷ es)) own (e.stands es stands))
-    (λ es stands. kept-of _ (joined_pieces c.args.packet.clock.now (p t.place) (open_groups_after open_limit es))
-    c.in-Ok-Kept.field-0-is
-    (subst (λ s. IsAnswer c.in-Ok-Kept.field-0
-    (joined_pieces c.args.packet.clock.now (piece_of c.args.header c.args.bytes.now s)
-    (open_groups_after open_limit es))) own
-    (e.answer es stands)))
-    _ c.with_frames-self-inside.ensures
-    c.self.invariant (omega (arith, c.requires.few, ap (λ (n : TallyState). n.place) c.self.view_is))
-    (omega (arith, e.next, ap (λ s. s.place) own))
+pub returns-then-branch-clause-stands : goal.returns-then-branch-clause-stands
+returns-then-branch-clause-stands c =
+    grind (
+      arith,
+      taken_on,
+      c.if-branch.true,
+      c.in_ok-put_fragment.ensures.looks,
+      c.take_waiting.ensures.stands,
+    )
 
-pub returns-in-Ok-Kept-clause-looks : goal.returns-in-Ok-Kept-clause-looks
-returns-in-Ok-Kept-clause-looks c =
-    let t = tally_view c.self.inside in
-    let x = taken_of c.args.packet in
-    let e = c.in-Ok-Kept.ensures in
-    let p = λ (place : ℕ). piece_of c.args.header c.args.bytes.now (stamped_of place c.args.packet.meta.now) in
-    let own = c.stamped_of-stamped.ensures in
-    rw (← c.self.view_is)
-    (looks-kept t x (ap (λ (n : TallyState). n.waiting) c.self.view_is ∙ c.requires.none) p
-    c.requires.look
-    c.put.new.self
-    (λ es stands. subst (λ s. joiners.JoinerStandsFor c.put.new.self
-    (arrives c.args.packet.clock.now (piece_of c.args.header c.args.bytes.now s) ∷ es)) own (e.stands es stands))
-    (λ es stands. kept-of _ (joined_pieces c.args.packet.clock.now (p t.place) (open_groups_after open_limit es))
-    c.in-Ok-Kept.field-0-is
-    (subst (λ s. IsAnswer c.in-Ok-Kept.field-0
-    (joined_pieces c.args.packet.clock.now (piece_of c.args.header c.args.bytes.now s)
-    (open_groups_after open_limit es))) own
-    (e.answer es stands)))
-    _ c.with_frames-self-inside.ensures)
+-- a packet of which something is kept
+kept_on : (old mid : TallyState) (x : Taken) (result : Result (Unit {0}) TalksFault)
+    → ((xs : List Taken) → TallyStands old xs (Some x) → TallyStands mid xs (Some x))
+    → OnErr result ((xs : List Taken) (y : Taken) → TallyStands mid xs (Some y) → is_plain (look (length xs) y) ≡ false)
+    → OnErr result ((xs : List Taken) → TallyStands old xs (Some x) → is_plain (look (length xs) x) ≡ false)
+kept_on old mid x (Ok u) f h = tt
+kept_on old mid x (Err e) f h = λ xs s. h xs x (f xs s)
 
-pub invariant_of-self-in-Ok-Joined : goal.invariant_of-self-in-Ok-Joined
-invariant_of-self-in-Ok-Joined c =
-    let t = tally_view c.self.inside in
-    let x = taken_of c.args.packet in
-    let e = c.in-Ok-Joined.ensures in
-    let p = λ (place : ℕ). piece_of c.args.header c.args.bytes.now (stamped_of place c.args.packet.meta.now) in
-    let own = c.stamped_of-stamped.ensures in
-    sound-waiting t x (ap (λ (n : TallyState). n.waiting) c.self.view_is ∙ c.requires.none) p
-    c.requires.look
-    c.put.new.self
-    (λ es stands. subst (λ s. joiners.JoinerStandsFor c.put.new.self
-    (arrives c.args.packet.clock.now (piece_of c.args.header c.args.bytes.now s) ∷ es)) own (e.stands es stands))
-    c.in-Ok-Joined.datagram
-    (λ es stands. joined-of _ c.in-Ok-Joined.datagram
-    (joined_pieces c.args.packet.clock.now (p t.place) (open_groups_after open_limit es)) c.in-Ok-Joined.field-0-is
-    (subst (λ s. IsAnswer c.in-Ok-Joined.field-0
-    (joined_pieces c.args.packet.clock.now (piece_of c.args.header c.args.bytes.now s)
-    (open_groups_after open_limit es))) own
-    (e.answer es stands)))
-    c.self.invariant (omega (arith, e.next, ap (λ s. s.place) own)) (subst FitsPut c.in-Ok-Joined.field-0-is e.fits)
-
-pub returns-in-Ok-Joined-clause-looks : goal.returns-in-Ok-Joined-clause-looks
-returns-in-Ok-Joined-clause-looks c =
-    let t = tally_view c.self.inside in
-    let x = taken_of c.args.packet in
-    let e = c.in-Ok-Joined.ensures in
-    let p = λ (place : ℕ). piece_of c.args.header c.args.bytes.now (stamped_of place c.args.packet.meta.now) in
-    let own = c.stamped_of-stamped.ensures in
-    rw (← c.self.view_is)
-    (looks-waiting t x (ap (λ (n : TallyState). n.waiting) c.self.view_is ∙ c.requires.none) p
-    c.requires.look
-    c.put.new.self
-    (λ es stands. subst (λ s. joiners.JoinerStandsFor c.put.new.self
-    (arrives c.args.packet.clock.now (piece_of c.args.header c.args.bytes.now s) ∷ es)) own (e.stands es stands))
-    c.in-Ok-Joined.datagram
-    (λ es stands. joined-of _ c.in-Ok-Joined.datagram
-    (joined_pieces c.args.packet.clock.now (p t.place) (open_groups_after open_limit es)) c.in-Ok-Joined.field-0-is
-    (subst (λ s. IsAnswer c.in-Ok-Joined.field-0
-    (joined_pieces c.args.packet.clock.now (piece_of c.args.header c.args.bytes.now s)
-    (open_groups_after open_limit es))) own
-    (e.answer es stands))))
+pub returns-then-branch-clause-grows : goal.returns-then-branch-clause-grows
+returns-then-branch-clause-grows c =
+    grind (arith, kept_on, c.if-branch.true, c.in_ok-put_fragment.ensures.looks, c.take_waiting.ensures.grows)

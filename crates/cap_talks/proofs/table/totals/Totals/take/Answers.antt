@@ -1,7 +1,7 @@
 use Rattle.std.proofs.Common.{◌≡◌, ◌+◌, ◌-◌, ◌^◌, ◌<◌, [], None, length, arith, rules, refl, ap, ◌∙◌, subst}
 use Rattle.std.specs.Prelude.{slice_set, slice_index_or}
 use Rattle.cap_talks.specs.counts.Counting.{counted, with_packet}
-use Rattle.cap_talks.specs.inner.table.Looking.{taken}
+use Rattle.cap_class.specs.Taken.{taken}
 use Rattle.cap_talks.specs.inner.table.Totals.{TotalsState}
 use Rattle.cap_talks.specs.inner.table.TotalsView.{totals_view}
 use Rattle.cap_talks.proofs.Totaling.{has-room, stands-more, sound-more, refilled, bytes-few, truncated-all}

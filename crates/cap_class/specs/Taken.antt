@@ -12,14 +12,18 @@ use Rattle.cap_link.specs.Seen.{Carried, ipv4, other_link, not_ipv4, short, cut 
 use Rattle.cap_source.specs.Times.{meta_time}
 use Rattle.cap_source.specs.declared.packets.Meta.{Meta}
 use Rattle.cap_time.specs.declared.stamps.Stamp.{Stamp}
-use Rattle.cap_talks.specs.declared.table.classes.Class.{Class}
-use Rattle.cap_talks.specs.declared.table.classes.Class.TheVariants as class
+use Rattle.cap_class.specs.declared.classes.Class.{Class}
+use Rattle.cap_class.specs.declared.classes.Class.TheVariants as class
 
 -- A packet that was taken: its clock, what is known of it, and its captured bytes.
 pub record Taken : Type 0 where
   pub clock : Option Stamp
   pub meta : Meta
   pub frame : List ℕ
+
+-- a packet with those
+abbrev pub taken : Option Stamp → Meta → List ℕ → Taken
+taken clock meta frame = record { clock = clock; meta = meta; frame = frame }
 
 -- What a packet is by itself: one of a class, a whole datagram with the captured part of its data, or a fragment.
 pub data Look : Type 0 where

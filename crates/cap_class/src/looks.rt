@@ -1,22 +1,23 @@
-//! What a packet is by itself.
+//! What a captured frame is by itself.
 ghost use Rattle.std.specs.Prelude.{◌≡◌, ℕ, Option};
+ghost use Rattle.cap_class.specs.Taken.{look, look_in, stamped_of, taken};
+ghost use Rattle.cap_class.specs.inner.Looking.{IsAll, look_of};
 ghost use Rattle.cap_ip.specs.Read.{read_of};
 ghost use Rattle.cap_join.specs.declared.datagrams.Stamped.{Stamped};
+ghost use Rattle.cap_source.specs.Times.{meta_time};
 ghost use Rattle.cap_time.specs.declared.stamps.Stamp.{Stamp};
-ghost use Rattle.cap_talks.specs.table.Classes.{lone_class};
-ghost use Rattle.cap_talks.specs.inner.table.Looking.{look_of, IsAll, taken};
-ghost use Rattle.cap_talks.specs.table.Taken.{look_in, look, stamped_of};
 
-use crate::table::adding::class_of;
-use crate::table::classes::Class;
-use cap_ip::{Header, HeaderOr, transport};
+use crate::classes::Class;
+use cap_ip::{Header, HeaderOr};
+use cap_join::Stamped;
 use cap_link::{Network, network};
 use cap_source::Meta;
+use cap_time::Stamp;
 
-/// What a packet is by itself.
+/// What a captured frame is by itself (RFC 791, 3.1 and 3.2).
 #[derive(Clone, Copy)]
-pub(crate) enum Seen<'a> {
-    /// One of a class.
+pub enum Seen<'a> {
+    /// Neither a datagram nor a fragment of one: a frame of the class `OtherLink`, `NotIpv4`, `Short`, `Cut` or `Bad`.
     Plain(Class),
     /// A whole datagram, with the captured part of its data.
     Datagram(Header, &'a [u8]),
@@ -43,10 +44,11 @@ fn look_into(bytes: &[u8], whole: bool) -> Seen<'_>
     }
 }
 
-/// What a packet is by itself: its meta and its captured bytes.
-#[tactic(auto, unfolding(crate::specs::table::Taken::look))]
+/// What a packet's captured bytes are by themselves: a whole datagram, a fragment, or neither. `meta` is what is known
+/// of the packet beside them: its link type and how many bytes it had.
+#[tactic(auto, unfolding(crate::specs::Taken::look))]
 #[inline(always)]
-pub(crate) fn look<'a>(meta: &Meta, frame: &'a [u8]) -> Seen<'a>
+pub fn look<'a>(meta: &Meta, frame: &'a [u8]) -> Seen<'a>
     ensures value { (clock : Option Stamp) (place : ℕ)
         → look_of result (stamped_of place meta.now) ≡ look place (taken clock meta.now frame.entry.now) }
     ensures all { IsAll result }
@@ -61,17 +63,16 @@ pub(crate) fn look<'a>(meta: &Meta, frame: &'a [u8]) -> Seen<'a>
     }
 }
 
-/// The class of a packet in a report of it alone, by what is known of it and its captured bytes: `Unjoined` of a
-/// fragment, since only with others it makes a datagram. RFC 791, 3.1 and 3.2; RFC 768; RFC 9293, 3.1.
-#[tactic(auto, unfolding(crate::specs::table::Classes::lone_class))]
-pub fn packet_class(meta: &Meta, frame: &[u8]) -> Class
-    ensures { result ≡ lone_class meta.now frame.now }
+/// What a joiner keeps of a packet's frame: its place in the run, its time, which is the packet's, and how many bytes it
+/// had.
+#[inline(always)]
+pub fn stamped_of(place: u64, time: Option<Stamp>, meta: &Meta) -> Stamped
+    requires time { time ≡ meta_time meta.now }
+    ensures { result ≡ stamped_of place meta.now }
 {
-    match look(meta, frame) {
-        Seen::Plain(class) => class,
-        Seen::Datagram(header, captured) => {
-            class_of(transport(header.key().protocol, captured, header.data_length()))
-        }
-        Seen::Fragment(_, _) => Class::Unjoined,
+    Stamped {
+        time,
+        place,
+        original: meta.original,
     }
 }

@@ -1,0 +1,8 @@
+//! What a captured frame is by itself: a whole IPv4 datagram, a fragment of one, or none of both, and of which class.
+#![tactic(auto)]
+
+mod classes;
+mod looks;
+
+pub use crate::classes::Class;
+pub use crate::looks::{Seen, look, stamped_of};

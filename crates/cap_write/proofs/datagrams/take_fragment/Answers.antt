@@ -1,0 +1,48 @@
+use Rattle.std.proofs.Common.{ℕ, List, length, false, ap, ◌∙◌, subst}
+use Rattle.cap_class.specs.Taken.{stamped_of}
+use Rattle.cap_join.specs.Fragments.{piece_of}
+use Rattle.cap_join.specs.History.{Event, joined_pieces, open_groups_after}
+use Rattle.cap_join.specs.Joiners.{JoinerStandsFor, open_limit}
+use Rattle.cap_join.specs.declared.datagrams.Stamped.{Stamped}
+use Rattle.cap_write.proofs.Completed.{filled-all, filled-kept, joined-put}
+use Rattle.cap_write.proofs.Lengths.{joined-short}
+use Rattle.cap_write.specs.inner.Datagrams.{IsFilled}
+use Rattle.cap_write.specs.Joined.{complete_of, joined_of}
+use Rattle.cap_write.proofs.datagrams.take_fragment.Goals as goal
+
+pub fill_complete-requires : goal.fill_complete-requires
+fill_complete-requires c =
+    let events = c.requires.stands.0 in
+    let stands = c.requires.stands.1 in
+    let lent = c.as_slice-data.ensures.value in
+    let short = joined-short c.args.header.now c.args.bytes.now c.stamped_of-stamped.result c.args.run.clock.now events
+    c.args.joining.now.joiner c.in-Ok-Joined.field-0 c.in-Ok-Joined.datagram c.requires.formed c.requires.fragment
+    c.requires.whole stands c.in-Ok-Joined.field-0-is (c.in-Ok-Joined.ensures.answer events stands) in
+    record { short = rw lent short }
+
+pub returns-in-Ok-Kept-clause-filled : goal.returns-in-Ok-Kept-clause-filled
+returns-in-Ok-Kept-clause-filled c = λ events stands.
+    let clock = c.args.run.clock.now in
+    let pieces = λ (s : Stamped). joined_pieces clock (piece_of c.args.header.now c.args.bytes.now s)
+    (open_groups_after open_limit events) in
+    subst (λ (s : Stamped). IsFilled (joined_of (pieces s)) false c.args.joining.now.packet.items)
+    c.stamped_of-stamped.ensures
+    (filled-kept c.in-Ok-Kept.field-0 (pieces c.stamped_of-stamped.result) c.args.joining.now.packet.items
+    c.in-Ok-Kept.field-0-is (c.in-Ok-Kept.ensures.answer events stands))
+
+pub returns-in-Ok-Joined-clause-filled : goal.returns-in-Ok-Joined-clause-filled
+returns-in-Ok-Joined-clause-filled c =
+    let clock = c.args.run.clock.now in
+    let pieces = λ (events : List Event) (s : Stamped). joined_pieces clock
+    (piece_of c.args.header.now c.args.bytes.now s) (open_groups_after open_limit events) in
+    let d = c.in-Ok-Joined.datagram in
+    filled-all c.fill_complete.result
+    (complete_of d.header c.as_slice-data.result.now (length c.as_slice-data.result.now))
+    (λ events. joined_of (pieces events (stamped_of c.args.joining.now.place c.args.run.meta.now)))
+    (λ events. JoinerStandsFor c.args.joining.now.joiner events) c.fill_complete.new.packet.items
+    (λ events stands.
+    ap (λ (bytes : List ℕ). complete_of d.header bytes (length bytes)) c.as_slice-data.ensures.value
+    ∙ (joined-put c.in-Ok-Joined.field-0 d (pieces events c.stamped_of-stamped.result) c.in-Ok-Joined.field-0-is
+    (c.in-Ok-Joined.ensures.answer events stands)
+    ∙ ap (λ (s : Stamped). joined_of (pieces events s)) c.stamped_of-stamped.ensures))
+    c.fill_complete.ensures.filled
