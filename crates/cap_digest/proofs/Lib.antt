@@ -1,0 +1,3 @@
+pub mod Digesting
+pub mod Divisors
+pub mod Heads
