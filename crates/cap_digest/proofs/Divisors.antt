@@ -7,7 +7,7 @@ use Rattle.std.proofs.Math.Nat.{div-mul_cancel, dvd-add_iff_right, dvd-mod_iff, 
 use Rattle.std.proofs.Math.Nat.{dvd-mul_right, dvd_antisymm, dvd_of_mod-eq-zero, dvd_of_mul-dvd-mul_right, le_of_dvd}
 use Rattle.std.proofs.Math.Nat.{mod-eq-zero_of_dvd, mul-dvd-mul_right, pos_of_dvd_of_pos, one-dvd}
 use Rattle.std.proofs.lemmas.Nat.{div-add-mod', mod_below}
-use Rattle.std.proofs.lemmas.Nat.Gcd.{IsGcd-from_zero, same_from_IsGcd, le_from_IsGcd, IsGcd-swap}
+use Rattle.std.proofs.lemmas.Nat.Gcd.{IsGcd-from_mod, IsGcd-from_zero, same_from_IsGcd, le_from_IsGcd, IsGcd-swap}
 use Rattle.std.proofs.lemmas.Bool.{eqb-true, eq-eqb, true≢false}
 use Rattle.cap_digest.specs.Canonical.{greatest_divisor, common_divisor}
 
@@ -86,3 +86,28 @@ same-lowest p q r t a b e =
     let z : q ∣ t = divides-other q p t (IsGcd-swap p q 1 a) (subst (λ (n : ℕ). q ∣ n) (sym e) (dvd-mul_left q r)) in
     let w : t ∣ q = divides-other t r q (IsGcd-swap r t 1 b) (subst (λ (n : ℕ). t ∣ n) e (dvd-mul_left t p)) in
     (dvd_antisymm x y, dvd_antisymm z w)
+
+-- every two numbers have a greatest common divisor
+has-greatest : (n a b : ℕ) → b < n → (g : ℕ) × IsGcd a b g
+has-greatest zero a b low = absurd (omega arith)
+has-greatest (suc n) a zero low = (a, IsGcd-from_zero a zero refl)
+has-greatest (suc n) a (suc b) low =
+    let below : a % suc b < suc b = mod_below a (suc b) (omega arith) in
+    let rest : (g : ℕ) × IsGcd (suc b) (a % suc b) g = has-greatest n (suc b) (a % suc b) (omega (arith, below)) in
+    (rest.0, IsGcd-from_mod a (suc b) rest.0 rest.1)
+
+-- so that is the greatest common divisor
+pub common_divisor-is : (a b : ℕ) → 0 < b → IsGcd a b (common_divisor a b)
+common_divisor-is a b some =
+    let h = has-greatest (suc b) a b (omega arith) in
+    subst (IsGcd a b) (sym (greatest-is b a b h.0 h.1 some (le_of_dvd some h.1.1))) h.1
+
+pub common_divisor-positive : (a b : ℕ) → 0 < b → 0 < common_divisor a b
+common_divisor-positive a b some = pos_of_dvd_of_pos (common_divisor-is a b some).1 some
+
+-- each of the two numbers is its part in lowest terms times their greatest common divisor
+pub first-part : (a b : ℕ) → 0 < b → a / common_divisor a b * common_divisor a b ≡ a
+first-part a b some = div-mul_cancel (common_divisor a b) (common_divisor-is a b some).0
+
+pub second-part : (a b : ℕ) → 0 < b → b / common_divisor a b * common_divisor a b ≡ b
+second-part a b some = div-mul_cancel (common_divisor a b) (common_divisor-is a b some).1

@@ -1,6 +1,6 @@
 -- The canonical text of packets: of each its link type, its lengths, its exact time in lowest terms and its captured
 -- bytes. So it says nothing of the format, the byte order and the units of the file that has them.
-use Rattle.std.specs.Prelude.{◌+◌, ◌/◌, ◌%◌, ◌==◌, ◌&&◌, ℕ, zero, suc, if◌then◌else◌, pos, List, [], ◌∷◌, ◌++◌}
+use Rattle.std.specs.Prelude.{◌/◌, ◌%◌, ◌==◌, ◌&&◌, ℕ, zero, suc, if◌then◌else◌, pos, List, [], ◌∷◌, ◌++◌}
 use Rattle.std.specs.Prelude.{Option, Some, None}
 use Rattle.std.specs.Int.{cast_unsigned, w128}
 use Rattle.std.specs.Option.{option_map}

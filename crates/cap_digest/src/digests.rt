@@ -19,7 +19,7 @@ use sha2::{Digest, Sha256};
 use std::alloc::Global;
 
 /// The SHA-256 of the canonical text of some packets, and how many they are.
-#[derive(Clone, Copy, Debug)]
+#[derive(Clone, Copy)]
 pub struct Digested {
     pub sha256: [u8; 32],
     pub packets: u64,

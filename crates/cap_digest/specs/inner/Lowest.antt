@@ -1,5 +1,5 @@
 -- What a fraction in lowest terms is.
-use Rattle.std.specs.Prelude.{◌<◌, ℕ}
+use Rattle.std.specs.Prelude.{◌<◌}
 use Rattle.std.specs.Int.{IsGcd}
 use Rattle.cap_digest.specs.Canonical.{in_lowest_terms}
 use Rattle.cap_time.specs.Stamp.{printed_of, time_of}

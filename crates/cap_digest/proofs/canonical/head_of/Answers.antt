@@ -1,4 +1,4 @@
-use Rattle.std.proofs.Common.{FitsSigned, rules, refl, ap, ◌∙◌, Option, ℤ, ℕ}
+use Rattle.std.proofs.Common.{FitsSigned, rules, refl, ap, ◌∙◌, Option, ℤ}
 use Rattle.std.specs.Option.{option_map}
 use Rattle.std.proofs.lemmas.Int.{to_z-of_z}
 use Rattle.std.specs.Int.{to_be_bytes, w64, w128, cast_unsigned}
