@@ -62,9 +62,13 @@ out_rule = record (new_rule (codes "out")) {
   required = true;
 }
 
+-- the argument of that name, which is required
+abbrev pub required_rule : Text → Rule
+required_rule name = record (new_rule name) { required = true }
+
 -- the argument FILE, which is required
 abbrev pub file_rule : Rule
-file_rule = record (new_rule (codes "FILE")) { required = true }
+file_rule = required_rule (codes "FILE")
 
 -- the arguments FILE.., of which there is at least one
 abbrev pub files_rule : Rule
@@ -97,6 +101,11 @@ list_app = with_rule (with_rule (showing_app (codes "list")) data_rule) file_rul
 -- `blocks FILE`
 abbrev pub blocks_app : App
 blocks_app = with_rule (showing_app (codes "blocks")) file_rule
+
+-- `diff A B`
+abbrev pub diff_app : App
+diff_app =
+    with_rule (with_rule (showing_app (codes "diff")) (required_rule (codes "A"))) (required_rule (codes "B"))
 
 -- `info FILE..`
 abbrev pub info_app : App
@@ -159,12 +168,15 @@ AddsMade made sub new = IsOkAnd made (λ old. IsOkAnd sub (λ s. new ≡ with_su
 abbrev pub capt_alone : App
 capt_alone = on_top (λ s. record s { has_version = true; subcommand_required = true }) (new_app (codes "capt"))
 
--- `capt` with the subcommands that print one capture, with those that print, and with all
+-- `capt` with the subcommands that print one capture, with `diff` too, with those that print, and with all
 abbrev pub listing_app : App
 listing_app = with_subcommand (with_subcommand capt_alone list_app.top) blocks_app.top
 
+abbrev pub comparing_app : App
+comparing_app = with_subcommand listing_app diff_app.top
+
 abbrev pub printing_app : App
-printing_app = with_subcommand (with_subcommand listing_app info_app.top) report_app.top
+printing_app = with_subcommand (with_subcommand comparing_app info_app.top) report_app.top
 
 abbrev pub capt_app : App → App → App → App
 capt_app convert merge join =

@@ -1,5 +1,5 @@
 -- What a command line asks for, by clap's matches of its words.
-use Rattle.std.specs.Prelude.{◌≡◌, ◌⊎◌, ℕ, List, [], length, codes, Bool, Option, Some, None, Result, Ok, Err}
+use Rattle.std.specs.Prelude.{◌≡◌, ◌⊎◌, ◌++◌, ℕ, List, [], length, codes, Bool, Option, Some, None, Result, Ok, Err}
 use Rattle.std.specs.Prelude.{map, option_map, unwrap_or, IsTrue, IsFalse, ◌↔◌}
 use Rattle.clap.specs.Words.{App, Row, Text, all_of, first_of, fault_of, subcommand_of, IsAmong}
 use Rattle.clap.specs.declared.error.kind.ErrorKind.{ErrorKind}
@@ -20,9 +20,13 @@ fault_by kind.DisplayVersion = Help
 fault_by kind.OutOfMemory = Memory
 fault_by _ = Line
 
--- the files that a subcommand's rows name, its output and its format
+-- the files that the argument of that name names
+abbrev pub names_in : Text → List Row → List Text
+names_in name rows = unwrap_or (all_of name rows) []
+
+-- the files that a subcommand's rows name, `diff` the two of its own arguments; its output and its format
 abbrev pub files_in : List Row → List Text
-files_in rows = unwrap_or (all_of (codes "FILE") rows) []
+files_in rows = names_in (codes "FILE") rows ++ names_in (codes "A") rows ++ names_in (codes "B") rows
 
 abbrev pub out_in : List Row → Option Text
 out_in rows = first_of (codes "out") rows

@@ -26,6 +26,7 @@ abbrev pub task_by : List ℕ → Option Task
 task_by name =
     if bytes_eq name (codes "list") then Some tasks.List else
     if bytes_eq name (codes "blocks") then Some tasks.Blocks else
+    if bytes_eq name (codes "diff") then Some tasks.Diff else
     if bytes_eq name (codes "info") then Some tasks.Info else
     if bytes_eq name (codes "report") then Some tasks.Report else
     if bytes_eq name (codes "convert") then Some tasks.Convert else
@@ -52,11 +53,12 @@ files_fault files out =
     if nat_lt 1 (count_by (λ f. bytes_eq f (codes "-")) files) then Err Input else
     if is_also_file out files then Err Output else Ok tt
 
--- whether a task has what it takes, with that many files: one file if it is of one, a format for `convert`, an output
--- if it writes one
+-- whether a task has what it takes, with that many files: one file if it is of one, two for `diff`, a format for
+-- `convert`, an output if it writes one
 abbrev pub is_whole_task : Task → ℕ → Option Format → Option (List ℕ) → Bool
 is_whole_task tasks.List files to out = files == 1
 is_whole_task tasks.Blocks files to out = files == 1
+is_whole_task tasks.Diff files to out = files == 2
 is_whole_task tasks.Info files to out = true
 is_whole_task tasks.Report files to out = true
 is_whole_task tasks.Convert files to out = (files == 1) && is_some to && is_some out
@@ -85,6 +87,7 @@ data_by (Some text) = if is_some (count_in text) then Ok (count_in text) else Er
 abbrev pub is_printing : Task → Bool
 is_printing tasks.List = true
 is_printing tasks.Blocks = true
+is_printing tasks.Diff = true
 is_printing tasks.Info = true
 is_printing tasks.Report = true
 is_printing tasks.Convert = false

@@ -5,8 +5,8 @@ ghost use Rattle.clap.specs.declared.builder.command.Command.TheViews.{out-Comma
 ghost use Rattle.cap_line.specs.Command.{AddsMade, AddsRule, IsCapt, IsConvert, IsGathering, IsJoin, IsMerge};
 ghost use Rattle.cap_line.specs.Command.{IsOrderRule, IsRequiredToRule, IsToRule, IsWriting, blocks_app, capt_alone};
 ghost use Rattle.cap_line.specs.Command.{choice_rule, cutting_app, file_rule, files_rule, flag_rule, info_app};
-ghost use Rattle.cap_line.specs.Command.{data_rule, list_app, listing_app, out_rule, printing_app, reading_app};
-ghost use Rattle.cap_line.specs.Command.{report_app, showing_app};
+ghost use Rattle.cap_line.specs.Command.{comparing_app, data_rule, diff_app, list_app, listing_app, out_rule};
+ghost use Rattle.cap_line.specs.Command.{printing_app, reading_app, report_app, required_rule, showing_app};
 
 use crate::texts;
 use crate::usage::USAGE;
@@ -72,14 +72,20 @@ fn whole<'a>(alloc: Global) -> Arg<'a>
     flag(alloc, "whole", texts::WHOLE_HELP)
 }
 
+// The argument of that name, which is required
+fn required<'a>(alloc: Global, name: &'a str, help: &'a str) -> Arg<'a>
+    ensures rule { rule_of result ≡ required_rule name.entry.now }
+    ensures local { result.global ≡ false }
+{
+    Arg::new(alloc, name).required(true).help(help)
+}
+
 // `FILE`
 fn file<'a>(alloc: Global) -> Arg<'a>
     ensures rule { rule_of result ≡ file_rule }
     ensures local { result.global ≡ false }
 {
-    Arg::new(alloc, "FILE")
-        .required(true)
-        .help(texts::FILE_HELP)
+    required(alloc, "FILE", texts::FILE_HELP)
 }
 
 // `FILE..`
@@ -265,6 +271,19 @@ fn blocks<'a>(alloc: Global) -> Result<Command<'a>, AllocError>
     )
 }
 
+// `diff`
+fn diff<'a>(alloc: Global) -> Result<Command<'a>, AllocError>
+    ensures app { IfOk result (λ c. app_of c ≡ diff_app) }
+    ensures local { IfOk result (λ c. (fields_of c).has_globals ≡ false) }
+{
+    let before = showing(alloc, "diff", texts::DIFF_ABOUT, texts::DIFF_HELP);
+    let first = required(alloc, "A", texts::A_HELP);
+    with_argument(
+        with_argument(before, first),
+        required(alloc, "B", texts::B_HELP),
+    )
+}
+
 // `info`
 fn info<'a>(alloc: Global) -> Result<Command<'a>, AllocError>
     ensures app { IfOk result (λ c. app_of c ≡ info_app) }
@@ -345,11 +364,18 @@ fn listing<'a>(alloc: Global) -> Result<Command<'a>, AllocError>
     with_subcommand(capt, blocks(alloc))
 }
 
+// `capt` with these and `diff`
+fn comparing<'a>(alloc: Global) -> Result<Command<'a>, AllocError>
+    ensures { IfOk result (λ c. app_of c ≡ comparing_app) }
+{
+    with_subcommand(listing(alloc), diff(alloc))
+}
+
 // `capt` with the subcommands that print
 fn printing<'a>(alloc: Global) -> Result<Command<'a>, AllocError>
     ensures { IfOk result (λ c. app_of c ≡ printing_app) }
 {
-    let capt = with_subcommand(listing(alloc), info(alloc));
+    let capt = with_subcommand(comparing(alloc), info(alloc));
     with_subcommand(capt, report(alloc))
 }
 

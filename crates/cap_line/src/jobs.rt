@@ -23,6 +23,8 @@ pub enum Task {
     List,
     /// Print a line for each block of a pcapng file.
     Blocks,
+    /// Print whether two files have the same packets, or the first difference.
+    Diff,
     /// Print a line for each of some files.
     Info,
     /// Print what is counted of some files, and a line for each conversation.
@@ -61,13 +63,14 @@ pub struct Job<'a> {
     pub data: Option<u32>,
 }
 
-/// The task of that name, if it is one's: `list`, `blocks`, `info`, `report`, `convert`, `merge` or `join`.
+/// The task of that name, if it is one's: `list`, `blocks`, `diff`, `info`, `report`, `convert`, `merge` or `join`.
 pub fn task_of(name: &str) -> Option<Task>
     ensures { result ≡ task_by name.now }
 {
     match name {
         "list" => Some(Task::List),
         "blocks" => Some(Task::Blocks),
+        "diff" => Some(Task::Diff),
         "info" => Some(Task::Info),
         "report" => Some(Task::Report),
         "convert" => Some(Task::Convert),
@@ -98,13 +101,14 @@ pub fn format_of(name: Option<&str>) -> Option<Format>
     }
 }
 
-/// Whether a task has what it takes, with that many files: one file if it is of one, a format for `convert`, an
-/// output if it writes one.
+/// Whether a task has what it takes, with that many files: one file if it is of one, two for `diff`, a format for
+/// `convert`, an output if it writes one.
 pub fn is_whole(task: Task, files: usize, to: Option<Format>, out: Option<&str>) -> bool
     ensures { result ≡ is_whole_task task files to (option_map (λ o. o.now) out.entry) }
 {
     match task {
         Task::List | Task::Blocks => files == 1,
+        Task::Diff => files == 2,
         Task::Info | Task::Report => true,
         Task::Convert => files == 1 && to.is_some() && out.is_some(),
         Task::Merge | Task::Join => out.is_some(),
@@ -169,7 +173,7 @@ pub fn can_show(task: Task, json: bool, count: Option<u32>) -> bool
 {
     match task {
         Task::List => json || count.is_none(),
-        Task::Blocks | Task::Info | Task::Report => count.is_none(),
+        Task::Blocks | Task::Diff | Task::Info | Task::Report => count.is_none(),
         Task::Convert | Task::Merge | Task::Join => !json && count.is_none(),
     }
 }

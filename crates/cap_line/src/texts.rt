@@ -61,6 +61,23 @@ lines before are printed. A pcap file is refused: it has no blocks.
 
 Example: capt blocks trace.pcapng";
 
+pub(crate) const DIFF_ABOUT: &str = "Compares the packets of two captures";
+
+pub(crate) const DIFF_HELP: &str = "Prints, if both have the same packets in the same order:
+  same packets N
+or, of the first packet that isn't the same in both:
+  differ packet N WHAT
+  - LINE
+  + LINE
+WHAT is one or more of link, time, captured, original and data, or end if one
+capture has no packet N. LINE is the line of packet N as list prints it, of A
+after -, of B after +, or end. Times are compared exactly. Formats, byte orders,
+time units, interfaces and offsets may differ. If a capture is refused before
+that, nothing is printed. The status is 3 if the packets differ.
+
+Examples: capt diff trace.pcap trace.pcapng
+          set -o pipefail; zcat old.pcap.gz | capt diff - new.pcap";
+
 pub(crate) const CONVERT_ABOUT: &str = "Writes the packets of a capture in either format";
 
 pub(crate) const CONVERT_HELP: &str =
@@ -137,5 +154,9 @@ it is one of them; if a capture is refused, it
 holds the packets before";
 
 pub(crate) const FILE_HELP: &str = "A capture, or - for standard input";
+
+pub(crate) const A_HELP: &str = "A capture, or - for standard input";
+
+pub(crate) const B_HELP: &str = "The capture that it is compared with, or -";
 
 pub(crate) const FILES_HELP: &str = "1 to 32 captures, of which one may be - for standard input";

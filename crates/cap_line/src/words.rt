@@ -1,10 +1,11 @@
 //! What the words of the command line ask for.
-ghost use Rattle.std.specs.Prelude.{◌≡◌, ◌≢◌, ◌⊎◌, All, chars, string_bytes, IfSome, IsSome, ◌↔◌, map, codes};
-ghost use Rattle.std.specs.Prelude.{option_map, IsTrue, IfOk, Some};
+ghost use Rattle.std.specs.Prelude.{◌≡◌, ◌≢◌, ◌⊎◌, ◌++◌, All, chars, string_bytes, IfSome, IsSome, ◌↔◌, map, codes};
+ghost use Rattle.std.specs.Prelude.{option_map, IsTrue, IfOk, OnOk, Some};
 ghost use Rattle.clap.specs.Values.{kind_of};
 ghost use Rattle.clap.specs.Words.{first_of, rows_of, found_of, subcommand_rows_of};
 ghost use Rattle.cap_line.specs.Jobs.{IsShownJob, IsWholeJob};
-ghost use Rattle.cap_line.specs.CommandLine.{fault_by, files_in, IsJobBy, IsJobOf, IsNoJob, IsRefused, Parses};
+ghost use Rattle.cap_line.specs.CommandLine.{fault_by, files_in, names_in, IsJobBy, IsJobOf, IsNoJob, IsRefused};
+ghost use Rattle.cap_line.specs.CommandLine.{Parses};
 ghost use Rattle.cap_line.specs.Shown.{IsSeenOrLine};
 
 use crate::command::capt;
@@ -93,14 +94,30 @@ fn said_of_line(alloc: Global, fault: LineFault, data: Option<&str>) -> Option<S
     }
 }
 
+// Adds the files that an argument names.
+fn add_named<'a>(
+    files: &mut Vec<&'a str>,
+    matches: &ArgMatches<'a>,
+    name: &str,
+) -> Result<(), AllocError>
+    ensures { OnOk result (map (λ f. f.now) files.new.items
+        ≡ map (λ f. f.now) files.old.items ++ names_in name.now (rows_of (found_of matches.now))) }
+{
+    match matches.get_strs(name) {
+        Some(named) => files.extend_from_slice(named),
+        None => Ok(()),
+    }
+}
+
 // The files that a subcommand names.
 fn files_named<'a>(alloc: Global, matches: &ArgMatches<'a>) -> Result<Vec<&'a str>, AllocError>
     ensures { IfOk result (λ v. map (λ f. f.now) v.items ≡ files_in (rows_of (found_of matches.now))) }
 {
-    match matches.get_strs("FILE") {
-        Some(files) => Vec::from_slice(alloc, files),
-        None => Ok(Vec::new(alloc)),
-    }
+    let mut files = Vec::new(alloc);
+    add_named(&mut files, matches, "FILE")?;
+    add_named(&mut files, matches, "A")?;
+    add_named(&mut files, matches, "B")?;
+    Ok(files)
 }
 
 // The first value of an argument.

@@ -15,7 +15,7 @@ use cap_pcap::{PcapHeader, RecordTime, put_header, put_record};
 use cap_source::{Capture, Format, PacketFeed};
 use cap_talks::{file_lines, report};
 use cap_time::{Interface, Resolution, Unit};
-use cap_tool::{blocks_to, convert_to, join_to, list_to, merge_to};
+use cap_tool::{blocks_to, convert_to, diff_to, join_to, list_to, merge_to};
 use std::alloc::Global;
 use std::io;
 use std::io::Write;
@@ -28,6 +28,13 @@ const BLOCK_LINES: &str = "block 1 offset 0 order little kind 0a0d0d0a total 44\
     block 2 offset 44 order little kind 00000001 total 52\n\
     block 3 offset 96 order little kind 00000006 total 48\n\
     block 4 offset 144 order little kind 00000005 total 24\n";
+
+// A capture without packets, and how one of a packet differs from it.
+const ETHERNET_ALONE: File = &[ETHERNET];
+
+const END_LINES: &str = "differ packet 1 end\n\
+    - packet 1 offset 24 time 2+500000/1000000 captured 4 original 4 link 1 data 01020304\n\
+    + end\n";
 
 const FILE_LINES: &str = "files 2\n\
     file 1 pcap packets 2 bytes 0 truncated 0 skipped 0 first 1+0/1000000 last 5+0/1000000\n\
@@ -67,6 +74,11 @@ fn call<R: Source, W: Sink>(
     match task {
         Task::List => list_to(alloc, sources.remove(0), tail, writer),
         Task::Blocks => blocks_to(alloc, sources.remove(0), tail, writer),
+        Task::Diff => {
+            holds!(rt; sources.len() == 2);
+            let second = sources.remove(1);
+            diff_to(alloc, sources.remove(0), second, tail, writer).map(|_| ())
+        }
         Task::Info => file_lines(alloc, sources, tail, writer),
         Task::Report => report(alloc, sources, tail, writer),
         Task::Convert => {
@@ -147,9 +159,14 @@ fn fails_after_each_byte(rt: &impl Abort, alloc: Global, row: Row, wanted: &[u8]
     }
 }
 
-const PRINTED: [(Row, &str); 4] = [
+const PRINTED: [(Row, &str); 6] = [
     ((Task::List, &[CARRY_PCAP]), LINE),
     ((Task::Blocks, &[OPTIONS_PCAPNG]), BLOCK_LINES),
+    (
+        (Task::Diff, &[CARRY_PCAP, CARRY_PCAPNG]),
+        "same packets 1\n",
+    ),
+    ((Task::Diff, &[CARRY_PCAP, ETHERNET_ALONE]), END_LINES),
     ((Task::Info, &[RUNS_BACK, OPTIONS_PCAPNG]), FILE_LINES),
     ((Task::Report, &[TAGGED_FRAMES]), TAGGED_REPORT),
 ];

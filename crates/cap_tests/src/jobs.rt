@@ -7,9 +7,10 @@ use cap_line::{
 };
 use cap_source::Format;
 
-const TASKS: [(&str, Option<Task>); 10] = [
+const TASKS: [(&str, Option<Task>); 11] = [
     ("list", Some(Task::List)),
     ("blocks", Some(Task::Blocks)),
+    ("diff", Some(Task::Diff)),
     ("info", Some(Task::Info)),
     ("report", Some(Task::Report)),
     ("convert", Some(Task::Convert)),
@@ -35,11 +36,14 @@ const FORMATS: [(Option<&str>, Option<Format>); 4] = [
 ];
 
 // Tasks with a number of files, a format and an output, and whether that is all that they take.
-const WHOLE: [(Task, usize, Option<Format>, Option<&str>, bool); 12] = [
+const WHOLE: [(Task, usize, Option<Format>, Option<&str>, bool); 15] = [
     (Task::List, 1, None, None, true),
     (Task::List, 2, None, None, false),
     (Task::Blocks, 1, None, None, true),
     (Task::Blocks, 2, None, None, false),
+    (Task::Diff, 1, None, None, false),
+    (Task::Diff, 2, None, None, true),
+    (Task::Diff, 3, None, None, false),
     (Task::Info, 32, None, None, true),
     (Task::Report, 2, None, None, true),
     (Task::Convert, 1, Some(Format::Pcap), Some("-"), true),
@@ -118,13 +122,15 @@ fn bytes_shown_are_a_number(rt: HostRuntime) {
 }
 
 // Tasks, whether JSON Lines are asked for, how many bytes, and whether the task can show that.
-const SHOWN: [(Task, bool, Option<u32>, bool); 10] = [
+const SHOWN: [(Task, bool, Option<u32>, bool); 12] = [
     (Task::List, false, None, true),
     (Task::List, true, None, true),
     (Task::List, true, Some(0), true),
     (Task::List, false, Some(16), false),
     (Task::Blocks, true, None, true),
     (Task::Blocks, true, Some(16), false),
+    (Task::Diff, true, None, true),
+    (Task::Diff, true, Some(16), false),
     (Task::Info, true, None, true),
     (Task::Report, true, Some(16), false),
     (Task::Merge, false, None, true),

@@ -4,7 +4,7 @@ use crate::checks::same;
 use crate::files::room_of;
 use cap_bytes::{Fault, Refusal, Rule};
 use cap_line::{LineFault, USAGE};
-use cap_tool::{Outcome, end_of, fault_line, outcome_line, status_of, tell};
+use cap_tool::{Finding, Outcome, end_of, fault_line, outcome_line, status_of, tell};
 use std::alloc::Global;
 use std::io;
 use std::io::{BufWriter, Write};
@@ -17,8 +17,9 @@ const SECOND_FILE: Refusal = Refusal {
 };
 
 // What is printed of each outcome but the usage, and the status.
-const TOLD: [(Outcome, &str, u8); 11] = [
+const TOLD: [(Outcome, &str, u8); 12] = [
     (Outcome::Done, "", 0),
+    (Outcome::Differ, "", 3),
     (
         Outcome::Fault(Fault::Refused(SECOND_FILE)),
         "refused: file 2 offset 24 rule 6 block-trailer\n",
@@ -55,7 +56,7 @@ fn displayed(alloc: Global, outcome: &Outcome) -> Option<String> {
     match outcome {
         Outcome::Fault(fault) => format!(in alloc; "{fault}\n").ok(),
         Outcome::Line(fault) => format!(in alloc; "{fault}\n").ok(),
-        Outcome::Done | Outcome::Open(_) | Outcome::Create => None,
+        Outcome::Done | Outcome::Differ | Outcome::Open(_) | Outcome::Create => None,
     }
 }
 
@@ -137,13 +138,23 @@ impl<'a> Write for Disk<'a> {
 }
 
 // An answer, whether the disk is full, and how that ends.
-type Flushed = (Result<(), Fault>, bool, Result<(), Outcome>);
+type Flushed = (Result<Finding, Fault>, bool, Result<(), Outcome>);
 
 const REFUSED: Fault = Fault::Refused(SECOND_FILE);
 
-const FLUSHED: [Flushed; 4] = [
-    (Ok(()), false, Ok(())),
-    (Ok(()), true, Err(Outcome::Fault(Fault::Write))),
+const FLUSHED: [Flushed; 6] = [
+    (Ok(Finding::Nothing), false, Ok(())),
+    (
+        Ok(Finding::Nothing),
+        true,
+        Err(Outcome::Fault(Fault::Write)),
+    ),
+    (Ok(Finding::Difference), false, Err(Outcome::Differ)),
+    (
+        Ok(Finding::Difference),
+        true,
+        Err(Outcome::Fault(Fault::Write)),
+    ),
     (Err(REFUSED), false, Err(Outcome::Fault(REFUSED))),
     (Err(REFUSED), true, Err(Outcome::Fault(Fault::Write))),
 ];
@@ -153,7 +164,7 @@ fn ends(
     rt: &impl Abort,
     alloc: Global,
     left: usize,
-    answer: Result<(), Fault>,
+    answer: Result<Finding, Fault>,
 ) -> Result<(), Outcome> {
     let mut taken = Vec::new(alloc);
     let disk = Disk {

@@ -29,6 +29,25 @@ fn always_memory_json_is_asked_for(rt: HostRuntime) {
     holds!(&rt; message(rt.alloc(), signed.as_slice()).is_some());
 }
 
+// Two captures are compared, in the order in which they are named, and no other number of them.
+#[test]
+fn always_memory_two_captures_are_compared(rt: HostRuntime) {
+    let words = ["capt", "diff", "a.pcap", "--json", "b.pcap"];
+    match parse(rt.alloc(), words.as_slice()) {
+        Ok(job) => {
+            same!(&rt; (job.task, job.json), (Task::Diff, true));
+            same!(&rt; job.files.as_slice(), ["a.pcap", "b.pcap"].as_slice());
+        }
+        Err(fault) => panic!(&rt; "{fault}"),
+    }
+    let one = ["capt", "diff", "a.pcap"];
+    same!(&rt; parse(rt.alloc(), one.as_slice()).err(), Some(LineFault::Line));
+    let three = ["capt", "diff", "a.pcap", "b.pcap", "c.pcap"];
+    same!(&rt; parse(rt.alloc(), three.as_slice()).err(), Some(LineFault::Line));
+    let standard = ["capt", "diff", "-", "-"];
+    same!(&rt; parse(rt.alloc(), standard.as_slice()).err(), Some(LineFault::Input));
+}
+
 #[test]
 fn always_memory_words_are_a_job(rt: HostRuntime) {
     let words = [

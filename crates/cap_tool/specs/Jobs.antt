@@ -1,5 +1,6 @@
 -- What `capt` does for a job: the text of each command, over the bytes of the job's files.
-use Rattle.std.specs.Prelude.{ℕ, List, [], ◌∷◌, length, Bool, true, false, Option, Some, None, unwrap_or, Result}
+use Rattle.std.specs.Prelude.{ℕ, List, [], ◌∷◌, length, Bool, true, false, Option, Some, None, unwrap_or}
+use Rattle.std.specs.Prelude.{Result, Ok, Err}
 use Rattle.cap_bytes.specs.Printing.{Prints}
 use Rattle.cap_bytes.specs.declared.faults.Fault.{Fault}
 use Rattle.cap_bytes.specs.declared.faults.Tail.{Tail}
@@ -18,9 +19,12 @@ use Rattle.cap_talks.specs.talks.ReportText.{report_refusal, report_text_in}
 use Rattle.cap_talks.specs.talks.Telling.{Tells}
 use Rattle.cap_tool.specs.BlockText.{block_list, block_list_json, block_refusal}
 use Rattle.cap_tool.specs.Converted.{convert_refusal, convert_text}
+use Rattle.cap_tool.specs.DiffText.{Comparison, comparison_of, diff_refusal, diff_text, is_same}
 use Rattle.cap_tool.specs.JoinText.{join_refusal_in, join_text_in}
 use Rattle.cap_tool.specs.ListText.{list_json, list_refusal, list_text}
 use Rattle.cap_tool.specs.MergeText.{merge_refusal_in, merge_text_in}
+use Rattle.cap_tool.specs.declared.outcomes.Finding.{Finding}
+use Rattle.cap_tool.specs.declared.outcomes.Finding.TheVariants.{Difference, Nothing}
 
 -- what is done with a cut end
 abbrev pub tail_of : Bool → Tail
@@ -31,6 +35,11 @@ tail_of false = Refuse
 abbrev pub only_of : List (List ℕ) → List ℕ
 only_of [] = []
 only_of (bytes ∷ files) = bytes
+
+-- the comparison of two files
+abbrev pub comparison_in : Tail → List (List ℕ) → Comparison
+comparison_in tail [] = comparison_of tail [] []
+comparison_in tail (first ∷ files) = comparison_of tail first (only_of files)
 
 -- the format that `merge` and `join` write
 abbrev pub format_in : Option Format → Format
@@ -55,13 +64,16 @@ abbrev pub blocks_in : Form → Tail → List ℕ → List ℕ
 blocks_in Text = block_list
 blocks_in Json = block_list_json
 
--- What is written and answered by a task over files of those bytes: `list`, `blocks` and `convert` are of one file.
+-- What is written and answered by a task over files of those bytes: `list`, `blocks` and `convert` are of one file,
+-- `diff` is of two.
 abbrev pub DoesTask : Task → Tail → Form → ℕ → Order → Option Format → List (List ℕ) → List ℕ → Result Unit Fault
     → List ℕ → Type 0
 DoesTask tasks.List tail form shown order to files =
     Prints (listed_in form shown tail (only_of files)) (list_refusal tail (only_of files))
 DoesTask tasks.Blocks tail form shown order to files = Prints (blocks_in form tail (only_of files))
     (block_refusal tail (only_of files))
+DoesTask tasks.Diff tail form shown order to files = Tells (diff_text (comparison_in tail files))
+    (diff_refusal (comparison_in tail files))
 DoesTask tasks.Info tail form shown order to files = Tells (info_text_in form tail files) (first_refusal tail 1 files)
 DoesTask tasks.Report tail form shown order to files =
     Tells (report_text_in form (length files) (endings_of_files tail files) (clocked_run tail files))
@@ -77,3 +89,22 @@ DoesTask tasks.Join tail form shown order to files = Prints (join_text_in (forma
 -- What is written and answered by a job: what its task is, with its tail, its form, its order and its format.
 abbrev pub Does : Job → List (List ℕ) → List ℕ → Result Unit Fault → List ℕ → Type 0
 Does job = DoesTask job.task (tail_of job.allow_cut) (form_by job.json) (shown_by job.data) job.order job.to
+
+-- what is found by whether two captures have the same packets
+abbrev pub finding_by : Bool → Finding
+finding_by true = Nothing
+finding_by false = Difference
+
+-- what a task finds in files of those bytes
+abbrev pub finding_of : Task → Tail → List (List ℕ) → Finding
+finding_of tasks.Diff tail files = finding_by (is_same (comparison_in tail files))
+finding_of _ tail files = Nothing
+
+-- what a job finds
+abbrev pub job_finding : Job → List (List ℕ) → Finding
+job_finding job = finding_of job.task (tail_of job.allow_cut)
+
+-- what a job answers, but for what it finds
+abbrev pub done_of : Result Finding Fault → Result Unit Fault
+done_of (Ok finding) = Ok tt
+done_of (Err fault) = Err fault

@@ -55,6 +55,7 @@ left_text left =
 -- these, if all was done
 abbrev pub left_told : Outcome → Left → List ℕ
 left_told outcomes.Done left = left_text left
+left_told outcomes.Differ left = []
 left_told (outcomes.Line fault) left = []
 left_told (outcomes.Fault fault) left = []
 left_told (outcomes.Open file) left = []

@@ -42,6 +42,7 @@ StopsCreating outcome = outcome ≡ outcomes.Create
 -- the file of one of those names, which is `-`, can't be read
 abbrev pub StopsAtDash : List (List ℕ) → Outcome → Type 0
 StopsAtDash names outcomes.Done = ⊥
+StopsAtDash names outcomes.Differ = ⊥
 StopsAtDash names (outcomes.Line fault) = ⊥
 StopsAtDash names (outcomes.Fault fault) = ⊥
 StopsAtDash names (outcomes.Open n) = (1 ≤ n) × (n ≤ length names) × IsTrue (is_dash (get_or names (n - 1) []))
@@ -50,6 +51,7 @@ StopsAtDash names outcomes.Create = ⊥
 -- the file of one of those names, which isn't `-`, could not be opened, or there was no memory
 abbrev pub StopsOpening : List (List ℕ) → Outcome → Type 0
 StopsOpening names outcomes.Done = ⊥
+StopsOpening names outcomes.Differ = ⊥
 StopsOpening names (outcomes.Line fault) = ⊥
 StopsOpening names (outcomes.Fault fault) = fault ≡ faults.Memory
 StopsOpening names (outcomes.Open n) = (1 ≤ n) × (n ≤ length names) × IsFalse (is_dash (get_or names (n - 1) []))

@@ -10,7 +10,7 @@ ghost use Rattle.cap_source.specs.ReadFaults.{FailsOf};
 ghost use Rattle.cap_source.specs.Times.{meta_time};
 ghost use Rattle.cap_tool.specs.DiffText.{TellsDiff, comparison_of, diff_text, difference_line, differences_of};
 ghost use Rattle.cap_tool.specs.DiffText.{do_differ, other_packet, side_text};
-ghost use Rattle.cap_tool.specs.DiffText.{compared, is_same_time, words_of};
+ghost use Rattle.cap_tool.specs.DiffText.{compared, is_same, is_same_time, words_of};
 ghost use Rattle.cap_tool.specs.inner.DiffWalk.{FailsOne, KnowsPackets, Parts, are_alike, compared_of, parted};
 
 use crate::lines::write_packet;
@@ -288,6 +288,7 @@ fn put_parting<F: PacketFeed, W: Sink>(
     ensures text { IsTrue (W.tells_held writer.old)
         → TellsDiff (parted parting.now.passed (compared_of parting.now.first (F.feed first.now).frame)
         (compared_of parting.now.second (F.feed second.now).frame)) (W.held writer.old) result (W.held writer.new) }
+    ensures same { IfOk result (λ so. so ≡ (is_none parting.now.first && is_none parting.now.second)) }
     ensures writer { WriterKeeps (writer_of W.Sink writer.old) (is_write result) (writer_of W.Sink writer.new) }
     ensures fault { IsOkUnless result Fault.Write }
 {
@@ -314,6 +315,8 @@ pub fn diff_to<R: Source, W: Sink>(
     ensures text { IsTrue (R.tells_coming first) → IsTrue (R.tells_coming second) → IsTrue (W.tells_held writer.old)
         → TellsDiff (comparison_of tail (R.coming first) (R.coming second)) (W.held writer.old) result
         (W.held writer.new) }
+    ensures same { IsTrue (R.tells_coming first) → IsTrue (R.tells_coming second)
+        → IfOk result (λ so. so ≡ is_same (comparison_of tail (R.coming first) (R.coming second))) }
     ensures writer { WriterKeeps (writer_of W.Sink writer.old) (is_write result) (writer_of W.Sink writer.new) }
     ensures read { FailsOf (R.can_fail first ∷ R.can_fail second ∷ []) result }
 {

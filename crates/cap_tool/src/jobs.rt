@@ -1,8 +1,11 @@
 //! What the command line asks for, done over readers and a writer.
-ghost use Rattle.std.specs.Prelude.{◌≡◌, ◌∷◌, [], IsTrue, OnErr, OnOk, map, vec_len};
+ghost use Rattle.std.specs.Prelude.{◌≡◌, ◌∷◌, [], IfOk, IsTrue, OnErr, OnOk, map, vec_len};
 ghost use Rattle.std.specs.List.{list_all};
 ghost use Rattle.cap_line.specs.Jobs.{IsWholeJob};
-ghost use Rattle.cap_tool.specs.Jobs.{Does, blocks_in, form_by, format_in, listed_in, shown_by, tail_of};
+ghost use Rattle.cap_talks.specs.talks.Telling.{Tells};
+ghost use Rattle.cap_tool.specs.DiffText.{comparison_of, diff_refusal, diff_text, is_same};
+ghost use Rattle.cap_tool.specs.Jobs.{Does, blocks_in, done_of, finding_by, form_by, format_in, job_finding, listed_in};
+ghost use Rattle.cap_tool.specs.Jobs.{shown_by, tail_of};
 ghost use Rattle.cap_tool.specs.BlockText.{block_refusal};
 ghost use Rattle.cap_tool.specs.JobLeft.{JobLeaves};
 ghost use Rattle.cap_tool.specs.Left.{nothing_left};
@@ -13,8 +16,10 @@ ghost use Rattle.cap_source.specs.ReadFaults.{FailsOf};
 
 use crate::blocks::{blocks_json_to, blocks_to};
 use crate::counting::{NOTHING_LEFT, Target, convert_and_count, join_with, merge_with};
+use crate::diff::diff_to;
 use crate::left::Left;
 use crate::list::{list_json_to, list_to};
+use crate::outcomes::Finding;
 use cap_bytes::{Fault, Sink, Source, Tail};
 use cap_line::{Job, Task};
 use cap_print::Form;
@@ -96,6 +101,55 @@ fn only<R: Source>(mut sources: Vec<R>) -> R
     sources.remove(0)
 }
 
+// The two sources of `diff`.
+fn pair<R: Source>(mut sources: Vec<R>) -> (R, R)
+    requires { vec_len sources ≡ 2 }
+    ensures { sources.items ≡ result.0 ∷ result.1 ∷ [] }
+{
+    let second = sources.remove(1);
+    let first = sources.remove(0);
+    (first, second)
+}
+
+// What is found by whether two captures have the same packets.
+fn finding_of(is_same: bool) -> Finding
+    ensures { result ≡ finding_by is_same }
+{
+    if is_same {
+        Finding::Nothing
+    } else {
+        Finding::Difference
+    }
+}
+
+// `diff`, and what it finds.
+fn compare<R: Source, W: Sink>(
+    alloc: Global,
+    sources: (R, R),
+    tail: Tail,
+    writer: &mut W,
+    finding: &mut Finding,
+) -> Result<(), Fault>
+    ensures text { IsTrue (R.tells_coming sources.0) → IsTrue (R.tells_coming sources.1)
+        → IsTrue (W.tells_held writer.old)
+        → Tells (diff_text (comparison_of tail (R.coming sources.0) (R.coming sources.1)))
+        (diff_refusal (comparison_of tail (R.coming sources.0) (R.coming sources.1))) (W.held writer.old) result
+        (W.held writer.new) }
+    ensures finding { OnOk result (IsTrue (R.tells_coming sources.0) → IsTrue (R.tells_coming sources.1)
+        → finding.new ≡ finding_by (is_same (comparison_of tail (R.coming sources.0) (R.coming sources.1)))) }
+    ensures writer { WriterKeeps (writer_of W.Sink writer.old) (is_write result) (writer_of W.Sink writer.new) }
+    ensures read { FailsOf (R.can_fail sources.0 ∷ R.can_fail sources.1 ∷ []) result }
+{
+    let (first, second) = sources;
+    match diff_to(alloc, first, second, tail, writer) {
+        Ok(is_same) => {
+            *finding = finding_of(is_same);
+            Ok(())
+        }
+        Err(fault) => Err(fault),
+    }
+}
+
 // What `merge` and `join` write a file in: a pcapng file if no format is asked for.
 fn target_of(job: &Job<'_>) -> Target
     ensures format { result.format ≡ format_in job.now.to }
@@ -107,7 +161,7 @@ fn target_of(job: &Job<'_>) -> Target
     }
 }
 
-// Does a job. Times are watched for those that run back if they are to be counted.
+// Does a job, and sets what it finds. Times are watched for those that run back if they are to be counted.
 #[inline(never)]
 fn job_with<R: Source, W: Sink>(
     alloc: Global,
@@ -116,6 +170,7 @@ fn job_with<R: Source, W: Sink>(
     counts: bool,
     writer: &mut W,
     left: &mut Left,
+    finding: &mut Finding,
 ) -> Result<(), Fault>
     requires whole { IsWholeJob job.now }
     requires sources { vec_len sources ≡ vec_len job.now.files }
@@ -126,8 +181,11 @@ fn job_with<R: Source, W: Sink>(
     ensures left { OnOk result (IsTrue (list_all R.tells_coming sources.items)
         → JobLeaves job.now (map R.coming sources.items) left.new) }
     ensures fault { OnErr result (left.new ≡ nothing_left) }
+    ensures finding { OnOk result (IsTrue (list_all R.tells_coming sources.items)
+        → finding.new ≡ job_finding job.now (map R.coming sources.items)) }
 {
     *left = NOTHING_LEFT;
+    *finding = Finding::Nothing;
     let tail = tail_of(job.allow_cut);
     let form = form_of(job.json);
     match job.task {
@@ -136,6 +194,7 @@ fn job_with<R: Source, W: Sink>(
             list_in(alloc, only(sources), tail, form, shown, writer)
         }
         Task::Blocks => blocks_in(alloc, only(sources), tail, form, writer),
+        Task::Diff => compare(alloc, pair(sources), tail, writer, finding),
         Task::Info => file_lines_in(alloc, sources, tail, form, writer),
         Task::Report => report_in(alloc, sources, tail, form, writer),
         Task::Convert => {
@@ -147,7 +206,7 @@ fn job_with<R: Source, W: Sink>(
     }
 }
 
-/// Does what `job_to` does, and answers what it answers. `left` says what `convert_and_count`, `merge_and_count` and
+/// Does what `job_to` does, and returns what it returns. `left` says what `convert_and_count`, `merge_and_count` and
 /// `join_and_count` say of theirs, and nothing of other tasks. After a fault `left` says nothing.
 pub fn job_and_count<R: Source, W: Sink>(
     alloc: Global,
@@ -155,39 +214,51 @@ pub fn job_and_count<R: Source, W: Sink>(
     sources: Vec<R>,
     writer: &mut W,
     left: &mut Left,
-) -> Result<(), Fault>
+) -> Result<Finding, Fault>
     requires whole { IsWholeJob job.now }
     requires sources { vec_len sources ≡ vec_len job.now.files }
     ensures text { IsTrue (list_all R.tells_coming sources.items) → IsTrue (W.tells_held writer.old)
-        → Does job.now (map R.coming sources.items) (W.held writer.old) result (W.held writer.new) }
+        → Does job.now (map R.coming sources.items) (W.held writer.old) (done_of result) (W.held writer.new) }
+    ensures finding { IsTrue (list_all R.tells_coming sources.items)
+        → IfOk result (λ found. found ≡ job_finding job.now (map R.coming sources.items)) }
     ensures writer { WriterKeeps (writer_of W.Sink writer.old) (is_write result) (writer_of W.Sink writer.new) }
     ensures read { FailsOf (map R.can_fail sources.items) result }
     ensures left { OnOk result (IsTrue (list_all R.tells_coming sources.items)
         → JobLeaves job.now (map R.coming sources.items) left.new) }
     ensures fault { OnErr result (left.new ≡ nothing_left) }
 {
-    job_with(alloc, job, sources, true, writer, left)
+    let mut finding = Finding::Nothing;
+    match job_with(alloc, job, sources, true, writer, left, &mut finding) {
+        Ok(()) => Ok(finding),
+        Err(fault) => Err(fault),
+    }
 }
 
 /// Does a job over the files that it names, of which `sources` gives the bytes in their order, and writes to
 /// what it names as its output: each task is the command of its name, with the tail, the form, the order and the
-/// format that the job has. `info` and `report` write all of their text, or nothing if they answer
-/// `Refused`, `Read` or `Memory`; the others write up to the first refusal, which they answer, and a prefix
-/// of their text if they answer another fault. `Read` comes if a read fails, `Write` if a write
-/// does, and `Memory` if a growth is refused.
+/// format that the job has. It returns what it found: `Difference` exactly if it is `diff` of captures that differ.
+/// `info`, `report` and `diff` write all of their text, or nothing if they return `Refused`, `Read` or `Memory`; the
+/// others write up to the first refusal, which they return, and a prefix of their text if they return another fault.
+/// It returns `Read` if a read fails, `Write` if a write does, and `Memory` if a growth is refused.
 pub fn job_to<R: Source, W: Sink>(
     alloc: Global,
     job: &Job<'_>,
     sources: Vec<R>,
     writer: &mut W,
-) -> Result<(), Fault>
+) -> Result<Finding, Fault>
     requires whole { IsWholeJob job.now }
     requires sources { vec_len sources ≡ vec_len job.now.files }
     ensures text { IsTrue (list_all R.tells_coming sources.items) → IsTrue (W.tells_held writer.old)
-        → Does job.now (map R.coming sources.items) (W.held writer.old) result (W.held writer.new) }
+        → Does job.now (map R.coming sources.items) (W.held writer.old) (done_of result) (W.held writer.new) }
+    ensures finding { IsTrue (list_all R.tells_coming sources.items)
+        → IfOk result (λ found. found ≡ job_finding job.now (map R.coming sources.items)) }
     ensures writer { WriterKeeps (writer_of W.Sink writer.old) (is_write result) (writer_of W.Sink writer.new) }
     ensures read { FailsOf (map R.can_fail sources.items) result }
 {
     let mut left = NOTHING_LEFT;
-    job_with(alloc, job, sources, false, writer, &mut left)
+    let mut finding = Finding::Nothing;
+    match job_with(alloc, job, sources, false, writer, &mut left, &mut finding) {
+        Ok(()) => Ok(finding),
+        Err(fault) => Err(fault),
+    }
 }

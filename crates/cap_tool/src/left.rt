@@ -85,6 +85,10 @@ pub fn left_lines(outcome: &Outcome, left: &Left) -> Line
 {
     match outcome {
         Outcome::Done => count_lines(left),
-        Outcome::Line(_) | Outcome::Fault(_) | Outcome::Open(_) | Outcome::Create => Line::new(),
+        Outcome::Differ
+        | Outcome::Line(_)
+        | Outcome::Fault(_)
+        | Outcome::Open(_)
+        | Outcome::Create => Line::new(),
     }
 }

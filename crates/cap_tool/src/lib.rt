@@ -35,7 +35,9 @@ pub use crate::kinds::{Kind, kind_at, kind_of};
 pub use crate::left::{Left, left_lines};
 pub use crate::list::{list_json_to, list_to};
 pub use crate::objects::{outcome_object, tell_in};
-pub use crate::outcomes::{Outcome, Stop, end_of, fault_line, outcome_line, status_of, tell};
+pub use crate::outcomes::{
+    Finding, Outcome, Stop, end_of, fault_line, outcome_line, status_of, tell,
+};
 pub use crate::progress::{Progress, progress_line};
 pub use crate::regular::{FileId, Regular};
 pub use crate::remembered::Remembered;

@@ -173,7 +173,7 @@ pub fn outcome_object<W: Sink>(
             put_all(writer, b"{\"type\":\"fault\",\"fault\":\"memory\"}\n")
         }
         Outcome::Create => put_all(writer, b"{\"type\":\"fault\",\"fault\":\"create\"}\n"),
-        Outcome::Done | Outcome::Line(_) => outcome_line(outcome, writer),
+        Outcome::Done | Outcome::Differ | Outcome::Line(_) => outcome_line(outcome, writer),
     }
 }
 

@@ -17,6 +17,8 @@ use std::io;
 pub enum Outcome {
     /// All was done.
     Done,
+    /// All was done, and two captures that were compared differ.
+    Differ,
     /// The command line was not run.
     Line(LineFault),
     /// An input was refused, or a device or memory failed.
@@ -27,7 +29,16 @@ pub enum Outcome {
     Create,
 }
 
-/// Why a run ended before all was done.
+/// What a job that was done found, by which its run ends.
+#[derive(Clone, Copy, Debug, PartialEq, Eq)]
+pub enum Finding {
+    /// Nothing by which a run ends otherwise.
+    Nothing,
+    /// Two captures differ.
+    Difference,
+}
+
+/// Why a run ended other than by `Outcome::Done`.
 #[derive(Clone, Copy, Debug, PartialEq, Eq)]
 pub struct Stop {
     /// How it ended.
@@ -45,20 +56,32 @@ impl From<Outcome> for Stop {
     }
 }
 
-/// How a command ends that answered `answer`, once what waited in its writer's buffer was flushed:
-/// a flush that failed comes before the answer.
-pub fn end_of(answer: Result<(), Fault>, flushed: io::Result<()>) -> Result<(), Outcome>
+// How a run ends by what its command returned.
+fn ended(answer: Result<Finding, Fault>) -> Result<(), Outcome>
+    ensures { result ≡ ends_by answer }
+{
+    match answer {
+        Ok(Finding::Nothing) => Ok(()),
+        Ok(Finding::Difference) => Err(Outcome::Differ),
+        Err(fault) => Err(Outcome::Fault(fault)),
+    }
+}
+
+/// How a command ends that returned `answer`, once what waited in its writer's buffer was flushed:
+/// a flush that failed comes before the answer. Only a command that found nothing ends as `Ok`.
+pub fn end_of(answer: Result<Finding, Fault>, flushed: io::Result<()>) -> Result<(), Outcome>
     ensures flushed { IsOk flushed → result ≡ ends_by answer }
     ensures write { IsErr flushed → result ≡ Err (Outcome.Fault Fault.Write) }
 {
     match flushed {
-        Ok(()) => answer.map_err(Outcome::Fault),
+        Ok(()) => ended(answer),
         Err(_) => Err(Outcome::Fault(Fault::Write)),
     }
 }
 
 /// The status that the process ends with: 0 for a run that is done and for help, 1 if an input
-/// is refused, or a device, an opening, a creation or memory fails, 2 for a faulty command line.
+/// is refused, or a device, an opening, a creation or memory fails, 2 for an invalid command line, 3 for captures that
+/// differ.
 pub fn status_of(outcome: &Outcome) -> u8
     ensures { result ≡ status_after outcome.now }
 {
@@ -70,6 +93,7 @@ pub fn status_of(outcome: &Outcome) -> u8
         | Outcome::Line(LineFault::Files)
         | Outcome::Line(LineFault::Input)
         | Outcome::Line(LineFault::Output) => 2,
+        Outcome::Differ => 3,
     }
 }
 
@@ -153,7 +177,7 @@ pub fn outcome_line<W: Sink>(outcome: &Outcome, writer: &mut W) -> Result<(), Fa
     ensures fault { IsOkUnless result Fault.Write }
 {
     match outcome {
-        Outcome::Done => Ok(()),
+        Outcome::Done | Outcome::Differ => Ok(()),
         Outcome::Line(fault) => put_all(writer, line_fault_text(*fault)),
         Outcome::Fault(fault) => put_all(writer, fault_line(*fault).as_slice()),
         Outcome::Open(file) => put_all(writer, open_line(*file).as_slice()),

@@ -7,7 +7,7 @@ use crate::files::{ask_written, readers_of, room_of};
 use cap_bytes::{Fault, Order, Sink};
 use cap_line::{Job, Task, can_replace, is_whole};
 use cap_source::Format;
-use cap_tool::{Left, job_and_count, job_to};
+use cap_tool::{Finding, Left, job_and_count, job_to};
 use std::alloc::Global;
 use std::process::Abort;
 
@@ -16,6 +16,10 @@ const CUT_PCAP: &str = "d4c3b2a1020004000000000000000000000004000100000001000000
 
 const LINE: &str =
     "packet 1 offset 24 time 2+500000/1000000 captured 4 original 4 link 1 data 01020304\n";
+
+const ENDED: &str = "differ packet 1 end\n\
+    - packet 1 offset 24 time 2+500000/1000000 captured 4 original 4 link 1 data 01020304\n\
+    + end\n";
 
 const INFO: &str = "files 1\n\
     file 1 pcap packets 1 bytes 4 truncated 0 skipped 0 first 2+500000/1000000 last 2+500000/1000000\n";
@@ -92,7 +96,7 @@ fn does<W: Sink>(
     job: &Job<'_>,
     captures: &[&str],
     writer: &mut W,
-) -> Result<(), Fault> {
+) -> Result<Finding, Fault> {
     let sources = readers_of(rt, alloc, captures, 4096);
     holds!(rt; sources.len() == job.files.len());
     holds!(rt; !job.files.is_empty());
@@ -110,7 +114,7 @@ fn counts<W: Sink>(
     captures: &[&str],
     writer: &mut W,
     left: &mut Left,
-) -> Result<(), Fault> {
+) -> Result<Finding, Fault> {
     let sources = readers_of(rt, alloc, captures, 4096);
     holds!(rt; sources.len() == job.files.len());
     holds!(rt; !job.files.is_empty());
@@ -144,8 +148,32 @@ fn prints(rt: &impl Abort, alloc: Global, row: &Printed) {
     let job = printing(rt, alloc, task, allow_cut);
     let mut writer = room_of(rt, alloc, 1024);
     let answer = does(rt, alloc, &job, &[capture], &mut writer);
-    let wanted = (Ok(()), text.as_bytes());
+    let wanted = (Ok(Finding::Nothing), text.as_bytes());
     same!(rt; (answer, writer.bytes()), wanted, task);
+}
+
+// What a job of two captures finds.
+fn finds(rt: &impl Abort, alloc: Global, captures: &[&str], text: &str, finding: Finding) {
+    let mut job = printing(rt, alloc, Task::Diff, false);
+    job.files.push("b").expect(rt, "memory");
+    let mut writer = room_of(rt, alloc, 1024);
+    let answer = does(rt, alloc, &job, captures, &mut writer);
+    same!(rt; (answer, writer.bytes()), (Ok(finding), text.as_bytes()));
+}
+
+#[test]
+fn a_job_finds_a_difference(rt: HostRuntime) {
+    let alloc = rt.alloc();
+    let same = [CARRY_PCAP, CARRY_PCAPNG];
+    finds(
+        &rt,
+        alloc,
+        same.as_slice(),
+        "same packets 1\n",
+        Finding::Nothing,
+    );
+    let other = [CARRY_PCAP, SECTION];
+    finds(&rt, alloc, other.as_slice(), ENDED, Finding::Difference);
 }
 
 // What a job writes.
@@ -169,7 +197,8 @@ fn writes(rt: &impl Abort, alloc: Global, row: &Written) {
     };
     let mut writer = room_of(rt, alloc, 1024);
     let answer = does(rt, alloc, &job, captures, &mut writer);
-    ask_written(rt, alloc, (answer, writer.bytes()), Ok(()), &[text]);
+    same!(rt; answer, Ok(Finding::Nothing), task);
+    ask_written(rt, alloc, (Ok(()), writer.bytes()), Ok(()), &[text]);
 }
 
 #[test]
@@ -210,7 +239,7 @@ fn leaves(rt: &impl Abort, alloc: Global, task: Task, skipped: u128) {
         named: 0,
         ran_back: 0,
     };
-    same!(rt; (answer, left), (Ok(()), wanted), task);
+    same!(rt; (answer, left), (Ok(Finding::Nothing), wanted), task);
 }
 
 #[test]
