@@ -1,4 +1,5 @@
 mod Alike
+mod DigestLaws
 mod FileNumbers
 mod InOrder
 mod JoinedByPlaces

@@ -48,7 +48,7 @@ some-none : (r : Refusal) → Some r ≡ None → ⊥
 some-none r e = cc
 
 -- if each packet is written, the file isn't refused
-unrefused : (origins : List Origin) (items : List Item) → refusal_in origins items ≡ None → refusal_of items ≡ None
+pub unrefused : (origins : List Origin) (items : List Item) → refusal_in origins items ≡ None → refusal_of items ≡ None
 unfolding refusal_in refusal_of
 unrefused origins (packet meta frame ∷ items) none = grind (arith, unrefused (with_origin origins meta) items)
 unrefused origins items none = cc

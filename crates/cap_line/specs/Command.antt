@@ -107,6 +107,10 @@ abbrev pub diff_app : App
 diff_app =
     with_rule (with_rule (showing_app (codes "diff")) (required_rule (codes "A"))) (required_rule (codes "B"))
 
+-- `digest FILE..`
+abbrev pub digest_app : App
+digest_app = with_rule (showing_app (codes "digest")) files_rule
+
 -- `info FILE..`
 abbrev pub info_app : App
 info_app = with_rule (showing_app (codes "info")) files_rule
@@ -168,12 +172,12 @@ AddsMade made sub new = IsOkAnd made (λ old. IsOkAnd sub (λ s. new ≡ with_su
 abbrev pub capt_alone : App
 capt_alone = on_top (λ s. record s { has_version = true; subcommand_required = true }) (new_app (codes "capt"))
 
--- `capt` with the subcommands that print one capture, with `diff` too, with those that print, and with all
+-- `capt` with the subcommands that print one capture, with `diff` and `digest` too, with those that print, and with all
 abbrev pub listing_app : App
 listing_app = with_subcommand (with_subcommand capt_alone list_app.top) blocks_app.top
 
 abbrev pub comparing_app : App
-comparing_app = with_subcommand listing_app diff_app.top
+comparing_app = with_subcommand (with_subcommand listing_app diff_app.top) digest_app.top
 
 abbrev pub printing_app : App
 printing_app = with_subcommand (with_subcommand comparing_app info_app.top) report_app.top

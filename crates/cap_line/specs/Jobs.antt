@@ -27,6 +27,7 @@ task_by name =
     if bytes_eq name (codes "list") then Some tasks.List else
     if bytes_eq name (codes "blocks") then Some tasks.Blocks else
     if bytes_eq name (codes "diff") then Some tasks.Diff else
+    if bytes_eq name (codes "digest") then Some tasks.Digest else
     if bytes_eq name (codes "info") then Some tasks.Info else
     if bytes_eq name (codes "report") then Some tasks.Report else
     if bytes_eq name (codes "convert") then Some tasks.Convert else
@@ -59,6 +60,7 @@ abbrev pub is_whole_task : Task → ℕ → Option Format → Option (List ℕ) 
 is_whole_task tasks.List files to out = files == 1
 is_whole_task tasks.Blocks files to out = files == 1
 is_whole_task tasks.Diff files to out = files == 2
+is_whole_task tasks.Digest files to out = true
 is_whole_task tasks.Info files to out = true
 is_whole_task tasks.Report files to out = true
 is_whole_task tasks.Convert files to out = (files == 1) && is_some to && is_some out
@@ -88,6 +90,7 @@ abbrev pub is_printing : Task → Bool
 is_printing tasks.List = true
 is_printing tasks.Blocks = true
 is_printing tasks.Diff = true
+is_printing tasks.Digest = true
 is_printing tasks.Info = true
 is_printing tasks.Report = true
 is_printing tasks.Convert = false

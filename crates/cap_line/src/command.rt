@@ -5,8 +5,8 @@ ghost use Rattle.clap.specs.declared.builder.command.Command.TheViews.{out-Comma
 ghost use Rattle.cap_line.specs.Command.{AddsMade, AddsRule, IsCapt, IsConvert, IsGathering, IsJoin, IsMerge};
 ghost use Rattle.cap_line.specs.Command.{IsOrderRule, IsRequiredToRule, IsToRule, IsWriting, blocks_app, capt_alone};
 ghost use Rattle.cap_line.specs.Command.{choice_rule, cutting_app, file_rule, files_rule, flag_rule, info_app};
-ghost use Rattle.cap_line.specs.Command.{comparing_app, data_rule, diff_app, list_app, listing_app, out_rule};
-ghost use Rattle.cap_line.specs.Command.{printing_app, reading_app, report_app, required_rule, showing_app};
+ghost use Rattle.cap_line.specs.Command.{comparing_app, data_rule, diff_app, digest_app, list_app, listing_app};
+ghost use Rattle.cap_line.specs.Command.{out_rule, printing_app, reading_app, report_app, required_rule, showing_app};
 
 use crate::texts;
 use crate::usage::USAGE;
@@ -284,6 +284,17 @@ fn diff<'a>(alloc: Global) -> Result<Command<'a>, AllocError>
     )
 }
 
+// `digest`
+fn digest<'a>(alloc: Global) -> Result<Command<'a>, AllocError>
+    ensures app { IfOk result (λ c. app_of c ≡ digest_app) }
+    ensures local { IfOk result (λ c. (fields_of c).has_globals ≡ false) }
+{
+    with_argument(
+        showing(alloc, "digest", texts::DIGEST_ABOUT, texts::DIGEST_HELP),
+        files(alloc),
+    )
+}
+
 // `info`
 fn info<'a>(alloc: Global) -> Result<Command<'a>, AllocError>
     ensures app { IfOk result (λ c. app_of c ≡ info_app) }
@@ -364,11 +375,12 @@ fn listing<'a>(alloc: Global) -> Result<Command<'a>, AllocError>
     with_subcommand(capt, blocks(alloc))
 }
 
-// `capt` with these and `diff`
+// `capt` with these, `diff` and `digest`
 fn comparing<'a>(alloc: Global) -> Result<Command<'a>, AllocError>
     ensures { IfOk result (λ c. app_of c ≡ comparing_app) }
 {
-    with_subcommand(listing(alloc), diff(alloc))
+    let capt = with_subcommand(listing(alloc), diff(alloc));
+    with_subcommand(capt, digest(alloc))
 }
 
 // `capt` with the subcommands that print

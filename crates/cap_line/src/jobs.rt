@@ -25,7 +25,9 @@ pub enum Task {
     Blocks,
     /// Print whether two files have the same packets, or the first difference.
     Diff,
-    /// Print a line for each of some files.
+    /// Print a line for each of some files: the SHA-256 of its packets.
+    Digest,
+    /// Print a line for each of some files: what it holds.
     Info,
     /// Print what is counted of some files, and a line for each conversation.
     Report,
@@ -63,7 +65,8 @@ pub struct Job<'a> {
     pub data: Option<u32>,
 }
 
-/// The task of that name, if it is one's: `list`, `blocks`, `diff`, `info`, `report`, `convert`, `merge` or `join`.
+/// The task of that name, if it is one's: `list`, `blocks`, `diff`, `digest`, `info`, `report`, `convert`,
+/// `merge` or `join`.
 pub fn task_of(name: &str) -> Option<Task>
     ensures { result ≡ task_by name.now }
 {
@@ -71,6 +74,7 @@ pub fn task_of(name: &str) -> Option<Task>
         "list" => Some(Task::List),
         "blocks" => Some(Task::Blocks),
         "diff" => Some(Task::Diff),
+        "digest" => Some(Task::Digest),
         "info" => Some(Task::Info),
         "report" => Some(Task::Report),
         "convert" => Some(Task::Convert),
@@ -109,7 +113,7 @@ pub fn is_whole(task: Task, files: usize, to: Option<Format>, out: Option<&str>)
     match task {
         Task::List | Task::Blocks => files == 1,
         Task::Diff => files == 2,
-        Task::Info | Task::Report => true,
+        Task::Digest | Task::Info | Task::Report => true,
         Task::Convert => files == 1 && to.is_some() && out.is_some(),
         Task::Merge | Task::Join => out.is_some(),
     }
@@ -173,7 +177,7 @@ pub fn can_show(task: Task, json: bool, count: Option<u32>) -> bool
 {
     match task {
         Task::List => json || count.is_none(),
-        Task::Blocks | Task::Diff | Task::Info | Task::Report => count.is_none(),
+        Task::Blocks | Task::Diff | Task::Digest | Task::Info | Task::Report => count.is_none(),
         Task::Convert | Task::Merge | Task::Join => !json && count.is_none(),
     }
 }

@@ -78,6 +78,19 @@ that, nothing is printed. The status is 3 if the packets differ.
 Examples: capt diff trace.pcap trace.pcapng
           set -o pipefail; zcat old.pcap.gz | capt diff - new.pcap";
 
+pub(crate) const DIGEST_ABOUT: &str = "Prints the SHA-256 of the packets of each capture";
+
+pub(crate) const DIGEST_HELP: &str = "Prints, for each capture, as soon as it is read:
+  digest I sha256 HEX packets P
+HEX is the SHA-256 of the packets in a canonical form: the link type, the
+captured and the original length, the exact time and the bytes of each. So
+captures with the same packets in the same order have the same digest, in
+whatever format, byte order and time units. If a capture is refused, the lines
+of those before are printed.
+
+Examples: capt digest trace.pcap trace.pcapng
+          set -o pipefail; zcat trace.pcap.gz | capt digest -";
+
 pub(crate) const CONVERT_ABOUT: &str = "Writes the packets of a capture in either format";
 
 pub(crate) const CONVERT_HELP: &str =

@@ -10,6 +10,7 @@ Usage: capt report [--allow-cut] FILE...
        capt list [--allow-cut] FILE
        capt blocks [--allow-cut] FILE
        capt diff [--allow-cut] A B
+       capt digest [--allow-cut] FILE...
        capt convert [--allow-cut] [--order ORDER] --to FORMAT -o OUT FILE
        capt merge [--allow-cut] [--order ORDER] [--to FORMAT] -o OUT FILE...
        capt join [--allow-cut] [--order ORDER] [--to FORMAT] -o OUT FILE...
@@ -20,6 +21,7 @@ Commands:
   list     Prints a line for each packet of a capture
   blocks   Prints a line for each block of a pcapng file
   diff     Compares the packets of two captures
+  digest   Prints the SHA-256 of the packets of each capture
   convert  Writes the packets of a capture in either format
   merge    Writes the packets of captures as one, in the order of time
   join     Writes the whole IPv4 datagrams of captures, fragments joined
@@ -29,7 +31,7 @@ Options:
   -V, --version  Print version
       --explain  Of each command: name the file of a fault, and why, and count
                  what isn't carried on, as at a terminal
-      --json     Of report, info, list, blocks and diff: print JSON Lines
+      --json     Of report, info, list, blocks, diff, digest: print JSON Lines
       --data N   Of list --json: show N bytes of each packet, default 16
       --whole    Of convert, merge and join: leave OUT as it was until all is
                  done

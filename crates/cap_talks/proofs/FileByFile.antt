@@ -1,9 +1,8 @@
 -- Files that are read one by one.
 use Rattle.std.proofs.Common.{◌≡◌, ◌<◌, ◌+◌, ℕ, suc, Bool, true, false, ◌-◌, List, [], ◌∷◌, ◌++◌, length, map, take}
 use Rattle.std.proofs.Common.{drop, get_or, arith, None, Ok, Err, append_assoc}
-use Rattle.std.specs.Prelude.{◌&&◌, Vec}
+use Rattle.std.specs.Prelude.{◌&&◌}
 use Rattle.std.specs.List.{list_all}
-use Rattle.std.specs.declared.alloc.Global.{Global}
 use Rattle.cap_bytes.specs.declared.faults.Fault.{Fault}
 use Rattle.cap_bytes.specs.declared.faults.Fault.TheVariants.{Refused, Read, Write, Memory}
 use Rattle.cap_bytes.specs.declared.faults.Tail.{Tail}
@@ -14,7 +13,7 @@ use Rattle.cap_talks.specs.talks.InfoText.{first_refusal}
 use Rattle.cap_talks.specs.talks.Reading.{counted_files, CountsFile, CountsFiles}
 use Rattle.cap_talks.specs.declared.counts.files.Counted.{Counted}
 
-bytes-at : {R : Type 0} (coming : R → List ℕ) (all : List R) (place : ℕ) (x : R) → x ≡ get_or all place x
+pub bytes-at : {R : Type 0} (coming : R → List ℕ) (all : List R) (place : ℕ) (x : R) → x ≡ get_or all place x
     → place < length all
     → drop place (map coming all) ≡ coming x ∷ drop (suc place) (map coming all)
 bytes-at coming (y ∷ all) (suc place) x is within = bytes-at coming all place x is (omega arith)
@@ -67,14 +66,14 @@ pub read-fault : {R : Type 0} (coming : R → List ℕ) (tail : Tail) (all : Lis
 read-fault coming tail all place x read fault is within r e = grind (arith, bytes-at, take)
 
 -- a read of one of them fails
-pub fails : {R : Type 0} (can_fail : R → Bool) (all : List R) (place : ℕ) (x : R) (fault : Fault)
+pub fails : (A B : Type 0) {R : Type 0} (can_fail : R → Bool) (all : List R) (place : ℕ) (x : R) (fault : Fault)
     → x ≡ get_or all place x → place < length all
-    → FailsAs {A = Counted} (1 + place) (can_fail x) (Err fault)
-    → FailsOf {A = Vec Counted Global} (map can_fail all) (Err fault)
-fails can_fail all place x fault is within f = by fault f
+    → FailsAs {A = A} (1 + place) (can_fail x) (Err fault)
+    → FailsOf {A = B} (map can_fail all) (Err fault)
+fails A B can_fail all place x fault is within f = by fault f
   where
-    by : (fault : Fault) → FailsAs {A = Counted} (1 + place) (can_fail x) (Err fault)
-        → FailsOf {A = Vec Counted Global} (map can_fail all) (Err fault)
+    by : (fault : Fault) → FailsAs {A = A} (1 + place) (can_fail x) (Err fault)
+        → FailsOf {A = B} (map can_fail all) (Err fault)
     by (Refused refusal) f = tt
     by (Read file offset) f =
         let behind : file - 1 ≡ place = omega (arith, f.0) in

@@ -2,6 +2,7 @@ pub mod Parting
 mod Merging
 mod Leaving
 pub mod BlockListing
+pub mod DigestFiles
 pub mod BlockWalking
 pub mod Listing
 pub mod Telling

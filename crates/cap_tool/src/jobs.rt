@@ -17,6 +17,7 @@ ghost use Rattle.cap_source.specs.ReadFaults.{FailsOf};
 use crate::blocks::{blocks_json_to, blocks_to};
 use crate::counting::{NOTHING_LEFT, Target, convert_and_count, join_with, merge_with};
 use crate::diff::diff_to;
+use crate::digests::digests_to;
 use crate::left::Left;
 use crate::list::{list_json_to, list_to};
 use crate::outcomes::Finding;
@@ -195,6 +196,7 @@ fn job_with<R: Source, W: Sink>(
         }
         Task::Blocks => blocks_in(alloc, only(sources), tail, form, writer),
         Task::Diff => compare(alloc, pair(sources), tail, writer, finding),
+        Task::Digest => digests_to(alloc, sources, tail, form, writer),
         Task::Info => file_lines_in(alloc, sources, tail, form, writer),
         Task::Report => report_in(alloc, sources, tail, form, writer),
         Task::Convert => {

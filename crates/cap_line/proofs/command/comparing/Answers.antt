@@ -1,8 +1,11 @@
-use Rattle.cap_line.specs.Command.{diff_app, listing_app}
+use Rattle.cap_line.specs.Command.{diff_app, digest_app, listing_app}
 use Rattle.cap_line.proofs.Parsing.{AddsMade-is}
 use Rattle.cap_line.proofs.command.comparing.Goals as goal
 
 pub returns : goal.returns
 returns c =
-    AddsMade-is c.listing.result c.diff.result c.with_subcommand.result listing_app diff_app c.listing.ensures
-    c.diff.ensures.app c.with_subcommand.ensures
+    let first = AddsMade-is c.listing.result c.diff.result c.with_subcommand-capt.result listing_app diff_app
+    c.listing.ensures c.diff.ensures.app
+    c.with_subcommand-capt.ensures in
+    AddsMade-is c.with_subcommand-capt.result c.digest.result c.with_subcommand.result _ digest_app first
+    c.digest.ensures.app c.with_subcommand.ensures

@@ -3,6 +3,8 @@ use Rattle.std.proofs.Common.{length-append, subst, ℕ}
 use Rattle.std.proofs.lemmas.Iterator.Adapters.{YieldsList-from_vec}
 use Rattle.std.proofs.lemmas.Iterator.Consumers.{YieldsList-turn}
 use Rattle.std.proofs.lemmas.Result.{err_from_is_err_and}
+use Rattle.std.specs.Prelude.{Vec}
+use Rattle.std.specs.declared.alloc.Global.{Global}
 use Rattle.cap_source.specs.ReadFaults.{FailsAs}
 use Rattle.cap_talks.specs.talks.Reading.{CountsFile}
 use Rattle.cap_talks.specs.declared.counts.files.Counted.{Counted}
@@ -58,7 +60,7 @@ returns-in_err-each-clause-read g c =
     c.loop-source.yielded c.loop-source.source-iterator c.loop-source.yielded_by c.next.result c.next.new.self x
     c.in-Some.is c.next.ensures.steps in
     rw (p.1, p.2)
-    (fails g.R.Device.can_fail c.args.sources.items
+    (fails Counted (Vec Counted Global) g.R.Device.can_fail c.args.sources.items
     (length c.loop-source.yielded) x c.in_err-each.field-0.0 turn.1 turn.0
     (subst (λ (n : ℕ). FailsAs {A = Counted} n (g.R.Device.can_fail x) (Err c.in_err-each.field-0.0))
     c.loop-source.invariant.number c.in_err-each.ensures.read))

@@ -1,0 +1,131 @@
+-- The packets of a feed, taken into a hasher one after another.
+use Rattle.std.proofs.Common.{◌≡◌, ◌+◌, ◌≤◌, ℕ, List, [], ◌∷◌, ◌++◌, length, drop, IsTrue, None, Some, Ok, Err, refl}
+use Rattle.std.proofs.Common.{sym, ap, ◌∙◌, arith, append_assoc, append-nil}
+use Rattle.cap_bytes.specs.Printing.{Prints}
+use Rattle.cap_bytes.specs.declared.faults.Fault.{Fault}
+use Rattle.cap_bytes.specs.declared.faults.Fault.TheVariants.{Refused, Read, Write, Memory}
+use Rattle.cap_bytes.specs.declared.faults.Tail.{Tail}
+use Rattle.cap_digest.specs.Canonical.{canonical_text, head_bytes}
+use Rattle.cap_digest.specs.DigestText.{digest_text}
+use Rattle.cap_digest.specs.inner.Digesting.{DigestsAll}
+use Rattle.cap_digest.specs.declared.digests.Digested.{Digested}
+use Rattle.cap_print.specs.declared.forms.Form.{Form}
+use Rattle.cap_source.proofs.Onward.{Went, Went-none, Went-more}
+use Rattle.cap_source.specs.Feed.{Feed, FeedKeeps, FeedPasses, Item, packet, refusal_of}
+use Rattle.cap_source.specs.Items.{file_items}
+use Rattle.cap_source.specs.inner.Walk.{GivesPacket, ShowsItem}
+use Rattle.cap_source.specs.declared.packets.Meta.{Meta}
+use Rattle.sha2.specs.Hashers.{Holds256}
+use Rattle.sha2.specs.Sha256.{sha256}
+use Rattle.sha2.specs.declared.Sha256.{Sha256}
+
+-- The packets that a feed gave, which was `old`, are taken.
+pub record Digesting (old new : Feed) (hasher : Sha256) (packets : ℕ) : Type 0 where
+  pub went : Went old new
+  pub few : packets + new.left ≤ old.left
+  pub message : List ℕ
+  pub holds : Holds256 hasher message
+  pub text : IsTrue old.told → message ++ canonical_text new.items ≡ canonical_text old.items
+  pub count : IsTrue old.told → packets + length new.items ≡ length old.items
+  pub refusal : IsTrue old.told → refusal_of new.items ≡ refusal_of old.items
+
+-- none is taken yet
+pub Digesting-none : (a : Feed) (hasher : Sha256) → Holds256 hasher [] → Digesting a a hasher 0
+Digesting-none a hasher empty =
+    record {
+      went = Went-none a;
+      few = omega arith;
+      message = [];
+      holds = empty;
+      text = λ t. refl;
+      count = λ t. omega arith;
+      refusal = λ t. refl;
+    }
+
+text_of-packet : (items : List Item) (meta : Meta) (frame : List ℕ) (rest : List Item) → items ≡ packet meta frame ∷ rest
+    → canonical_text items ≡ head_bytes meta ++ frame ++ canonical_text rest
+unfolding canonical_text
+text_of-packet items meta frame rest is = ap canonical_text is
+
+refusal_of-packet : (items : List Item) (meta : Meta) (frame : List ℕ) (rest : List Item)
+    → items ≡ packet meta frame ∷ rest → refusal_of items ≡ refusal_of rest
+unfolding refusal_of
+refusal_of-packet items meta frame rest is = ap refusal_of is
+
+regroup : (m head frame rest : List ℕ) → m ++ head ++ frame ++ rest ≡ m ++ (head ++ frame ++ rest)
+regroup m head frame rest = ap (λ (l : List ℕ). l ++ rest) (append_assoc m head frame)
+    ∙ append_assoc m (head ++ frame) rest
+
+-- one packet more is taken: the bytes before its captured ones, and these
+pub Digesting-more : (old mid shown new : Feed) (before between after : Sha256) (packets : ℕ) (meta : Meta)
+    (head : List ℕ)
+    → Digesting old mid before packets
+    → GivesPacket mid (Ok (Some meta)) shown → FeedKeeps mid shown
+    → (IsTrue mid.told → ShowsItem mid (Ok (Some meta)) shown)
+    → FeedPasses shown new → FeedKeeps shown new
+    → head ≡ head_bytes meta
+    → ((m : List ℕ) → Holds256 before m → Holds256 between (m ++ head))
+    → ((m : List ℕ) → Holds256 between m → Holds256 after (m ++ shown.frame))
+    → Digesting old new after (packets + 1)
+Digesting-more old mid shown new before between after packets meta head d gives asked shows passes passed is one two =
+    let told : IsTrue old.told → IsTrue mid.told = d.went.keeps.told in
+    let rest : IsTrue old.told → drop 1 mid.items ≡ new.items =
+    λ t. sym (passes.items (asked.told (told t)) ∙ ap (drop 1) (shows (told t)).0.items) in
+    let here : (t : IsTrue old.told) → mid.items ≡ packet meta shown.frame ∷ new.items =
+    λ t. (shows (told t)).1 ∙ ap (λ (l : List Item). packet meta shown.frame ∷ l) (rest t) in
+    record {
+      went = Went-more old mid shown new meta d.went gives asked passes passed;
+      few = omega (arith, d.few, asked.left, passes.left);
+      message = d.message ++ head ++ shown.frame;
+      holds = two (d.message ++ head) (one d.message d.holds);
+      text = λ t.
+          regroup d.message head shown.frame (canonical_text new.items)
+          ∙ ap (λ (l : List ℕ). d.message ++ (l ++ shown.frame ++ canonical_text new.items)) is
+          ∙ ap (λ (l : List ℕ). d.message ++ l)
+          (sym (text_of-packet mid.items meta shown.frame new.items (here t)))
+          ∙ d.text t;
+      count = λ t. omega (arith, d.count t, ap length (here t));
+      refusal = λ t. sym (refusal_of-packet mid.items meta shown.frame new.items (here t)) ∙ d.refusal t;
+    }
+
+-- the feed ends
+pub Digesting-end : (old mid shown : Feed) (hasher : Sha256) (packets : ℕ) (it : Digested)
+    → Digesting old mid hasher packets
+    → (IsTrue mid.told → ShowsItem mid (Ok None) shown)
+    → it.packets ≡ packets
+    → ((m : List ℕ) → Holds256 hasher m → it.sha256 ≡ sha256 m)
+    → IsTrue old.told → DigestsAll old (Ok it)
+unfolding canonical_text refusal_of
+Digesting-end old mid shown hasher packets it d shows number is t =
+    let none : mid.items ≡ [] = (shows (d.went.keeps.told t)).1 in (
+      sym (d.refusal t) ∙ ap refusal_of none,
+      is d.message d.holds ∙ ap sha256 (sym (append-nil d.message)
+          ∙ ap (λ (l : List Item). d.message ++ canonical_text l) (sym none) ∙ d.text t),
+      omega (arith, number, d.count t, ap length none),
+    )
+
+-- the call for the next packet answers a fault
+pub Digesting-fault : (fault : Fault) (old mid shown : Feed) (hasher : Sha256) (packets : ℕ)
+    → Digesting old mid hasher packets
+    → (IsTrue mid.told → ShowsItem mid (Err fault) shown)
+    → IsTrue old.told → DigestsAll old (Err fault)
+unfolding refusal_of
+Digesting-fault (Refused refusal) old mid shown hasher packets d shows t =
+    sym (d.refusal t) ∙ ap refusal_of (shows (d.went.keeps.told t)).1
+Digesting-fault (Read file offset) old mid shown hasher packets d shows t = tt
+Digesting-fault Write old mid shown hasher packets d shows t = shows (d.went.keeps.told t)
+Digesting-fault Memory old mid shown hasher packets d shows t = tt
+
+nothing-more : (old : List ℕ) → old ≡ old ++ []
+nothing-more old = sym (append-nil old)
+
+-- if a file's packets aren't all taken, nothing is printed of it
+pub Prints-none : (fault : Fault) (feed : Feed) (form : Form) (tail : Tail) (file : ℕ) (bytes old : List ℕ)
+    → feed.items ≡ file_items tail file bytes → DigestsAll feed (Err fault)
+    → Prints {A = Unit {0}} (digest_text form tail file bytes) (refusal_of (file_items tail file bytes)) old (Err fault) old
+Prints-none (Refused refusal) feed form tail file bytes old is d =
+    let known : refusal_of (file_items tail file bytes) ≡ Some refusal = ap refusal_of (sym is) ∙ d in
+    (known, rw known (nothing-more old))
+Prints-none (Read f offset) feed form tail file bytes old is d = (0, nothing-more old)
+Prints-none Write feed form tail file bytes old is d = absurd d
+Prints-none Memory feed form tail file bytes old is d = (0, nothing-more old)

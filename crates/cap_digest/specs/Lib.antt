@@ -1,0 +1,3 @@
+pub mod Canonical
+pub mod DigestText
+pub mod inner
