@@ -8,7 +8,7 @@ use Rattle.cap_source.specs.Feed.{Feed, IsFeed, IsPacket}
 use Rattle.cap_merge.specs.declared.lanes.Lane.{Lane}
 use Rattle.cap_merge.specs.inner.First.{lane_turns, first_place}
 use Rattle.cap_merge.specs.inner.Merge.{LearnsAll, AsksAll, PeeksAt, PassesAt}
-use Rattle.cap_merge.specs.inner.PartsProps.{IsMerge}
+use Rattle.cap_merge.specs.inner.PartsProps.{IsMergeState}
 use Rattle.cap_merge.specs.inner.Sound.{each-reached}
 use Rattle.cap_merge.specs.Parts.{Part, parts, turn, turns, are_known, known_but, OthersKnown, IsFound, LanesAgree}
 use Rattle.cap_merge.specs.Parts.{merged_feed}
@@ -47,13 +47,13 @@ passed_unknown (p ∷ ps) (q ∷ qs) (suc place) h = grind (arith, passed_unknow
 passed_unknown ps qs place h = grind arith
 
 module _ {F : Type 0} (f : F → Feed) (law : (x : F) → IsFeed (f x)) (ls ms : List Lane) (fs ys : List F)
-    (front : Option ℕ) (merge : IsMerge f ls fs front) (lanes : length ms ≡ length ls) (feeds : length ys ≡ length fs)
+    (front : Option ℕ) (merge : IsMergeState f ls fs front) (lanes : length ms ≡ length ls) (feeds : length ys ≡ length fs)
     (agrees : LanesAgree ms (map f ys)) where
   -- each feed was asked up to the first that can't tell
   pub asked-merge : {T : Type 0} (result : Result T Fault)
       → AsksAll (parts ls (map f fs)) result (parts ms (map f ys))
       → (place : Option ℕ) → OthersKnown (parts ms (map f ys)) place → IsFound (parts ms (map f ys)) place
-      → IsMerge f ms ys place
+      → IsMergeState f ms ys place
   asked-merge result asks place others found = record {
     alike = lanes ∙ merge.alike ∙ sym feeds;
     some = rw feeds merge.some;
@@ -68,7 +68,7 @@ module _ {F : Type 0} (f : F → Feed) (law : (x : F) → IsFeed (f x)) (ls ms :
 
   -- each feed has told, and it was found whose item comes first
   pub learned-merge : LearnsAll (parts ls (map f fs)) (parts ms (map f ys)) → (place : Option ℕ)
-      → place ≡ first_place (lane_turns ms) → IsMerge f ms ys place
+      → place ≡ first_place (lane_turns ms) → IsMergeState f ms ys place
   learned-merge learns place first =
       let qs = parts ms (map f ys) in
       let r : Result Bool Fault = Ok true in
@@ -77,7 +77,7 @@ module _ {F : Type 0} (f : F → Feed) (law : (x : F) → IsFeed (f x)) (ls ms :
       (first_found qs place at)
 
   -- the feed that was passed has no packet at hand
-  pub peeked-merge : (place : ℕ) → PeeksAt (parts ls (map f fs)) place (parts ms (map f ys)) → IsMerge f ms ys None
+  pub peeked-merge : (place : ℕ) → PeeksAt (parts ls (map f fs)) place (parts ms (map f ys)) → IsMergeState f ms ys None
   peeked-merge place peeks =
       let ps = parts ls (map f fs) in
       let qs = parts ms (map f ys) in
@@ -96,7 +96,7 @@ module _ {F : Type 0} (f : F → Feed) (law : (x : F) → IsFeed (f x)) (ls ms :
   -- the packet that comes first was passed
   pub passed-merge : (place : ℕ) → first_place (turns (parts ls (map f fs))) ≡ Some place
       → IsPacket (merged_feed (parts ls (map f fs))).known
-      → PassesAt (parts ls (map f fs)) place (parts ms (map f ys)) → IsMerge f ms ys (Some place)
+      → PassesAt (parts ls (map f fs)) place (parts ms (map f ys)) → IsMergeState f ms ys (Some place)
   passed-merge place at packet passes =
       let ps = parts ls (map f fs) in
       let qs = parts ms (map f ys) in

@@ -15,7 +15,7 @@ ghost use Rattle.cap_merge.specs.Parts.{merged_feed, new_parts, clock_of, run_of
 ghost use Rattle.cap_merge.specs.Parts.{KeepsRun, ShowsRun, BeginsAt, turns};
 ghost use Rattle.cap_merge.specs.inner.First.{head_coming, has_next, first_place};
 ghost use Rattle.cap_merge.specs.inner.Merge.{AsksAll, LooksAll, TellsNext, ShowsFirst};
-ghost use Rattle.cap_merge.specs.inner.PartsProps.{IsMerge, IsMerge-prop};
+ghost use Rattle.cap_merge.specs.inner.PartsProps.{IsMergeState, IsMergeState-prop};
 
 use crate::lanes::{
     Lane, ask_all, clock_at, coming_at, first_lane, greater, new_lanes, pass_at, show_at,
@@ -34,7 +34,7 @@ pub struct Merged<F: PacketFeed> {
     // the place of the feed whose item came first when that was looked for: that item still does, or it was a packet
     // and was passed
     front: Option<usize>,
-    ghost kept: { IsMerge F.feed lanes.items feeds.items front } by { IsMerge-prop _ _ _ _ },
+    ghost kept: { IsMergeState F.feed lanes.items feeds.items front } by { IsMergeState-prop _ _ _ _ },
 }
 
 /// A packet of a run, lent by the merge that it comes next of.

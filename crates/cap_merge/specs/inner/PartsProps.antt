@@ -9,7 +9,7 @@ use Rattle.cap_merge.specs.Parts.{Part, parts, AreNumberedFeeds, LanesAgree, Has
 
 -- Feeds, of files that are numbered from 1, with a lane for each, which says what it knows to come next and the clock
 -- that it has reached; and the place of the one that came first, if that was looked for.
-pub record IsMerge {F : Type 0} (feed : F → Feed) (lanes : List Lane) (feeds : List F) (front : Option ℕ) : Type 0 where
+pub record IsMergeState {F : Type 0} (feed : F → Feed) (lanes : List Lane) (feeds : List F) (front : Option ℕ) : Type 0 where
   pub alike : length lanes ≡ length feeds
   pub some : 1 ≤ length feeds
   pub most : length feeds ≤ 32
@@ -38,7 +38,7 @@ OthersKnown-prop ps place = Coded-set coded_bool _ _
 IsFound-prop : (ps : List Part) (place : Option ℕ) → IsProp (IsFound ps place)
 IsFound-prop ps place = Coded-set (coded_option coded_ℕ) _ _
 
-pub IsMerge-prop : {F : Type 0} (feed : F → Feed) (lanes : List Lane) (feeds : List F) (front : Option ℕ)
-    → IsProp (IsMerge feed lanes feeds front)
-IsMerge-prop feed lanes feeds front =
+pub IsMergeState-prop : {F : Type 0} (feed : F → Feed) (lanes : List Lane) (feeds : List F) (front : Option ℕ)
+    → IsProp (IsMergeState feed lanes feeds front)
+IsMergeState-prop feed lanes feeds front =
     hlevel (props, AreNumberedFeeds-prop, Agrees-prop, HasReached-prop, AreBounded-prop, OthersKnown-prop, IsFound-prop)
