@@ -1,10 +1,12 @@
 -- Feeds that are asked in turn.
 use Rattle.std.proofs.Common.{◌≡◌, ℕ, zero, suc, ◌<◌, ◌≤◌, List, [], ◌∷◌, length, get_or, take, drop, ◌++◌, refl, sym}
-use Rattle.std.proofs.Common.{ap, ◌∙◌, subst, arith}
+use Rattle.std.proofs.Common.{ap, ◌∙◌, subst, arith, length-set, Bool, Option, Result}
 use Rattle.std.specs.Prelude.{map, ⊤}
 use Rattle.std.proofs.Common.{inl, inr}
 use Rattle.std.proofs.Math.ListN.{set}
 use Rattle.cap_bytes.specs.declared.faults.Fault.{Fault}
+use Rattle.cap_bytes.specs.declared.faults.Refusal.{Refusal}
+use Rattle.cap_merge.specs.inner.First.{lane_at}
 use Rattle.cap_source.specs.Feed.{Feed, IsPacket}
 use Rattle.std.specs.List.{refill}
 use Rattle.std.proofs.lemmas.List.{take_at}
@@ -103,12 +105,26 @@ pub agrees-set : {F : Type 0} (f : F → Feed) (ls : List Lane) (fs : List F) (i
 agrees-set f (k ∷ ls) (z ∷ zs) (suc i) m y a h = grind (arith, agrees-set f ls zs i m y)
 agrees-set f ls fs i m y a h = grind arith
 
+-- what is written is there
+pub next-set : (ls : List Lane) (i : ℕ) (m : Lane) {next : Option (Result Bool Refusal)} → i < length ls → m.next ≡ next
+    → (lane_at (set ls i m) i).next ≡ next
+next-set (l ∷ ls) (suc i) m h e = next-set ls i m (omega arith) e
+next-set ls i m h e = grind arith
+
 refilled : {A : Type 0} (xs ws : List A) (n : ℕ) → length ws ≡ n → take n (ws ++ drop (length ws) xs) ≡ ws
 refilled xs ws n e = take_at ws (drop (length ws) xs) n e
 
-pub length-written : {A : Type 0} (xs ws : List A) (n : ℕ) → length ws ≡ n
-    → length (take n (ws ++ drop (length ws) xs)) ≡ n
-length-written xs ws n e = ap length (refilled xs ws n e) ∙ e
+written : {A : Type 0} (ls xs : List A) (i : ℕ) (m : A) → xs ≡ ls → refill (length ls) ls (set xs i m) ≡ set ls i m
+written ls xs i m e = refilled ls (set xs i m) (length ls) (length-set xs i m ∙ ap length e) ∙ ap (λ ws. set ws i m) e
+
+-- What is true of a lane and its feed, and of the lists in which they are written, is true of what slices lend of them.
+pub at-place : {F : Type 0} (f : F → Feed) (Holds : Lane → Feed → List Lane → List Feed → Type 0) (ls xs : List Lane)
+    (fs : List F) (i : ℕ) (l m : Lane) (y z : F) → xs ≡ ls → y ≡ get_or fs i y
+    → Holds (get_or ls i l) (f (get_or fs i y)) (set ls i m) (map f (set fs i z))
+    → Holds (get_or xs i l) (f y) (refill (length ls) ls (set xs i m)) (map f (set fs i z))
+at-place f Holds ls xs fs i l m y z a b h =
+    subst (λ (w : List Lane × Feed × List Lane). Holds (get_or w.0 i l) w.1 w.2 (map f (set fs i z)))
+    (λ j. (sym a j, f (sym b j), sym (written ls xs i m a) j)) h
 
 pub packet-there : {F : Type 0} (f : F → Feed) (ls : List Lane) (fs : List F) (i : ℕ) (x : F)
     → IsPacketAt (parts ls (map f fs)) i → IsPacket (f (get_or fs i x)).known
@@ -122,15 +138,3 @@ pub passes-there : {F : Type 0} (f : F → Feed) (ls : List Lane) (fs : List F) 
 passes-there f (k ∷ ls) (z ∷ zs) (suc i) l m x y h e p =
     (refl, passes-there f ls zs i l m x y (omega arith) (omega arith) p)
 passes-there f ls fs i l m x y h e p = grind arith
-
--- What is true of what slices show, before and after, is true of the lists that they are of.
-pub kept-written : {F : Type 0} (Holds : List Lane → List F → List Lane → List F → Type 0) (ls ks ms : List Lane)
-    (fs gs ys : List F) (n : ℕ)
-    → ks ≡ ls → gs ≡ fs → length ms ≡ length ks → length ys ≡ length gs → n ≡ length fs
-    → Holds ks gs ms ys → Holds ls fs (refill (length ls) ls ms) (take n (ys ++ drop (length ys) fs))
-kept-written {F} Holds ls ks ms fs gs ys n a b d e m h =
-    let lanes = refilled ls ms (length ls) (d ∙ ap length a) in
-    let feeds = refilled fs ys n (e ∙ ap length b ∙ sym m) in
-    subst (λ (w : List Lane × List F). Holds w.0 w.1 (refill (length ls) ls ms) (take n (ys ++ drop (length ys) fs)))
-    (λ i. (a i, b i))
-    (subst (λ (w : List Lane × List F). Holds ks gs w.0 w.1) (λ i. (sym lanes i, sym feeds i)) h)

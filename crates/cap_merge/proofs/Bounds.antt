@@ -1,10 +1,11 @@
 -- The clocks that the feeds of a merge have reached have seconds below 2^65.
 use Rattle.std.proofs.Common.{◌≡◌, ℕ, suc, true, false, IsTrue, List, ◌∷◌, length, ◌<◌, Some, None, arith, ap, ◌∙◌, sym}
-use Rattle.std.proofs.Common.{inl, inr, Option, IfSome, Result, pos, ◌^◌}
+use Rattle.std.proofs.Common.{inl, inr, Option, IfSome, Result, Bool, Ok, pos, ◌^◌}
 use Rattle.std.specs.Prelude.{◌<ℤ◌, replicate, map, is_some}
 use Rattle.std.specs.List.{list_all}
 use Rattle.std.proofs.lemmas.List.{length-map}
 use Rattle.cap_bytes.specs.declared.faults.Fault.{Fault}
+use Rattle.cap_bytes.specs.declared.faults.Refusal.{Refusal}
 use Rattle.cap_source.specs.Feed.{Feed, FeedKeeps, SameItems, Knows}
 use Rattle.cap_source.specs.declared.feeds.Head.TheVariants as heads
 use Rattle.cap_source.specs.declared.packets.Meta.{Meta}
@@ -12,8 +13,6 @@ use Rattle.cap_source.specs.Times.{meta_time}
 use Rattle.cap_time.specs.Stamp.{seconds_of}
 use Rattle.cap_time.specs.Clock.{later}
 use Rattle.cap_time.specs.declared.stamps.Stamp.{Stamp}
-use Rattle.cap_merge.specs.declared.lanes.Coming.{Coming}
-use Rattle.cap_merge.specs.declared.lanes.Coming.TheVariants as comings
 use Rattle.cap_merge.specs.declared.lanes.Lane.{Lane}
 use Rattle.cap_merge.specs.inner.First.{fresh_lane, lane_at, first_place}
 use Rattle.cap_merge.specs.Parts.{Part, part, parts, turns, is_bounded, AreBounded}
@@ -26,7 +25,7 @@ later_bounded : (clock time : Option Stamp) → IfSome time (λ t. seconds_of t 
 later_bounded clock time h k = grind arith
 
 -- A feed tells that a packet comes next, and the clock moves to its time.
-pub learns-packet : (clock : Option Stamp) (next : Option Coming) (time : Option Stamp) (old new : Feed) (meta : Meta)
+pub learns-packet : (clock : Option Stamp) (next : Option (Result Bool Refusal)) (time : Option Stamp) (old new : Feed) (meta : Meta)
     (reached : Option Stamp)
     → is_some next ≡ false → (m : Meta) × Knows old (heads.Packet m) new → new.known ≡ Some (heads.Packet meta)
     → reached ≡ later clock time
@@ -34,7 +33,7 @@ pub learns-packet : (clock : Option Stamp) (next : Option Coming) (time : Option
     → (IsTrue old.told → SameItems old new)
     → LearnsBy (part (record { clock = clock; next = next }) old).lane.head
     (part (record { clock = clock; next = next }) old)
-    (part (record { clock = reached; next = Some comings.Packet }) new)
+    (part (record { clock = reached; next = Some (Ok true) }) new)
 learns-packet clock None time old new meta reached free (m, knows) known is at within keeps items = (
   heads.Packet m,
   record {

@@ -1,13 +1,11 @@
 -- The place of the lane whose item comes first, as it is looked for.
 use Rattle.std.proofs.Common.{◌≡◌, ℕ, zero, suc, ◌<◌, ◌≤◌, Bool, List, length, get_or, cond, [], ◌∷◌, refl, sym, ap}
-use Rattle.std.proofs.Common.{◌∙◌, subst, arith, Option, Some, None}
+use Rattle.std.proofs.Common.{◌∙◌, subst, arith, Option, Some, None, Ok, true}
 use Rattle.std.specs.Prelude.{IfSome}
 use Rattle.std.proofs.lemmas.List.{length-map}
-use Rattle.cap_merge.specs.declared.lanes.Coming.TheVariants as comings
-use Rattle.cap_merge.specs.declared.lanes.Front.{Front}
 use Rattle.cap_merge.specs.declared.lanes.Lane.{Lane}
 use Rattle.cap_merge.specs.inner.First.{Turn, lane_at, lane_turn, lane_turns, has_item, sooner_place, first_among}
-use Rattle.cap_merge.specs.inner.First.{first_place, front_at, found_of, passed_of, IsFound}
+use Rattle.cap_merge.specs.inner.First.{first_place}
 
 sooner_within : (ts : List Turn) (o : Option ℕ) (place : ℕ) → IfSome o (λ n. n < place)
     → IfSome (sooner_place ts o place) (λ n. n < suc place)
@@ -41,9 +39,6 @@ pub among-all : (ls : List Lane) (o : Option ℕ) (count : ℕ) → count ≡ le
     → o ≡ first_place (lane_turns ls)
 among-all ls o count h e = e ∙ ap (first_among (lane_turns ls)) (h ∙ sym (length-map ls lane_turn))
 
-pub lane-within : (ls : List Lane) (place : ℕ) → first_place (lane_turns ls) ≡ Some place → place < length ls
-lane-within ls place e = omega (arith, first-within (lane_turns ls) place e, length-map ls lane_turn)
-
 pub among-more : (ts : List Turn) (o : Option ℕ) (count : ℕ) → o ≡ first_among ts count
     → sooner_place ts o count ≡ first_among ts (suc count)
 unfolding first_among
@@ -53,15 +48,6 @@ pub among-none : (ts : List Turn) → None ≡ first_among ts 0
 unfolding first_among
 among-none ts = refl
 
--- what was looked for is found
-pub found-here : (ls : List Lane) (o : Option ℕ) (front : Front) → o ≡ first_place (lane_turns ls) → front ≡ front_at o
-    → IsFound ls (found_of front)
-found-here ls o front e is = grind arith
-
--- no packet was passed then
-pub none-passed : (o : Option ℕ) (front : Front) → front ≡ front_at o → passed_of front ≡ None
-none-passed o front is = grind arith
-
 -- of one lane
 pub first-alone : (ls : List Lane) (l : Lane) (b : Bool) → length ls ≡ 1 → l ≡ get_or ls 0 l → b ≡ has_item l.next
     → first_place (lane_turns ls) ≡ cond b (Some 0) None
@@ -70,7 +56,7 @@ first-alone (k ∷ []) l b e is h = λ i. cond (sym (h ∙ ap (λ (w : Lane). ha
 first-alone ls l b e is h = grind arith
 
 -- the packet of the only lane comes first
-pub packet-alone : (ls : List Lane) (place : ℕ) → length ls ≡ 1 → (lane_at ls place).next ≡ Some comings.Packet
+pub packet-alone : (ls : List Lane) (place : ℕ) → length ls ≡ 1 → (lane_at ls place).next ≡ Some (Ok true)
     → first_place (lane_turns ls) ≡ Some place
 unfolding first_among
 packet-alone (l ∷ []) zero e is = ap (λ next. cond (has_item next) (Some 0) None) is

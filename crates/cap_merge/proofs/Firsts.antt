@@ -44,6 +44,16 @@ pub known-holds : (ps : List Part) (Holds : Option Head → Type 0) → (Holds N
 unfolding merged_feed known_of
 known-holds ps Holds never h = known_parts ps (are_known ps) refl Holds never h
 
+has_next-none : has_next None ≡ true → ⊥
+has_next-none e = true≢false (sym e)
+
+-- so all are known if a packet or an item comes next
+pub known-packet : (ps : List Part) → IsPacket (merged_feed ps).known → are_known ps ≡ true
+known-packet ps p = (known-holds ps IsPacket (λ never. never) p).0
+
+pub known-next : (ps : List Part) → has_next (merged_feed ps).known ≡ true → are_known ps ≡ true
+known-next ps h = (known-holds ps (λ w. has_next w ≡ true) has_next-none h).0
+
 packet_head : (h : Option Head) → IsPacket h → (meta : Meta) × (h ≡ Some (heads.Packet meta))
 packet_head None p = absurd p
 packet_head (Some (heads.Packet meta)) p = (meta, refl)
@@ -102,9 +112,6 @@ pub frame-none : {F : Type 0} (f : F → Feed) (ls : List Lane) (fs : List F)
     → first_place (turns (parts ls (map f fs))) ≡ None → [] ≡ (merged_feed (parts ls (map f fs))).frame
 unfolding merged_feed
 frame-none f ls fs h = sym (ap frame_by (none-placed (parts ls (map f fs)) h))
-
-has_next-none : has_next None ≡ true → ⊥
-has_next-none e = true≢false (sym e)
 
 pub clocks-of-first : (ps : List Part) (first : Part) → Split ps first → has_next (merged_feed ps).known ≡ true
     → ClocksFrom first.lane.clock ps

@@ -12,6 +12,7 @@ pub mod FirstClock
 pub mod Firsts
 pub mod Looking
 pub mod Peeking
+pub mod Keeping
 pub mod RunLaws
 pub mod Rounds
 pub mod FromClock

@@ -8,7 +8,6 @@ use Rattle.cap_source.specs.declared.feeds.Head.{Head}
 use Rattle.cap_source.specs.declared.feeds.Head.TheVariants as heads
 use Rattle.cap_source.specs.declared.packets.Meta.{Meta}
 use Rattle.cap_source.specs.Feed.{Feed, IsFeed, IsPacket, GivesHead, FeedKeeps, KeepsItems, FindsPacket, FindsItem}
-use Rattle.cap_merge.specs.declared.lanes.Coming.TheVariants as comings
 use Rattle.cap_merge.specs.inner.First.{head_coming}
 use Rattle.cap_merge.specs.inner.Merge.{LearnsAll, StopsAt, AsksAll, LooksAll}
 use Rattle.cap_merge.specs.Parts.{Part, known_of, merged_feed, KeepsRun, ShowsRun, MovesClocks}
@@ -99,19 +98,19 @@ finds-by ps qs r h = record {
 }
 
 -- what comes next, by what a lane says
-pub packet-comes : (h : Option Head) → head_coming h ≡ Some comings.Packet → (meta : Meta)
+pub packet-comes : (h : Option Head) → head_coming h ≡ Some (Ok true) → (meta : Meta)
     × (h ≡ Some (heads.Packet meta))
 packet-comes None e = absurd (cc)
 packet-comes (Some (heads.Packet meta)) e = (meta, refl)
 packet-comes (Some (heads.Refused refusal)) e = absurd (cc)
 packet-comes (Some heads.End) e = absurd (cc)
 
-pub is-packet : (h : Option Head) → head_coming h ≡ Some comings.Packet → IsPacket h
+pub is-packet : (h : Option Head) → head_coming h ≡ Some (Ok true) → IsPacket h
 is-packet h e = grind arith
 
-pub refusal-comes : (h : Option Head) (refusal : Refusal) → head_coming h ≡ Some (comings.Refused refusal)
+pub refusal-comes : (h : Option Head) (refusal : Refusal) → head_coming h ≡ Some (Err refusal)
     → h ≡ Some (heads.Refused refusal)
 refusal-comes h refusal e = grind arith
 
-pub end-comes : (h : Option Head) → head_coming h ≡ Some comings.End → h ≡ Some heads.End
+pub end-comes : (h : Option Head) → head_coming h ≡ Some (Ok false) → h ≡ Some heads.End
 end-comes h e = grind arith

@@ -10,7 +10,6 @@ use Rattle.cap_bytes.specs.declared.faults.Fault.{Fault}
 use Rattle.cap_bytes.specs.declared.faults.Fault.TheVariants.{Refused, Read, Write, Memory}
 use Rattle.cap_source.specs.declared.feeds.Head.TheVariants as heads
 use Rattle.cap_source.specs.Feed.{Feed, IsFeed}
-use Rattle.cap_merge.specs.declared.lanes.Coming.TheVariants as comings
 use Rattle.cap_merge.specs.declared.lanes.Lane.{Lane}
 use Rattle.cap_time.specs.Clock.{clock_cmp}
 use Rattle.cap_merge.specs.inner.First.{head_coming}
@@ -131,7 +130,7 @@ learned_looks ps qs rs (Err Memory) l h = absurd (learned_stops ps qs rs Memory 
 
 -- whether what comes first of all is a packet that is at hand
 pub shows-first : (ps qs : List Part) (b : Bool) → LearnsAll ps qs
-    → (b ≡ true → head_coming (known_of qs) ≡ Some comings.Packet) → ShowsFirst ps b qs
+    → (b ≡ true → head_coming (known_of qs) ≡ Some (Ok true)) → ShowsFirst ps b qs
 unfolding merged_feed
 shows-first ps qs true l f = (l, f refl)
 shows-first ps qs false l f = λ r rs h. learned_looks ps qs rs r l h

@@ -1,16 +1,15 @@
 -- The first lane, by place, and the part that it is of.
 use Rattle.std.proofs.Common.{◌≡◌, ℕ, zero, suc, ◌<◌, true, List, [], ◌∷◌, ◌++◌, length, get_or, refl, sym, ap, ◌∙◌}
-use Rattle.std.proofs.Common.{subst, arith, map-id, Option, Some, None}
+use Rattle.std.proofs.Common.{subst, arith, map-id, Option, Some, None, Bool, false, Result, Ok}
 use Rattle.std.specs.Prelude.{map, is_some, replicate}
 use Rattle.std.specs.List.{AllByRecursion, list_all, slice_get}
 use Rattle.std.specs.Option.{option_and_then}
 use Rattle.std.proofs.Math.Seq.{get_or-append_seam}
 use Rattle.std.proofs.lemmas.List.{length-map, length-replicate}
 use Rattle.std.proofs.lemmas.Option.{slice_get-get_or}
+use Rattle.cap_bytes.specs.declared.faults.Refusal.{Refusal}
 use Rattle.cap_source.specs.Feed.{Feed}
 use Rattle.cap_merge.specs.declared.lanes.Lane.{Lane}
-use Rattle.cap_merge.specs.declared.lanes.Coming.{Coming}
-use Rattle.cap_merge.specs.declared.lanes.Coming.TheVariants as comings
 use Rattle.cap_merge.specs.inner.First.{head_coming, fresh_lane, lane_turn, lane_turns, first_place}
 use Rattle.cap_merge.specs.Run.{opened_track, run}
 use Rattle.cap_merge.specs.Parts.{Part, part, parts, turn, turns, are_known, known_of, part_head, first_part, new_lane}
@@ -74,7 +73,7 @@ known_parts (l ∷ ls) (x ∷ fs) k a = grind (arith, known_parts ls fs)
 known_parts ls fs k a = grind arith
 
 -- what is known of all is what the first lane says
-pub coming-first : (ls : List Lane) (fs : List Feed) (place : ℕ) (coming : Coming) (d : Lane)
+pub coming-first : (ls : List Lane) (fs : List Feed) (place : ℕ) (coming : Result Bool Refusal) (d : Lane)
     → list_all (λ l. is_some l.next) ls ≡ true → length fs ≡ length ls → LanesAgree ls fs
     → first_place (lane_turns ls) ≡ Some place → (get_or ls place d).next ≡ Some coming
     → head_coming (known_of (parts ls fs)) ≡ Some coming
@@ -97,7 +96,7 @@ coming-first ls (x ∷ xs) place coming d k e a h is =
 
 pub coming-none : (ls : List Lane) (fs : List Feed) → list_all (λ l. is_some l.next) ls ≡ true → LanesAgree ls fs
     → first_place (lane_turns ls) ≡ None
-    → head_coming (known_of (parts ls fs)) ≡ Some comings.End
+    → head_coming (known_of (parts ls fs)) ≡ Some (Ok false)
 unfolding known_of first_part
 coming-none ls fs k a h =
     rw (known_parts ls fs k a) (ap (λ o. head_coming (part_head (option_and_then (slice_get (parts ls fs)) o)))

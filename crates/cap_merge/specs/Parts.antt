@@ -116,14 +116,18 @@ known_but [] place = false
 known_but (p ∷ ps) zero = are_known ps
 known_but (p ∷ ps) (suc place) = is_some p.lane.head && known_but ps place
 
--- the same if a packet was passed; else nothing is said
+-- the same if there is such a place; else nothing is said
 abbrev pub others_known : List Part → Option ℕ → Bool
 others_known ps None = true
 others_known ps (Some place) = known_but ps place
 
--- If a packet was passed, what comes next is known of the other feeds.
+-- If there is such a place, what comes next is known of the feeds elsewhere.
 abbrev pub OthersKnown : List Part → Option ℕ → Type 0
-OthersKnown ps passed = others_known ps passed ≡ true
+OthersKnown ps place = others_known ps place ≡ true
+
+-- If what comes next of all is known, a place that is kept is that of the part whose item comes first.
+abbrev pub IsFound : List Part → Option ℕ → Type 0
+IsFound ps place = (if is_some place && are_known ps then first_place (turns ps) else place) ≡ place
 
 abbrev pub part_head : Option Part → Option Head
 part_head None = Some heads.End

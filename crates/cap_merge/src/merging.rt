@@ -10,23 +10,18 @@ ghost use Rattle.cap_time.specs.Clock.{clock_cmp};
 ghost use Rattle.cap_source.specs.declared.feeds.Head.{Head};
 ghost use Rattle.cap_source.specs.Feed.{GivesHead, FeedKeeps, KeepsItems, FindsPacket, FindsItem, FeedPasses, IsPacket};
 ghost use Rattle.cap_merge.specs.Run.{opened_track, run};
-ghost use Rattle.cap_merge.specs.Parts.{item_time, is_refusal, parts, AreNumberedFeeds, LanesAgree, HasReached};
-ghost use Rattle.cap_merge.specs.Parts.{AreBounded};
-ghost use Rattle.cap_merge.specs.Parts.{merged_feed, new_parts, clock_of, run_of, OthersKnown, ClocksFrom, MovesClocks};
+ghost use Rattle.cap_merge.specs.Parts.{item_time, is_refusal, AreNumberedFeeds, are_known};
+ghost use Rattle.cap_merge.specs.Parts.{merged_feed, new_parts, clock_of, run_of, ClocksFrom, MovesClocks};
 ghost use Rattle.cap_merge.specs.Parts.{KeepsRun, ShowsRun, BeginsAt, turns};
-ghost use Rattle.cap_merge.specs.inner.First.{head_coming, has_next, first_place, found_of, passed_of, IsFound};
-ghost use Rattle.cap_merge.specs.inner.First.{IsFound-prop};
+ghost use Rattle.cap_merge.specs.inner.First.{head_coming, has_next, first_place};
 ghost use Rattle.cap_merge.specs.inner.Merge.{AsksAll, LooksAll, TellsNext, ShowsFirst};
-ghost use Rattle.cap_merge.specs.inner.PartsProps.{AreNumberedFeeds-prop, Agrees-prop, HasReached-prop};
-ghost use Rattle.cap_merge.specs.inner.PartsProps.{AreBounded-prop};
-ghost use Rattle.cap_merge.specs.inner.PartsProps.{OthersKnown-prop};
+ghost use Rattle.cap_merge.specs.inner.PartsProps.{IsMergeState, IsMergeState-prop};
 
 use crate::lanes::{
-    Coming, Front, Lane, ask_all, clock_at, coming_at, first_lane, found, greater, is_packet_at,
-    new_lanes, pass_first, show_next,
+    Lane, ask_all, clock_at, coming_at, first_lane, greater, new_lanes, pass_at, show_at,
 };
 use arrayvec::ArrayVec;
-use cap_bytes::Fault;
+use cap_bytes::{Fault, Refusal};
 use cap_source::{Ending, FeedHeld, Head, Meta, PacketFeed};
 use cap_time::Stamp;
 
@@ -36,16 +31,10 @@ use cap_time::Stamp;
 pub struct Merged<F: PacketFeed> {
     feeds: Vec<F>,
     lanes: ArrayVec<Lane, 32>,
-    front: Front,
-    ghost alike: { length lanes.items ≡ length feeds.items },
-    ghost some: { 1 ≤ length feeds.items },
-    ghost most: { length feeds.items ≤ 32 },
-    ghost numbered: { AreNumberedFeeds (map F.feed feeds.items) } by { AreNumberedFeeds-prop _ },
-    ghost agrees: { LanesAgree lanes.items (map F.feed feeds.items) } by { Agrees-prop _ _ },
-    ghost reached: { HasReached (parts lanes.items (map F.feed feeds.items)) } by { HasReached-prop (parts lanes.items (map F.feed feeds.items)) },
-    ghost bounded: { AreBounded (parts lanes.items (map F.feed feeds.items)) } by { AreBounded-prop (parts lanes.items (map F.feed feeds.items)) },
-    ghost found: { IsFound lanes.items (found_of front) } by { IsFound-prop _ _ },
-    ghost others: { OthersKnown (parts lanes.items (map F.feed feeds.items)) (passed_of front) } by { OthersKnown-prop (parts lanes.items (map F.feed feeds.items)) (passed_of front) },
+    // the place of the feed whose item came first when that was looked for: that item still does, or it was a packet
+    // and was passed
+    front: Option<usize>,
+    ghost kept: { IsMergeState F.feed lanes.items feeds.items front } by { IsMergeState-prop _ _ _ _ },
 }
 
 /// A packet of a run, lent by the merge that it comes next of.
@@ -77,7 +66,7 @@ impl<F: PacketFeed> Merged<F> {
         Merged {
             feeds,
             lanes,
-            front: Front::Unknown,
+            front: None,
         }
     }
 
@@ -140,26 +129,31 @@ impl<F: PacketFeed> Merged<F> {
         }
     }
 
-    // The place of the feed whose item comes first.
+    // The place of the feed whose item comes first, if what comes next of each is known.
     #[inline(always)]
     fn first_place(&self) -> Option<usize>
+        requires { are_known (parts_of self.now) ≡ true }
         ensures place { result ≡ first_place (turns (parts_of self.now)) }
         ensures within { IfSome result (λ n. n < length self.now.feeds.items) }
     {
-        found(self.lanes.as_slice(), self.front.found())
+        match self.front {
+            Some(place) => Some(place),
+            None => first_lane(self.lanes.as_slice()),
+        }
     }
 
-    // Asks each feed what comes next, unless that is known, and finds whose item comes first.
+    // Asks each feed what comes next, unless that is known, and finds whose item comes first: whether it is a packet or
+    // the end, or which refusal.
     #[inline(always)]
-    fn look(&mut self) -> Result<Coming, Fault>
+    fn look(&mut self) -> Result<Result<bool, Refusal>, Fault>
         ensures asks { AsksAll (parts_of self.old) result (parts_of self.new) }
         ensures next { IfOk result (λ coming. head_coming (merged_feed (parts_of self.new)).known ≡ Some coming) }
     {
-        let passed = self.front.passed();
-        self.front = Front::Unknown;
-        ask_all(&mut self.lanes, &mut self.feeds, passed)?;
+        let unknown = self.front;
+        self.front = None;
+        ask_all(&mut self.lanes, &mut self.feeds, unknown)?;
         let first = first_lane(self.lanes.as_slice());
-        self.front = Front::at(first);
+        self.front = first;
         Ok(coming_at(self.lanes.as_slice(), first))
     }
 
@@ -168,21 +162,20 @@ impl<F: PacketFeed> Merged<F> {
     fn shows_first(&mut self) -> bool
         ensures { ShowsFirst (parts_of self.old) result (parts_of self.new) }
     {
-        let Some(place) = self.front.passed() else {
+        let Some(place) = self.front else {
             return false;
         };
-        if !show_next(&mut self.lanes, &mut self.feeds, place) {
-            self.front = Front::Unknown;
+        if !show_at(&mut self.lanes, &mut self.feeds, place) {
+            self.front = None;
             return false;
         }
         // The packet at hand of the only file comes first.
         if self.lanes.len() == 1 {
-            self.front = Front::At(place);
             return true;
         }
         let first = first_lane(self.lanes.as_slice());
-        self.front = Front::at(first);
-        is_packet_at(self.lanes.as_slice(), first)
+        self.front = first;
+        coming_at(self.lanes.as_slice(), first).unwrap_or(false)
     }
 
     // What `has_packet` answers of a packet that isn't at hand. It isn't inlined, so that what it answers takes no room
@@ -193,9 +186,8 @@ impl<F: PacketFeed> Merged<F> {
         ensures next { TellsNext (merged_feed (parts_of self.new)).known result }
     {
         match self.look()? {
-            Coming::Packet => Ok(true),
-            Coming::Refused(refusal) => Err(Fault::Refused(refusal)),
-            Coming::End => Ok(false),
+            Ok(is_packet) => Ok(is_packet),
+            Err(refusal) => Err(Fault::Refused(refusal)),
         }
     }
 }
@@ -222,9 +214,9 @@ impl<F: PacketFeed> PacketFeed for Merged<F> {
         ensures clocks { MovesClocks (parts_of self.old) (parts_of self.new) }
     {
         match self.look()? {
-            Coming::Packet => Ok(Head::Packet(*self.packet())),
-            Coming::Refused(refusal) => Ok(Head::Refused(refusal)),
-            Coming::End => Ok(Head::End),
+            Ok(true) => Ok(Head::Packet(*self.packet())),
+            Ok(false) => Ok(Head::End),
+            Err(refusal) => Ok(Head::Refused(refusal)),
         }
     }
 
@@ -280,8 +272,8 @@ impl<F: PacketFeed> PacketFeed for Merged<F> {
     {
         match self.first_place() {
             Some(place) => {
-                self.front = Front::Passed(place);
-                pass_first(&mut self.lanes, &mut self.feeds, place);
+                self.front = Some(place);
+                pass_at(&mut self.lanes, &mut self.feeds, place);
             }
             None => {}
         }

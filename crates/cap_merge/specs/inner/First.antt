@@ -1,31 +1,26 @@
 -- Which lane's item comes first: that of the least clock, of equal ones the first.
-use Rattle.std.specs.Prelude.{◌≡◌, ℕ, zero, suc, Bool, true, false, List, length, map, get_or, Option, Some, None, ◌&&◌}
-use Rattle.std.specs.Prelude.{is_some, if◌then◌else◌}
-use Rattle.std.specs.Coded.{Coded-set, coded_ℕ, coded_option}
+use Rattle.std.specs.Prelude.{ℕ, zero, suc, Bool, true, false, List, length, map, get_or, Option, Some, None, ◌&&◌}
+use Rattle.std.specs.Prelude.{Result, Ok, Err, if◌then◌else◌}
 use Rattle.std.specs.Ordering.{is_lt}
 use Rattle.cap_time.specs.declared.stamps.Stamp.{Stamp}
+use Rattle.cap_bytes.specs.declared.faults.Refusal.{Refusal}
 use Rattle.cap_source.specs.declared.feeds.Head.{Head}
 use Rattle.cap_source.specs.declared.feeds.Head.TheVariants as heads
-use Rattle.cap_merge.specs.declared.lanes.Coming.{Coming}
-use Rattle.cap_merge.specs.declared.lanes.Coming.TheVariants.{Packet, Refused, End}
-use Rattle.cap_merge.specs.declared.lanes.Front.{Front}
-use Rattle.cap_merge.specs.declared.lanes.Front.TheVariants as fronts
 use Rattle.cap_merge.specs.declared.lanes.Lane.{Lane}
 use Rattle.cap_time.specs.Clock.{clock_cmp}
 
--- what a lane says of what its feed knows to come next
-abbrev pub head_coming : Option Head → Option Coming
+-- what a lane says of what its feed knows to come next: whether a packet or the end, or which refusal
+abbrev pub head_coming : Option Head → Option (Result Bool Refusal)
 head_coming None = None
-head_coming (Some (heads.Packet meta)) = Some Packet
-head_coming (Some (heads.Refused refusal)) = Some (Refused refusal)
-head_coming (Some heads.End) = Some End
+head_coming (Some (heads.Packet meta)) = Some (Ok true)
+head_coming (Some (heads.Refused refusal)) = Some (Err refusal)
+head_coming (Some heads.End) = Some (Ok false)
 
 -- an item is known to come next, by what a lane says
-abbrev pub has_item : Option Coming → Bool
+abbrev pub has_item : Option (Result Bool Refusal) → Bool
 has_item None = false
-has_item (Some Packet) = true
-has_item (Some (Refused refusal)) = true
-has_item (Some End) = false
+has_item (Some (Ok is_packet)) = is_packet
+has_item (Some (Err refusal)) = true
 
 -- an item is known to come next
 abbrev pub has_next : Option Head → Bool
@@ -78,27 +73,3 @@ first_among turns (suc count) = sooner_place turns (first_among turns count) cou
 -- the place of the first of all
 abbrev pub first_place : List Turn → Option ℕ
 first_place turns = first_among turns (length turns)
-
--- what is known of the front, by the place whose item comes first
-abbrev pub front_at : Option ℕ → Front
-front_at None = fronts.Unknown
-front_at (Some place) = fronts.At place
-
--- the place whose item comes first, if that is known
-abbrev pub found_of : Front → Option ℕ
-found_of fronts.Unknown = None
-found_of (fronts.At place) = Some place
-found_of (fronts.Passed place) = None
-
--- the place where a packet was passed, if one was
-abbrev pub passed_of : Front → Option ℕ
-passed_of fronts.Unknown = None
-passed_of (fronts.At place) = None
-passed_of (fronts.Passed place) = Some place
-
--- The place that is known, if there is one, is that of the first.
-abbrev pub IsFound : List Lane → Option ℕ → Type 0
-IsFound lanes known = (if is_some known then first_place (lane_turns lanes) else None) ≡ known
-
-pub IsFound-prop : (lanes : List Lane) (known : Option ℕ) → IsProp (IsFound lanes known)
-IsFound-prop lanes known = Coded-set (coded_option coded_ℕ) _ _

@@ -5,7 +5,6 @@ use Rattle.cap_bytes.specs.declared.faults.Fault.{Fault}
 use Rattle.cap_bytes.specs.declared.faults.Fault.TheVariants.{Refused, Read, Write, Memory}
 use Rattle.cap_source.specs.declared.feeds.Head.{Head}
 use Rattle.cap_source.specs.Feed.{FeedKeeps, SameItems, Knows, GivesHead, KeepsItems, FeedPasses, IsPacket}
-use Rattle.cap_merge.specs.declared.lanes.Coming.TheVariants as comings
 use Rattle.cap_merge.specs.declared.lanes.Lane.{Lane}
 use Rattle.cap_time.specs.Clock.{later}
 use Rattle.cap_merge.specs.inner.First.{head_coming}
@@ -14,7 +13,7 @@ use Rattle.cap_merge.specs.Parts.{Part, LaneState, head_time, is_bounded, passed
 -- What a lane does with a fault of its feed: a refusal is what comes next, another fault is answered.
 abbrev pub LaneAnswers : {T : Type 0} → Lane → Fault → Result T Fault → Lane → Type 0
 LaneAnswers old (Refused refusal) result new = (is_ok result ≡ true)
-    × (new ≡ record { clock = old.clock; next = Some (comings.Refused refusal) })
+    × (new ≡ record { clock = old.clock; next = Some (Err refusal) })
 LaneAnswers old (Read file offset) result new = (result ≡ Err (Read file offset)) × (new ≡ old)
 LaneAnswers old Write result new = (result ≡ Err Write) × (new ≡ old)
 LaneAnswers old Memory result new = (result ≡ Err Memory) × (new ≡ old)
@@ -103,9 +102,8 @@ ShowsAt ps place false qs = PeeksAt ps place qs
 
 -- What comes next is what such a call answers, unless a device failed or a growth was refused.
 abbrev pub TellsNext : Option Head → Result Bool Fault → Type 0
-TellsNext head (Ok true) = head_coming head ≡ Some comings.Packet
-TellsNext head (Ok false) = head_coming head ≡ Some comings.End
-TellsNext head (Err (Refused refusal)) = head_coming head ≡ Some (comings.Refused refusal)
+TellsNext head (Ok is_packet) = head_coming head ≡ Some (Ok is_packet)
+TellsNext head (Err (Refused refusal)) = head_coming head ≡ Some (Err refusal)
 TellsNext head (Err (Read file offset)) = ⊤
 TellsNext head (Err Write) = ⊤
 TellsNext head (Err Memory) = ⊤

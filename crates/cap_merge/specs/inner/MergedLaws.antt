@@ -10,5 +10,5 @@ use Rattle.cap_merge.specs.inner.View.{parts_of}
 pub merged-is-feed : {F : Type 0} {g : _} (m : Merged F g) → ((x : F) → IsFeed (g.feed x))
     → IsFeed (merged_feed (parts_of m))
 merged-is-feed {F} {g} m law =
-    merged-lawful (parts_of m) (numbered-from g.feed m.lanes.items m.feeds.items m.alike m.numbered)
-    (sound-parts g.feed m.lanes.items m.feeds.items m.reached) (lawful-each g.feed law m.lanes.items m.feeds.items)
+    merged-lawful (parts_of m) (numbered-from g.feed m.lanes.items m.feeds.items m.kept.alike m.kept.numbered)
+    (sound-parts g.feed m.lanes.items m.feeds.items m.kept.reached) (lawful-each g.feed law m.lanes.items m.feeds.items)

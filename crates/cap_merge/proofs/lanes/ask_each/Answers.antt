@@ -22,11 +22,11 @@ pub loop-i-preserved : goal.loop-i-preserved
 loop-i-preserved g c =
     record {
       same_length = simp length-set c.loop-i.invariant.same_length;
-      agrees = agrees-set g.F.PacketFeed.feed c.loop-i.lanes c.loop-i.feeds c.loop-i.i c.ask.new.lane c.ask.new.feed
+      agrees = agrees-set g.F.PacketFeed.feed c.loop-i.lanes c.loop-i.feeds c.loop-i.i c.ask.new.self c.ask.new.feed
           c.loop-i.invariant.agrees c.ask.ensures.agrees;
       asked = rw add-one (lanes-more g.F.PacketFeed.feed
           (parts c.args.lanes.now (map g.F.PacketFeed.feed c.args.feeds.now)) c.loop-i.lanes c.loop-i.feeds c.loop-i.i
-          c.index-lanes-i.result c.ask.new.lane c.index-feeds-i.result c.ask.new.feed c.loop-i.invariant.asked
+          c.index-lanes-i.result c.ask.new.self c.index-feeds-i.result c.ask.new.feed c.loop-i.invariant.asked
           (omega arith) c.loop-i.invariant.same_length
           c.in_ok-ask.ensures.asks);
     }
@@ -41,9 +41,9 @@ returns-in_err-ask g c =
     (record {
       asks = lanes-stop g.F.PacketFeed.feed (parts c.args.lanes.now (map g.F.PacketFeed.feed c.args.feeds.now))
           c.loop-i.lanes c.loop-i.feeds c.loop-i.i
-          c.index-lanes-i.result c.ask.new.lane c.index-feeds-i.result c.ask.new.feed c.in_err-ask.field-0.0
+          c.index-lanes-i.result c.ask.new.self c.index-feeds-i.result c.ask.new.feed c.in_err-ask.field-0.0
           c.loop-i.invariant.asked (omega arith)
           c.loop-i.invariant.same_length c.in_err-ask.ensures.asks;
-      agrees = agrees-set g.F.PacketFeed.feed c.loop-i.lanes c.loop-i.feeds c.loop-i.i c.ask.new.lane c.ask.new.feed
+      agrees = agrees-set g.F.PacketFeed.feed c.loop-i.lanes c.loop-i.feeds c.loop-i.i c.ask.new.self c.ask.new.feed
           c.loop-i.invariant.agrees c.ask.ensures.agrees;
     })

@@ -2,14 +2,19 @@ use Rattle.std.proofs.Common.{sym, ◌∙◌, map, subst}
 use Rattle.cap_source.specs.Feed.{IsPacket}
 use Rattle.cap_merge.specs.Parts.{parts, merged_feed}
 use Rattle.cap_merge.proofs.FirstClock.{first-clock}
-use Rattle.cap_merge.proofs.Firsts.{known-there, frame-here, no-packet, packet-next}
+use Rattle.cap_merge.proofs.Firsts.{known-packet, known-there, frame-here, no-packet, packet-next}
 use Rattle.cap_merge.proofs.Placing.{none-placed, place_within}
 use Rattle.cap_merge.proofs.merging.Merged.next_packet.Goals as goal
+
+pub first_place-requires : goal.first_place-requires
+first_place-requires g c =
+    let m = c.args.self.now in
+    known-packet (parts m.lanes.items (map g.F.PacketFeed.feed m.feeds.items)) c.requires
 
 pub clock_at-requires : goal.clock_at-requires
 clock_at-requires g c =
     let m = c.args.self.now in
-    rw c.as_slice.ensures.value (place_within g.F.PacketFeed.feed m.lanes.items m.feeds.items c.in-Some.place m.alike
+    rw c.as_slice.ensures.value (place_within g.F.PacketFeed.feed m.lanes.items m.feeds.items c.in-Some.place m.kept.alike
     (sym c.first_place.ensures.place ∙ c.in-Some.is))
 
 pub packet-requires : goal.packet-requires
@@ -19,7 +24,7 @@ packet-requires g c =
     record {
       packet = subst IsPacket
           (known-there g.F.PacketFeed.feed m.lanes.items m.feeds.items c.in-Some.place c.index.result.now
-          c.index.ensures m.alike at c.requires) c.requires;
+          c.index.ensures m.kept.alike at c.requires) c.requires;
     }
 
 pub frame-requires : goal.frame-requires
@@ -29,7 +34,7 @@ frame-requires g c =
     record {
       packet = subst IsPacket
           (known-there g.F.PacketFeed.feed m.lanes.items m.feeds.items c.in-Some.place c.index-in-Some.result.now
-          c.index-in-Some.ensures m.alike at c.requires) c.requires;
+          c.index-in-Some.ensures m.kept.alike at c.requires) c.requires;
     }
 
 pub invariant_of-result : goal.invariant_of-result
@@ -40,7 +45,7 @@ invariant_of-result g c =
     let f = g.F.PacketFeed.feed in
     let at = sym c.first_place.ensures.place ∙ c.in-Some.is in
     let next = packet-next (merged_feed (parts ls (map f fs))).known c.requires in
-    let clock = first-clock f g.met.F.PacketFeed.lawful ls fs c.in-Some.place m.some m.alike at next m.bounded m.reached
+    let clock = first-clock f g.met.F.PacketFeed.lawful ls fs c.in-Some.place m.kept.some m.kept.alike at next m.kept.bounded m.kept.reached
     c.clock_at.result.now (sym (rw c.as_slice.ensures.value at c.clock_at.ensures)) in
     record { bounded = clock.bounded }
 
@@ -53,17 +58,17 @@ returns g c =
     let place = c.in-Some.place in
     let at = sym c.first_place.ensures.place ∙ c.in-Some.is in
     let next = packet-next (merged_feed (parts ls (map f fs))).known c.requires in
-    let clock = first-clock f g.met.F.PacketFeed.lawful ls fs place m.some m.alike at next m.bounded m.reached
+    let clock = first-clock f g.met.F.PacketFeed.lawful ls fs place m.kept.some m.kept.alike at next m.kept.bounded m.kept.reached
     c.clock_at.result.now (sym (rw c.as_slice.ensures.value at c.clock_at.ensures)) in
     record {
       clock = clock.value;
       from = clock.from;
       not_below = clock.not_below;
       run = clock.run;
-      packet = known-there f ls fs place c.index.result.now c.index.ensures m.alike at c.requires
+      packet = known-there f ls fs place c.index.result.now c.index.ensures m.kept.alike at c.requires
           ∙ c.packet.ensures.packet;
       frame = c.frame.ensures.frame
-          ∙ frame-here f ls fs place c.index-in-Some.result.now c.index-in-Some.ensures m.alike at;
+          ∙ frame-here f ls fs place c.index-in-Some.result.now c.index-in-Some.ensures m.kept.alike at;
     }
 
 pub unreachable-requires : goal.unreachable-requires

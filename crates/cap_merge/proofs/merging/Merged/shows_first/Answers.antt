@@ -1,76 +1,49 @@
-use Rattle.std.proofs.Common.{refl, sym, ap, ◌∙◌, map, Ok, Result, Bool, true}
+use Rattle.std.proofs.Common.{◌≡◌, sym, ◌∙◌, map, arith, Some, Ok, Result, Bool, true, false}
+use Rattle.std.specs.Result.{result_unwrap_or}
+use Rattle.cap_bytes.specs.declared.faults.Refusal.{Refusal}
 use Rattle.std.proofs.lemmas.List.{length-map}
-use Rattle.cap_bytes.specs.declared.faults.Fault.{Fault}
-use Rattle.cap_merge.specs.Parts.{parts, others_known}
-use Rattle.cap_merge.specs.inner.Sound.{each-reached}
-use Rattle.cap_merge.proofs.Bounds.{asked-bounded}
-use Rattle.cap_merge.proofs.Calls.{asked-numbered, asked-sound-each, asked-known, numbered-kept}
-use Rattle.cap_merge.proofs.Finding.{found-here, none-passed, packet-alone}
-use Rattle.cap_merge.proofs.Others.{but-within}
-use Rattle.cap_merge.proofs.Peeking.{peeked-kept, peeked-reached, peeked-bounded, peeked-looks, shows-first}
+use Rattle.cap_merge.specs.Parts.{parts}
+use Rattle.cap_merge.proofs.Calls.{asked-known}
+use Rattle.cap_merge.proofs.Finding.{packet-alone}
+use Rattle.cap_merge.proofs.Keeping.{learned-merge, peeked-merge}
+use Rattle.cap_merge.proofs.Peeking.{peeked-looks, shows-first}
 use Rattle.cap_merge.proofs.Placing.{coming-first}
 use Rattle.cap_merge.proofs.merging.Merged.shows_first.Goals as goal
 
-pub show_next-requires-clause-place : goal.show_next-requires-clause-place
-show_next-requires-clause-place g c =
-    let m = c.args.self.now in
-    let others = rw (sym c.passed.ensures ∙ c.in-Some.is) at m.others in
-    but-within g.F.PacketFeed.feed m.lanes.items m.feeds.items c.in-Some.place m.alike others
+-- only a packet counts as one
+packet_only : (r : Result Bool Refusal) (b : Bool) → b ≡ result_unwrap_or r false → b ≡ true → Some r ≡ Some (Ok true)
+packet_only r b e t = grind arith
 
 pub invariant_of-self : goal.invariant_of-self
 invariant_of-self g c =
     let m = c.args.self.now in
-    let f = g.F.PacketFeed.feed in
-    let ps = parts m.lanes.items (map f m.feeds.items) in
-    let qs = parts c.show_next.new.lanes.items (map f c.show_next.new.feeds.items) in
-    let peeks = rw c.if-not-show_next.true at c.show_next.ensures.shows in
+    let e = c.show_at.ensures in
     record {
-      alike = c.show_next.ensures.lanes ∙ m.alike ∙ sym c.show_next.ensures.feeds;
-      some = rw c.show_next.ensures.feeds m.some;
-      most = rw c.show_next.ensures.feeds m.most;
-      numbered = numbered-kept f m.lanes.items c.show_next.new.lanes.items m.feeds.items c.show_next.new.feeds.items
-          m.alike c.show_next.ensures.lanes c.show_next.ensures.feeds
-          (peeked-kept c.in-Some.place ps qs peeks) m.numbered;
-      agrees = c.show_next.ensures.agrees;
-      reached = peeked-reached c.in-Some.place ps qs peeks m.reached;
-      bounded = peeked-bounded c.in-Some.place ps qs peeks m.bounded;
-      found = refl;
-      others = refl;
+      kept = peeked-merge g.F.PacketFeed.feed g.met.F.PacketFeed.lawful m.lanes.items c.show_at.new.lanes.items
+          m.feeds.items c.show_at.new.feeds.items m.front m.kept e.lanes e.feeds e.agrees c.in-Some.place
+          (rw c.if-not-show_at.true at e.shows);
     }
 
-pub returns-then-not-show_next : goal.returns-then-not-show_next
-returns-then-not-show_next g c =
+pub returns-then-not-show_at : goal.returns-then-not-show_at
+returns-then-not-show_at g c =
     let m = c.args.self.now in
     let f = g.F.PacketFeed.feed in
     let ps = parts m.lanes.items (map f m.feeds.items) in
-    let qs = parts c.show_next.new.lanes.items (map f c.show_next.new.feeds.items) in
-    let others = rw (sym c.passed.ensures ∙ c.in-Some.is) at m.others in
-    let peeks = rw c.if-not-show_next.true at c.show_next.ensures.shows in
+    let qs = parts c.show_at.new.lanes.items (map f c.show_at.new.feeds.items) in
+    let others = rw c.in-Some.is at m.kept.others in
+    let peeks = rw c.if-not-show_at.true at c.show_at.ensures.shows in
     λ r rs h. peeked-looks c.in-Some.place ps qs rs r others peeks h
 
 pub invariant_of-self-then-len-eq1 : goal.invariant_of-self-then-len-eq1
 invariant_of-self-then-len-eq1 g c =
     let m = c.args.self.now in
-    let f = g.F.PacketFeed.feed in
-    let law = g.met.F.PacketFeed.lawful in
-    let ps = parts m.lanes.items (map f m.feeds.items) in
-    let ls = c.show_next.new.lanes.items in
-    let fs = c.show_next.new.feeds.items in
-    let qs = parts ls (map f fs) in
-    let r : Result Bool Fault = Ok true in
-    let learns = rw c.if-not-show_next.false at c.show_next.ensures.shows in
+    let e = c.show_at.ensures in
+    let ls = c.show_at.new.lanes.items in
     record {
-      alike = c.show_next.ensures.lanes ∙ m.alike ∙ sym c.show_next.ensures.feeds;
-      some = rw c.show_next.ensures.feeds m.some;
-      most = rw c.show_next.ensures.feeds m.most;
-      numbered = asked-numbered f law m.lanes.items ls m.feeds.items fs r m.alike c.show_next.ensures.lanes
-          c.show_next.ensures.feeds learns m.numbered;
-      agrees = c.show_next.ensures.agrees;
-      reached = each-reached qs (asked-sound-each f law m.lanes.items ls m.feeds.items fs r learns m.reached);
-      bounded = asked-bounded ps qs r learns m.bounded;
-      found = packet-alone ls c.in-Some.place (sym c.len.ensures.value ∙ c.if-len-eq1.true)
-          (c.show_next.ensures.packet c.if-not-show_next.false);
-      others = refl;
+      kept = learned-merge g.F.PacketFeed.feed g.met.F.PacketFeed.lawful m.lanes.items ls m.feeds.items
+          c.show_at.new.feeds.items m.front m.kept e.lanes e.feeds e.agrees (rw c.if-not-show_at.false at e.shows)
+          m.front (c.in-Some.is ∙ sym (packet-alone ls c.in-Some.place (sym c.len.ensures.value ∙ c.if-len-eq1.true)
+          (e.packet c.if-not-show_at.false)));
     }
 
 pub returns-then-len-eq1 : goal.returns-then-len-eq1
@@ -78,59 +51,45 @@ returns-then-len-eq1 g c =
     let m = c.args.self.now in
     let f = g.F.PacketFeed.feed in
     let ps = parts m.lanes.items (map f m.feeds.items) in
-    let ls = c.show_next.new.lanes.items in
-    let fs = map f c.show_next.new.feeds.items in
-    let learns = rw c.if-not-show_next.false at c.show_next.ensures.shows in
-    let packet = c.show_next.ensures.packet c.if-not-show_next.false in
+    let ls = c.show_at.new.lanes.items in
+    let fs = map f c.show_at.new.feeds.items in
+    let learns = rw c.if-not-show_at.false at c.show_at.ensures.shows in
+    let packet = c.show_at.ensures.packet c.if-not-show_at.false in
     let first = packet-alone ls c.in-Some.place (sym c.len.ensures.value ∙ c.if-len-eq1.true) packet in
-    let alike = length-map c.show_next.new.feeds.items f ∙ c.show_next.ensures.feeds ∙ sym m.alike
-    ∙ sym c.show_next.ensures.lanes in
-    let agrees = c.show_next.ensures.agrees in
+    let alike = length-map c.show_at.new.feeds.items f ∙ c.show_at.ensures.feeds ∙ sym m.kept.alike
+    ∙ sym c.show_at.ensures.lanes in
+    let agrees = c.show_at.ensures.agrees in
     shows-first ps (parts ls fs) true learns (λ t. coming-first ls fs _ _ _
     (asked-known ps ls fs agrees learns) alike agrees first packet)
 
 pub invariant_of-self-2 : goal.invariant_of-self-2
 invariant_of-self-2 g c =
     let m = c.args.self.now in
-    let f = g.F.PacketFeed.feed in
-    let law = g.met.F.PacketFeed.lawful in
-    let ps = parts m.lanes.items (map f m.feeds.items) in
-    let ls = c.show_next.new.lanes.items in
-    let fs = c.show_next.new.feeds.items in
-    let qs = parts ls (map f fs) in
-    let r : Result Bool Fault = Ok true in
-    let learns = rw c.if-not-show_next.false at c.show_next.ensures.shows in
+    let e = c.show_at.ensures in
     record {
-      alike = c.show_next.ensures.lanes ∙ m.alike ∙ sym c.show_next.ensures.feeds;
-      some = rw c.show_next.ensures.feeds m.some;
-      most = rw c.show_next.ensures.feeds m.most;
-      numbered = asked-numbered f law m.lanes.items ls m.feeds.items fs r m.alike c.show_next.ensures.lanes
-          c.show_next.ensures.feeds learns m.numbered;
-      agrees = c.show_next.ensures.agrees;
-      reached = each-reached qs (asked-sound-each f law m.lanes.items ls m.feeds.items fs r learns m.reached);
-      bounded = asked-bounded ps qs r learns m.bounded;
-      found = found-here ls c.first_lane-first.result c.at-self.result
-          (rw c.as_slice.ensures.value at c.first_lane-first.ensures.place) c.at-self.ensures;
-      others = ap (others_known qs) (none-passed c.first_lane-first.result c.at-self.result c.at-self.ensures);
+      kept = learned-merge g.F.PacketFeed.feed g.met.F.PacketFeed.lawful m.lanes.items c.show_at.new.lanes.items
+          m.feeds.items c.show_at.new.feeds.items m.front m.kept e.lanes e.feeds e.agrees
+          (rw c.if-not-show_at.false at e.shows) c.first_lane-first.result
+          (rw c.as_slice.ensures.value at c.first_lane-first.ensures.place);
     }
 
-pub is_packet_at-requires-clause-known : goal.is_packet_at-requires-clause-known
-is_packet_at-requires-clause-known g c =
+pub coming_at-requires-clause-known : goal.coming_at-requires-clause-known
+coming_at-requires-clause-known g c =
     let m = c.args.self.now in
     let f = g.F.PacketFeed.feed in
-    let learns = rw c.if-not-show_next.false at c.show_next.ensures.shows in
+    let learns = rw c.if-not-show_at.false at c.show_at.ensures.shows in
     rw c.as_slice-2.ensures.value
-    (asked-known (parts m.lanes.items (map f m.feeds.items)) c.show_next.new.lanes.items
-    (map f c.show_next.new.feeds.items) c.show_next.ensures.agrees learns)
+    (asked-known (parts m.lanes.items (map f m.feeds.items)) c.show_at.new.lanes.items
+    (map f c.show_at.new.feeds.items) c.show_at.ensures.agrees learns)
 
 pub returns : goal.returns
 returns g c =
     let m = c.args.self.now in
     let f = g.F.PacketFeed.feed in
-    let fs = c.show_next.new.feeds.items in
-    let learns = rw c.if-not-show_next.false at c.show_next.ensures.shows in
+    let fs = c.show_at.new.feeds.items in
+    let learns = rw c.if-not-show_at.false at c.show_at.ensures.shows in
     shows-first (parts m.lanes.items (map f m.feeds.items))
-    (parts c.show_next.new.lanes.items (map f fs)) c.is_packet_at.result learns
-    ((rw c.as_slice-2.ensures.value at c.is_packet_at.ensures) (map f fs)
-    (length-map fs f ∙ c.show_next.ensures.feeds ∙ sym m.alike
-    ∙ sym c.show_next.ensures.lanes) c.show_next.ensures.agrees)
+    (parts c.show_at.new.lanes.items (map f fs)) c.unwrap_or.result learns
+    (λ t. (rw c.as_slice-2.ensures.value at c.coming_at.ensures) (map f fs)
+    (length-map fs f ∙ c.show_at.ensures.feeds ∙ sym m.kept.alike
+    ∙ sym c.show_at.ensures.lanes) c.show_at.ensures.agrees ∙ packet_only c.coming_at.result c.unwrap_or.result c.unwrap_or.ensures t)

@@ -1,7 +1,13 @@
-use Rattle.std.proofs.Common.{sym, ◌∙◌, subst}
+use Rattle.std.proofs.Common.{sym, ◌∙◌, subst, map}
 use Rattle.cap_source.specs.Feed.{IsPacket}
-use Rattle.cap_merge.proofs.Firsts.{known-there, frame-here, frame-none}
+use Rattle.cap_merge.specs.Parts.{parts}
+use Rattle.cap_merge.proofs.Firsts.{known-packet, known-there, frame-here, frame-none}
 use Rattle.cap_merge.proofs.merging.MergedPacketFeed.frame.Goals as goal
+
+pub first_place-requires : goal.first_place-requires
+first_place-requires g c =
+    let m = c.args.self.now in
+    known-packet (parts m.lanes.items (map g.F.PacketFeed.feed m.feeds.items)) c.requires.packet
 
 pub frame-requires : goal.frame-requires
 frame-requires g c =
@@ -10,7 +16,7 @@ frame-requires g c =
     record {
       packet = subst IsPacket
           (known-there g.F.PacketFeed.feed m.lanes.items m.feeds.items c.in-Some.place c.index.result.now
-          c.index.ensures m.alike at c.requires.packet) c.requires.packet;
+          c.index.ensures m.kept.alike at c.requires.packet) c.requires.packet;
     }
 
 pub returns-in-Some : goal.returns-in-Some
@@ -20,7 +26,7 @@ returns-in-Some g c =
     record {
       frame = c.frame.ensures.frame
           ∙ frame-here g.F.PacketFeed.feed m.lanes.items m.feeds.items c.in-Some.place c.index.result.now
-          c.index.ensures m.alike at;
+          c.index.ensures m.kept.alike at;
     }
 
 pub returns-in-None : goal.returns-in-None

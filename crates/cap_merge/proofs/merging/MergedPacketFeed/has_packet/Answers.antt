@@ -12,7 +12,7 @@ returns-then-shows_first g c =
     let qs = parts n.lanes.items (map g.F.PacketFeed.feed n.feeds.items) in
     let lawful = lawful-each g.F.PacketFeed.feed g.met.F.PacketFeed.lawful n.lanes.items n.feeds.items in
     let shows = rw c.if-shows_first.true at c.shows_first.ensures in
-    let h = finds-all ps qs (Ok true) (numbered-from g.F.PacketFeed.feed m.lanes.items m.feeds.items m.alike m.numbered)
+    let h = finds-all ps qs (Ok true) (numbered-from g.F.PacketFeed.feed m.lanes.items m.feeds.items m.kept.alike m.kept.numbered)
     shows.0 shows.1 lawful in
     record { answer = h.answer; keeps = h.keeps; items = h.items; asks = h.asks; run = h.run; clocks = h.clocks }
 
@@ -25,6 +25,6 @@ returns g c =
     let lawful = lawful-each g.F.PacketFeed.feed g.met.F.PacketFeed.lawful n.lanes.items n.feeds.items in
     let asks = (rw c.if-shows_first.false at c.shows_first.ensures) c.find.result qs c.find.ensures.asks in
     let h = finds-all ps qs c.find.result
-    (numbered-from g.F.PacketFeed.feed m.lanes.items m.feeds.items m.alike m.numbered) asks
+    (numbered-from g.F.PacketFeed.feed m.lanes.items m.feeds.items m.kept.alike m.kept.numbered) asks
     c.find.ensures.next lawful in
     record { answer = h.answer; keeps = h.keeps; items = h.items; asks = h.asks; run = h.run; clocks = h.clocks }

@@ -15,7 +15,7 @@ returns-in_err-look g c =
     let lawful = lawful-each g.F.PacketFeed.feed g.met.F.PacketFeed.lawful n.lanes.items n.feeds.items in
     let p = err_from_is_err_and c.from_residual.result c.from_residual.ensures.1 in
     let h = heads-stopped ps qs c.in_err-look.field-0.0
-    (numbered-from g.F.PacketFeed.feed m.lanes.items m.feeds.items m.alike m.numbered)
+    (numbered-from g.F.PacketFeed.feed m.lanes.items m.feeds.items m.kept.alike m.kept.numbered)
     c.in_err-look.ensures.asks lawful in
     rw (p.1, p.2) (record {
       answer = h.answer;
@@ -31,11 +31,11 @@ packet-requires g c =
     let n = c.look.new.self in
     record {
       packet = is-packet (merged_feed (parts n.lanes.items (map g.F.PacketFeed.feed n.feeds.items))).known
-          (rw c.in-Packet.is at c.in_ok-look.ensures.next);
+          (rw (c.in-Ok-true.is, c.in-Ok-true.field-0-test) at c.in_ok-look.ensures.next);
     }
 
-pub returns-in-Packet : goal.returns-in-Packet
-returns-in-Packet g c =
+pub returns-in-Ok-true : goal.returns-in-Ok-true
+returns-in-Ok-true g c =
     let m = c.args.self.now in
     let n = c.look.new.self in
     let ps = parts m.lanes.items (map g.F.PacketFeed.feed m.feeds.items) in
@@ -44,25 +44,25 @@ returns-in-Packet g c =
     let h = heads-known ps qs (Packet c.packet.result.now) c.in_ok-look.ensures.asks c.packet.ensures.packet lawful in
     record { answer = h.answer; keeps = h.keeps; items = h.items; asks = h.asks; run = h.run; clocks = h.clocks }
 
-pub returns-in-Refused : goal.returns-in-Refused
-returns-in-Refused g c =
+pub returns-in-Err : goal.returns-in-Err
+returns-in-Err g c =
     let m = c.args.self.now in
     let n = c.look.new.self in
     let ps = parts m.lanes.items (map g.F.PacketFeed.feed m.feeds.items) in
     let qs = parts n.lanes.items (map g.F.PacketFeed.feed n.feeds.items) in
     let lawful = lawful-each g.F.PacketFeed.feed g.met.F.PacketFeed.lawful n.lanes.items n.feeds.items in
-    let known = refusal-comes (merged_feed qs).known c.in-Refused.refusal
-    (rw c.in-Refused.is at c.in_ok-look.ensures.next) in
-    let h = heads-known ps qs (Refused c.in-Refused.refusal) c.in_ok-look.ensures.asks known lawful in
+    let known = refusal-comes (merged_feed qs).known c.in-Err.refusal
+    (rw c.in-Err.is at c.in_ok-look.ensures.next) in
+    let h = heads-known ps qs (Refused c.in-Err.refusal) c.in_ok-look.ensures.asks known lawful in
     record { answer = h.answer; keeps = h.keeps; items = h.items; asks = h.asks; run = h.run; clocks = h.clocks }
 
-pub returns-in-End : goal.returns-in-End
-returns-in-End g c =
+pub returns-in-Ok-false : goal.returns-in-Ok-false
+returns-in-Ok-false g c =
     let m = c.args.self.now in
     let n = c.look.new.self in
     let ps = parts m.lanes.items (map g.F.PacketFeed.feed m.feeds.items) in
     let qs = parts n.lanes.items (map g.F.PacketFeed.feed n.feeds.items) in
     let lawful = lawful-each g.F.PacketFeed.feed g.met.F.PacketFeed.lawful n.lanes.items n.feeds.items in
     let h = heads-known ps qs End c.in_ok-look.ensures.asks
-    (end-comes (merged_feed qs).known (rw c.in-End.is at c.in_ok-look.ensures.next)) lawful in
+    (end-comes (merged_feed qs).known (rw (c.in-Ok-false.is, c.in-Ok-false.field-0-test) at c.in_ok-look.ensures.next)) lawful in
     record { answer = h.answer; keeps = h.keeps; items = h.items; asks = h.asks; run = h.run; clocks = h.clocks }

@@ -1,9 +1,14 @@
 use Rattle.std.proofs.Common.{sym, ◌∙◌, map, subst}
 use Rattle.cap_source.specs.Feed.{IsPacket}
 use Rattle.cap_merge.specs.Parts.{parts}
-use Rattle.cap_merge.proofs.Firsts.{known-there, no-packet}
+use Rattle.cap_merge.proofs.Firsts.{known-packet, known-there, no-packet}
 use Rattle.cap_merge.proofs.Placing.{none-placed}
 use Rattle.cap_merge.proofs.merging.MergedPacketFeed.packet.Goals as goal
+
+pub first_place-requires : goal.first_place-requires
+first_place-requires g c =
+    let m = c.args.self.now in
+    known-packet (parts m.lanes.items (map g.F.PacketFeed.feed m.feeds.items)) c.requires.packet
 
 pub packet-requires : goal.packet-requires
 packet-requires g c =
@@ -12,7 +17,7 @@ packet-requires g c =
     record {
       packet = subst IsPacket
           (known-there g.F.PacketFeed.feed m.lanes.items m.feeds.items c.in-Some.place c.index.result.now
-          c.index.ensures m.alike at c.requires.packet) c.requires.packet;
+          c.index.ensures m.kept.alike at c.requires.packet) c.requires.packet;
     }
 
 pub returns : goal.returns
@@ -21,7 +26,7 @@ returns g c =
     let at = sym c.first_place.ensures.place ∙ c.in-Some.is in
     record {
       packet = known-there g.F.PacketFeed.feed m.lanes.items m.feeds.items c.in-Some.place c.index.result.now
-          c.index.ensures m.alike at c.requires.packet ∙ c.packet.ensures.packet;
+          c.index.ensures m.kept.alike at c.requires.packet ∙ c.packet.ensures.packet;
     }
 
 pub unreachable-requires : goal.unreachable-requires

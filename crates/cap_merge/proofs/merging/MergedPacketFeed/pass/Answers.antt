@@ -1,55 +1,45 @@
-use Rattle.std.proofs.Common.{refl, sym, ◌∙◌, map}
+use Rattle.std.proofs.Common.{sym, ◌∙◌, map}
 use Rattle.cap_merge.specs.Parts.{parts}
-use Rattle.cap_merge.specs.inner.Sound.{each-reached}
+use Rattle.cap_merge.proofs.Firsts.{packet-at-first, passed-of, no-packet, known-packet}
+use Rattle.cap_merge.proofs.Keeping.{passed-merge}
 use Rattle.cap_merge.proofs.Placing.{place_within, none-placed}
-use Rattle.cap_merge.proofs.Bounds.{passed-bounded}
-use Rattle.cap_merge.proofs.Calls.{numbered-kept}
-use Rattle.cap_merge.proofs.Firsts.{packet-at-first, passed-of, passes-each, no-packet}
-use Rattle.cap_merge.proofs.Others.{others-passed}
 use Rattle.cap_merge.proofs.merging.MergedPacketFeed.pass.Goals as goal
 
-pub pass_first-requires : goal.pass_first-requires
-pass_first-requires g c =
+pub first_place-requires : goal.first_place-requires
+first_place-requires g c =
     let m = c.args.self.now in
+    known-packet (parts m.lanes.items (map g.F.PacketFeed.feed m.feeds.items)) c.requires.packet
+
+pub pass_at-requires : goal.pass_at-requires
+pass_at-requires g c =
+    let m = c.args.self.now in
+    let f = g.F.PacketFeed.feed in
     let at = sym c.first_place.ensures.place ∙ c.in-Some.is in
     record {
-      alike = m.alike;
-      agrees = m.agrees;
-      place = place_within g.F.PacketFeed.feed m.lanes.items m.feeds.items c.in-Some.place m.alike at;
-      packet = packet-at-first g.F.PacketFeed.feed m.lanes.items m.feeds.items c.in-Some.place m.some m.alike at
+      alike = m.kept.alike;
+      agrees = m.kept.agrees;
+      place = place_within f m.lanes.items m.feeds.items c.in-Some.place m.kept.alike at;
+      packet = packet-at-first f m.lanes.items m.feeds.items c.in-Some.place m.kept.some m.kept.alike at
           c.requires.packet;
     }
 
 pub invariant_of-self : goal.invariant_of-self
 invariant_of-self g c =
     let m = c.args.self.now in
-    let at = sym c.first_place.ensures.place ∙ c.in-Some.is in
-    let ps = parts m.lanes.items (map g.F.PacketFeed.feed m.feeds.items) in
-    let qs = parts c.pass_first.new.lanes.items (map g.F.PacketFeed.feed c.pass_first.new.feeds.items) in
-    let passed = passed-of g.F.PacketFeed.feed g.met.F.PacketFeed.lawful m.lanes.items c.pass_first.new.lanes.items
-    m.feeds.items c.pass_first.new.feeds.items c.in-Some.place m.some m.alike at
-    m.numbered m.reached c.requires.packet c.pass_first.ensures.passes in
+    let e = c.pass_at.ensures in
     record {
-      alike = c.pass_first.ensures.lanes ∙ m.alike ∙ sym c.pass_first.ensures.feeds;
-      some = rw c.pass_first.ensures.feeds m.some;
-      most = rw c.pass_first.ensures.feeds m.most;
-      numbered = numbered-kept g.F.PacketFeed.feed m.lanes.items c.pass_first.new.lanes.items m.feeds.items
-          c.pass_first.new.feeds.items m.alike c.pass_first.ensures.lanes c.pass_first.ensures.feeds
-          (passes-each c.in-Some.place ps qs c.pass_first.ensures.passes) m.numbered;
-      agrees = c.pass_first.ensures.agrees;
-      reached = each-reached qs passed.sound;
-      bounded = passed-bounded ps qs c.in-Some.place c.pass_first.ensures.passes m.bounded;
-      found = refl;
-      others = others-passed ps qs c.in-Some.place c.pass_first.ensures.passes c.requires.packet;
+      kept = passed-merge g.F.PacketFeed.feed g.met.F.PacketFeed.lawful m.lanes.items c.pass_at.new.lanes.items
+          m.feeds.items c.pass_at.new.feeds.items m.front m.kept e.lanes e.feeds e.agrees c.in-Some.place
+          (sym c.first_place.ensures.place ∙ c.in-Some.is) c.requires.packet e.passes;
     }
 
 pub returns-in-Some : goal.returns-in-Some
 returns-in-Some g c =
     let m = c.args.self.now in
-    let at = sym c.first_place.ensures.place ∙ c.in-Some.is in
-    let passed = passed-of g.F.PacketFeed.feed g.met.F.PacketFeed.lawful m.lanes.items c.pass_first.new.lanes.items
-    m.feeds.items c.pass_first.new.feeds.items c.in-Some.place m.some m.alike at
-    m.numbered m.reached c.requires.packet c.pass_first.ensures.passes in
+    let passed = passed-of g.F.PacketFeed.feed g.met.F.PacketFeed.lawful m.lanes.items c.pass_at.new.lanes.items
+    m.feeds.items c.pass_at.new.feeds.items c.in-Some.place m.kept.some m.kept.alike
+    (sym c.first_place.ensures.place ∙ c.in-Some.is) m.kept.numbered m.kept.reached c.requires.packet
+    c.pass_at.ensures.passes in
     record { passes = passed.passes; keeps = passed.keeps; run = passed.run; clocks = passed.clocks }
 
 pub returns-in-None : goal.returns-in-None

@@ -1,7 +1,7 @@
 use Rattle.std.proofs.Common.{ap}
 use Rattle.std.specs.Prelude.{is_some}
 use Rattle.cap_merge.proofs.Bounds.{learns-packet}
-use Rattle.cap_merge.proofs.lanes.learn.Goals as goal
+use Rattle.cap_merge.proofs.lanes.Lane.learn.Goals as goal
 
 -- by no name of the call that gives the time, or of the one that moves the clock
 pub returns-in-Ok-true-clause-asks : goal.returns-in-Ok-true-clause-asks
