@@ -36,7 +36,7 @@ IsEnd stops.End = ⊤
 IsEnd stops.Cut = ⊤
 IsEnd (stops.Refused refusal) = ⊥
 
--- what a call for a piece answers there
+-- what a call for a piece returns there
 abbrev pub stop_answer : {P : Type 0} → Stop → Result (Option P) Fault
 stop_answer stops.End = Ok None
 stop_answer stops.Cut = Ok None

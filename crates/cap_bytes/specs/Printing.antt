@@ -8,7 +8,7 @@ use Rattle.cap_bytes.specs.declared.faults.Refusal.{Refusal}
 abbrev pub PrintsFront : List ℕ → List ℕ → List ℕ → Type 0
 PrintsFront text old new = (n : ℕ) × (new ≡ old ++ take n text)
 
--- The text is written, and the refusal after it is answered, if there is one; after any other fault a
+-- The text is written, and the refusal after it is returned, if there is one; after any other fault a
 -- prefix of the text is written.
 abbrev pub Prints : {A : Type 0} → List ℕ → Option Refusal → List ℕ → Result A Fault → List ℕ → Type 0
 Prints text refusal old (Ok _) new = (refusal ≡ None) × (new ≡ old ++ text)

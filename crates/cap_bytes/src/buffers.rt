@@ -26,7 +26,7 @@ pub enum Filling {
     Failed,
 }
 
-// Reads once into the buffer after its first `end` bytes, and answers how many bytes came.
+// Reads once into the buffer after its first `end` bytes, and returns how many bytes came.
 fn take_more<R: Source>(reader: &mut R, buffer: &mut [u8], end: usize) -> Result<usize, Broken>
     requires { end < length buffer.old }
     ensures front { take end buffer.new ≡ take end buffer.old }
@@ -44,7 +44,7 @@ fn take_more<R: Source>(reader: &mut R, buffer: &mut [u8], end: usize) -> Result
     reader.take(room)
 }
 
-// Reads into the buffer after its first `end` bytes until n stand there, and answers how many do.
+// Reads into the buffer after its first `end` bytes until n stand there, and returns how many do.
 fn fill<R: Source>(reader: &mut R, buffer: &mut [u8], end: usize, n: usize) -> (usize, Filling)
     requires some { end ≤ n }
     requires room { n ≤ length buffer.old }
@@ -100,7 +100,7 @@ fn move_to_front(buffer: &mut Vec<u8>, start: usize, end: usize)
 }
 
 /// Reads on until n bytes stand in the buffer after those from `start` to `end`, which move to its
-/// front, and answers how many stand there then. An `Err` changes nothing that is held.
+/// front, and returns how many stand there then. An `Err` changes nothing that is held.
 pub fn read_on<R: Source>(
     reader: &mut R,
     buffer: &mut Vec<u8>,

@@ -34,7 +34,7 @@ pub trait Source: Device {
     /// How many bytes it gives at a time at most, if it tells that.
     ghost most: { Self → Option ℕ };
 
-    /// Puts the next bytes at the front of `buffer`, and answers how many they are: 0 if none
+    /// Puts the next bytes at the front of `buffer`, and returns how many they are: 0 if none
     /// are left, or if there is no room.
     fn take(&mut self, buffer: &mut [u8]) -> Result<usize, Broken>
         ensures count { IfOk result (λ n. n ≤ length buffer.new) }
@@ -56,7 +56,7 @@ pub trait Sink: Device {
     /// The bytes that it holds, if it tells them.
     ghost held: { Self → List ℕ };
 
-    /// Takes some of the first bytes, and answers how many: of some bytes at least one.
+    /// Takes some of the first bytes, and returns how many: of some bytes at least one.
     fn give(&mut self, bytes: &[u8]) -> Result<usize, Broken>
         ensures count { IfOk result (λ n. n ≤ length bytes.now) }
         ensures some { IfOk result (λ n. 0 < length bytes.now → 0 < n) }
@@ -68,7 +68,7 @@ pub trait Sink: Device {
         ensures cannot { IsTrue (Self.can_fail self.new) → IsTrue (Self.can_fail self.old) };
 }
 
-/// Writes all the bytes, in as many calls of `give` as it takes. Answers `Fault::Write`, and no
+/// Writes all the bytes, in as many calls of `give` as it takes. Returns `Fault::Write`, and no
 /// other fault, if the writer failed: a prefix of the bytes is written then.
 pub fn put_all<W: Sink>(writer: &mut W, bytes: &[u8]) -> Result<(), Fault>
     ensures bytes { IsTrue (W.tells_held writer.old)

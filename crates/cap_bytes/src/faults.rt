@@ -36,7 +36,7 @@ pub enum Rule {
     InterfaceLimit,
     /// A record or a block would end past byte 2^40.
     FileLimit,
-    /// Never answered: the oldest group of fragments is given up instead.
+    /// Never returned: the oldest group of fragments is given up instead.
     OpenLimit,
     /// A unit would open the 1,048,577th conversation.
     TalkLimit,
@@ -125,7 +125,7 @@ pub struct Refusal {
     pub rule: Rule,
 }
 
-/// What a call over files answers in place of its result.
+/// What a call over files returns in place of its result.
 #[derive(Clone, Copy, Debug, PartialEq, Eq, Error)]
 pub enum Fault {
     /// The input breaks a rule.

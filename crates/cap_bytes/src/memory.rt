@@ -92,7 +92,7 @@ fn one_call_less(failing: Option<u64>) -> Option<u64>
     }
 }
 
-// Puts the first bytes of `rest`, at most `most`, at the front of `buffer`, and answers how many.
+// Puts the first bytes of `rest`, at most `most`, at the front of `buffer`, and returns how many.
 fn copy_front(rest: &[u8], most: usize, buffer: &mut [u8]) -> usize
     ensures within { result ≤ length rest.now }
     ensures front { rest.now ≡ take result buffer.new ++ drop result rest.now }
@@ -160,7 +160,7 @@ impl Sink for Room {
     }
 }
 
-// Appends as many of the first bytes as the vector's capacity has room for, and answers how many. Fails if there
+// Appends as many of the first bytes as the vector's capacity has room for, and returns how many. Fails if there
 // are some and it has none.
 fn append(vector: &mut Vec<u8>, bytes: &[u8]) -> Result<usize, Broken>
     ensures full { IsErr result ↔ ((0 < length bytes.now) × (vec_capacity vector.old ≡ vec_len vector.old)) }

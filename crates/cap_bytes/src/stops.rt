@@ -27,7 +27,7 @@ impl Stop {
         }
     }
 
-    /// What a call for a piece answers from then on.
+    /// What a call for a piece returns from then on.
     pub fn answer<T>(self) -> Result<Option<T>, Fault>
         ensures { result ≡ stop_answer self }
     {

@@ -13,7 +13,7 @@ use std::marker::Model;
 const ROOM: usize = 12;
 
 /// A window over the bytes of a reader. It shows the next bytes, and drops what was passed; at
-/// most 524,288 bytes are held. Once a read has failed, each call that may read answers that same
+/// most 524,288 bytes are held. Once a read has failed, each call that may read returns that same
 /// `Fault::Read`.
 #[derive(Drop)]
 pub struct Window<R: Source> {
@@ -66,7 +66,7 @@ impl<R: Source> Window<R> {
     }
 
     /// Reads on until the next n bytes are shown, and no further; if they are already, nothing changes.
-    /// Answers whether they are shown: if not, the input ends first. `Memory` leaves the bytes to come.
+    /// Returns whether they are shown: if not, the input ends first. `Memory` leaves the bytes to come.
     #[inline(always)]
     pub fn need(&mut self, n: usize) -> Result<bool, Fault>
         requires { n ≤ 524288 }
@@ -82,7 +82,7 @@ impl<R: Source> Window<R> {
         self.need_more(n)
     }
 
-    /// Whether the next n bytes are shown already, and no read has failed: `need` answers true then, and changes
+    /// Whether the next n bytes are shown already, and no read has failed: `need` returns true then, and changes
     /// nothing.
     #[inline(always)]
     pub fn shows(&self, n: usize) -> bool
@@ -157,8 +157,8 @@ impl<R: Source> Window<R> {
         self.offset += n as u64;
     }
 
-    /// Drops the next n bytes, a piece at a time, and reads no further once they came. Answers whether
-    /// there were as many: if not, the window stands at the end of the input. `Memory` comes before the
+    /// Drops the next n bytes, a piece at a time, and reads no further once they came. Returns whether
+    /// there were as many: if not, the window stands at the end of the input. Returns `Memory` before the
     /// first byte is dropped, and leaves the bytes to come; after any other answer the next 12 bytes can
     /// be shown without it.
     pub fn skip(&mut self, n: u64) -> Result<bool, Fault>

@@ -63,8 +63,8 @@ pub fn look<'a>(meta: &Meta, frame: &'a [u8]) -> Seen<'a>
     }
 }
 
-/// What a joiner keeps of a packet's frame: its place in the run, its time, which is the packet's, and how many bytes it
-/// had.
+/// What a joiner keeps of a packet's frame: its place in the run, its time, which is the packet's, and how many bytes
+/// it had.
 #[inline(always)]
 pub fn stamped_of(place: u64, time: Option<Stamp>, meta: &Meta) -> Stamped
     requires time { time ≡ meta_time meta.now }

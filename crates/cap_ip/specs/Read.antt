@@ -9,7 +9,7 @@ use Rattle.cap_ip.specs.Fields.{version, header_length, service, total_length, i
 use Rattle.cap_ip.specs.Fields.{time_to_live, protocol, source, destination, data_length, is_fragment}
 use Rattle.cap_ip.specs.Header.{HeaderFields, IsWellFormed}
 
--- what reading answers: a header with the captured part of its data, or that it is bad or cut
+-- what reading returns: a header with the captured part of its data, or that it is bad or cut
 pub data Reading : Type 0 where
   found : HeaderFields → List ℕ → Reading
   bad : Reading

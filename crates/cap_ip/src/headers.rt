@@ -78,7 +78,7 @@ impl Model for Header {
     } };
 }
 
-/// What reading a header answers.
+/// What reading a header returns.
 #[derive(Clone, Copy, Debug, PartialEq, Eq)]
 pub enum HeaderOr<'a> {
     /// A header and the captured part of its data, without padding: all of it for a fragment.

@@ -64,7 +64,7 @@ pub enum Put {
 /// Why a fragment wasn't put.
 #[derive(Clone, Copy, Debug, PartialEq, Eq)]
 pub enum JoinFault {
-    /// Too many datagrams are incomplete. This is never answered: the oldest is given up instead.
+    /// Too many datagrams are incomplete. This is never returned: the oldest is given up instead.
     OpenLimit,
     /// No memory was found. The joiner is as it was.
     Memory,

@@ -49,7 +49,7 @@ fn put_word(bytes: &mut [u8], at: usize, value: u32)
 }
 
 // Describes the part of a hole from a place up to another, if there is one, with the next hole after
-// it, and answers where the holes begin now.
+// it, and returns where the holes begin now.
 fn keep(bytes: &mut [u8], from: u32, to: u32, next: u32) -> u32
     requires within { to ≤ length bytes.old }
     requires begins { from % 8 ≡ 0 }
@@ -184,7 +184,7 @@ fn covered_end(bytes: &[u8], at: u32, from: u32, to: u32) -> Option<u32>
     Some(end)
 }
 
-// Fills those of some holes that lie in a range whole, up to the first that doesn't. Answers where the others begin.
+// Fills those of some holes that lie in a range whole, up to the first that doesn't. Returns where the others begin.
 fn cover(bytes: &mut [u8], at: u32, from: u32, to: u32) -> u32
     requires holes { HasHoles bytes.old (length bytes.old) at }
     requires within { to ≤ length bytes.old }
@@ -203,7 +203,7 @@ fn cover(bytes: &mut [u8], at: u32, from: u32, to: u32) -> u32
     first
 }
 
-// Fills a range of whole blocks: each hole loses what lies in it, which becomes 0. Answers where the
+// Fills a range of whole blocks: each hole loses what lies in it, which becomes 0. Returns where the
 // holes begin now. A first hole that lies below the range stays where it is.
 fn punch(bytes: &mut [u8], at: u32, from: u32, to: u32) -> u32
     requires holes { HasHoles bytes.old (length bytes.old) at }
@@ -257,7 +257,7 @@ pub(crate) fn fill(bytes: &mut [u8], holes: HoleList, from: u32, to: u32) -> Hol
     }
 }
 
-// Describes the bytes from a place on as the last hole, and answers where the holes begin now.
+// Describes the bytes from a place on as the last hole, and returns where the holes begin now.
 fn append_hole(bytes: &mut [u8], at: u32, from: u32) -> u32
     requires holes { HasHoles bytes.old from at }
     requires begins { from % 8 ≡ 0 }

@@ -67,8 +67,8 @@ impl Joiner {
     /// Puts a fragment at a clock: its header, all of its data, and what is known of its frame. Its place
     /// is above those of all fragments that were put before. Groups that are too old are dropped.
     ///
-    /// The answer is the datagram if the fragment's group is complete with it. `Memory` comes if
-    /// a growth was refused, and leaves the joiner as it was; no other fault is answered.
+    /// Returns the datagram if the fragment's group is complete with it. Returns `Memory` if
+    /// a growth was refused, and leaves the joiner as it was; no other fault is returned.
     pub fn put(
         &mut self,
         clock: Option<Stamp>,

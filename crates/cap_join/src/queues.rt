@@ -81,7 +81,7 @@ fn soonest(groups: &LruCache<Key, Group>, in_order: bool) -> Option<Stamp>
     deadline
 }
 
-// Puts a fragment into the group of its key, and answers whether that is complete.
+// Puts a fragment into the group of its key, and returns whether that is complete.
 fn put_in(
     groups: &mut LruCache<Key, Group>,
     key: &Key,
@@ -308,7 +308,7 @@ impl Queue {
         }
     }
 
-    /// Puts a fragment into the group of its key, and answers whether that is complete. An `Err` leaves the groups as
+    /// Puts a fragment into the group of its key, and returns whether that is complete. An `Err` leaves the groups as
     /// they were.
     pub(crate) fn put_at(&mut self, key: &Key, incoming: &Incoming<'_>) -> Result<bool, AllocError>
         requires there { IsSomeAnd (entry_at key.now self.old) (λ s. s.frames < 2 ^ 63) }

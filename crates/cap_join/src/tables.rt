@@ -84,7 +84,7 @@ impl Table {
         self.groups.has_live(key, now)
     }
 
-    // Puts a fragment into the group of its key, and answers whether that is complete. An `Err` leaves the
+    // Puts a fragment into the group of its key, and returns whether that is complete. An `Err` leaves the
     // groups as they were.
     fn put_at(&mut self, key: &Key, incoming: &Incoming<'_>) -> Result<bool, AllocError>
         requires there { IsSomeAnd (entry_at key.now self.old) (λ s. s.frames < 2 ^ 63) }
@@ -134,7 +134,7 @@ impl Table {
         Ok(replaced)
     }
 
-    // Gives up the group that was opened first if more are open than may be, and answers whether it did. Its buffer
+    // Gives up the group that was opened first if more are open than may be, and returns whether it did. Its buffer
     // is kept.
     fn make_place(&mut self, spares: &mut Spares) -> bool
         ensures value { result ≡ nat_lt open_limit (length self.old) }
@@ -265,7 +265,7 @@ fn settle(
 }
 
 // Opens a group with a fragment whose key has none, or one that is too old, and drops the groups that
-// are. If as many are open as may be, the oldest is given up; answers whether it was. The group is
+// are. If as many are open as may be, the oldest is given up; returns whether it was. The group is
 // added before any is dropped, so that no memory is asked for after.
 fn open(
     groups: &mut Table,
@@ -298,7 +298,7 @@ fn open(
 
 // Puts a fragment at a clock: into the group of its key, unless that is too old, else into a new one.
 // Groups that are too old are dropped, and the oldest is given up if a new one would be too many:
-// answers whether it was. An `Err` leaves the groups as they were.
+// returns whether it was. An `Err` leaves the groups as they were.
 fn put_into(
     groups: &mut Table,
     spares: &mut Spares,
@@ -343,7 +343,7 @@ fn make_table(
 
 /// Puts a fragment at a clock: into the group of its key, unless that is too old, else into a new one.
 /// Groups that are too old are dropped, and the oldest is given up if a new one would be too many:
-/// answers whether it was. An `Err` leaves the groups as they were.
+/// returns whether it was. An `Err` leaves the groups as they were.
 pub(crate) fn put_fragment(
     table: &mut Option<Table>,
     spares: &mut Spares,

@@ -85,7 +85,7 @@ refusal_by_places xs [] = None
 refusal_by_places xs (x ∷ run) = or_else (refusal_with xs x.clock x.item)
     (refusal_by_places (with_item x.clock x.item xs) run)
 
--- The report of a run of files, in either form, and the refusal that is answered instead, are those by places.
+-- The report of a run of files, in either form, and the refusal that is returned instead, are those by places.
 pub record ReportsByPlaces (count : ℕ) (endings : ℕ → FileEnd) (run : List (Clocked Item)) : Type 0 where
   pub text : (form : Form) → report_text_in form count endings run ≡ text_by_places_in form count endings run
   pub refusal : report_refusal run ≡ refusal_by_places [] run

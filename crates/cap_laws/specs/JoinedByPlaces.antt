@@ -39,7 +39,7 @@ joined_by_places place events (x ∷ xs) =
     items_by_places place events x.clock x.item ++ joined_by_places (place + 1)
     (events_here place events x.clock x.item) xs
 
--- what is written for a run, and the refusal that is answered after it
+-- what is written for a run, and the refusal that is returned after it
 abbrev pub bytes_by_places : Order → List (Clocked Item) → List ℕ
 bytes_by_places order run = merged_bytes order (joined_by_places 0 [] run)
 
@@ -53,7 +53,7 @@ pcap_by_places order run = run_bytes order (joined_by_places 0 [] run)
 abbrev pub pcap_refusal_by_places : List (Clocked Item) → Option Refusal
 pcap_refusal_by_places run = run_refusal (joined_by_places 0 [] run)
 
--- What is written for a run of files, in either format, and the refusal that is answered, are those by places.
+-- What is written for a run of files, in either format, and the refusal that is returned, are those by places.
 pub record WritesByPlaces (order : Order) (run : List (Clocked Item)) : Type 0 where
   pub bytes : joined_bytes order run ≡ bytes_by_places order run
   pub refusal : joined_refusal run ≡ refusal_by_places run

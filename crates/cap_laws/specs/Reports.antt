@@ -34,7 +34,7 @@ refused_after xs (x ∷ run) = refusal_place_or (length xs) (refusal_here xs x.c
 abbrev pub refused_at : List (Clocked Item) → Option Place
 refused_at run = refused_after [] run
 
--- The rule of that place is the rule of the refusal that is answered instead of a report.
+-- The rule of that place is the rule of the refusal that is returned instead of a report.
 abbrev pub RuleLaw : Type 0
 RuleLaw = (run : List (Clocked Item)) → option_map (λ place. place.rule) (refused_at run)
     ≡ option_map (λ refusal. refusal.rule) (report_refusal run)

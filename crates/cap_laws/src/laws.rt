@@ -43,7 +43,7 @@ pub fn pcap_report()
     pcap_again();
 }
 
-/// What `merged_report` tells of a refusal by its place in the run is the refusal that `report` answers: one
+/// What `merged_report` tells of a refusal by its place in the run is the refusal that `report` returns: one
 /// comes if the other does, by the same rule.
 pub fn refusal_rule()
     ensures { RuleLaw }
@@ -84,7 +84,7 @@ pub fn one_class()
 {}
 
 /// In every run of files the groups of fragments are those by places, at each of its packets: so the report in either
-/// form and the refusal that is answered instead are those by places. So are, after each packet, the classes and the
+/// form and the refusal that is returned instead are those by places. So are, after each packet, the classes and the
 /// units of the packets so far, how many datagrams were joined and groups given up, and which groups are open.
 pub fn report_by_places()
     ensures report { ReportByPlaces }
@@ -98,7 +98,7 @@ pub fn worked_report()
     ensures tagged { Tagged }
 {}
 
-/// What is written of a run's datagrams, and the refusal that is answered after it, are those by places.
+/// What is written of a run's datagrams, and the refusal that is returned after it, are those by places.
 pub fn joined_by_places()
     ensures { JoinedByPlaces }
 {}

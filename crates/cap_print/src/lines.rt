@@ -11,7 +11,7 @@ use itoa::{Buffer, Integer, write_digits};
 /// The most bytes of a line.
 pub const LINE: usize = 512;
 
-// Writes a text so that it ends at `end`, and answers where it starts.
+// Writes a text so that it ends at `end`, and returns where it starts.
 #[inline(always)]
 fn write_text(text: &[u8], room: &mut [u8], end: usize) -> usize
     requires { (length text.now ≤ end) × (end ≤ length room.old) }
@@ -25,7 +25,7 @@ fn write_text(text: &[u8], room: &mut [u8], end: usize) -> usize
     start
 }
 
-// Writes some bytes in lower case hex so that they end at `end`, and answers where they start.
+// Writes some bytes in lower case hex so that they end at `end`, and returns where they start.
 #[inline(always)]
 fn write_hex(bytes: &[u8], room: &mut [u8], end: usize) -> usize
     requires { (2 * length bytes.now ≤ end) × (end ≤ length room.old) }

@@ -1,5 +1,6 @@
 -- The data of a joined datagram isn't longer than that of the longest.
-use Rattle.std.proofs.Common.{◌≡◌, ℕ, ◌≤◌, List, ◌∷◌, length, Option, Some, None, IsSome, IfSome, arith, refl, subst, sym}
+use Rattle.std.proofs.Common.{◌≡◌, ℕ, ◌≤◌, List, ◌∷◌, length, Option, Some, None, IsSome, IfSome, arith, refl}
+use Rattle.std.proofs.Common.{subst, sym}
 use Rattle.std.proofs.lemmas.List.FromFn.{length-map-range_with_len}
 use Rattle.cap_ip.specs.Header.{HeaderFields, IsPiece, IsWellFormed}
 use Rattle.cap_ip.specs.declared.headers.Fragment.{Fragment}
@@ -23,8 +24,8 @@ shaped_by (Some f) header bytes stamped is some piece whole =
     IsShaped-piece_of header bytes stamped f is (subst (λ (n : ℕ). IsPiece n f) (sym whole) piece)
 shaped_by None header bytes stamped is some piece whole = absurd (grind arith)
 
-shaped_piece : (header : HeaderFields) (bytes : List ℕ) (stamped : Stamped) → IsWellFormed header → IsSome header.fragment
-    → length bytes ≡ header.data_length → IsShapedFragment (piece_of header bytes stamped)
+shaped_piece : (header : HeaderFields) (bytes : List ℕ) (stamped : Stamped) → IsWellFormed header
+    → IsSome header.fragment → length bytes ≡ header.data_length → IsShapedFragment (piece_of header bytes stamped)
 shaped_piece header bytes stamped form some whole =
     shaped_by header.fragment header bytes stamped refl some form.piece whole
 

@@ -49,8 +49,8 @@ joined_of pieces =
     if completes pieces then option_and_then (λ h. complete_of h (joined_data pieces) (length (joined_data pieces)))
     (joined_header pieces) else None
 
--- The datagram that a packet completes, by what it is by itself, if `group` has the fragments of a fragment's group: the
--- packet is a whole datagram, or the last fragment that was missing.
+-- The datagram that a packet completes, by what it is by itself, if `group` has the fragments of a fragment's group:
+-- the packet is a whole datagram, or the last fragment that was missing.
 abbrev pub datagram_of : Look → (Piece → List Piece) → Option Complete
 datagram_of (plain c) group = None
 datagram_of (datagram header captured) group = complete_of header captured header.data_length
@@ -62,7 +62,8 @@ group_after clock events p = joined_pieces clock p (open_groups_after open_limit
 
 -- the datagram that a packet completes, which has that place in the run and that clock
 unfoldable pub completed : ℕ → List Event → Option Stamp → Meta → List ℕ → Option Complete
-completed place events clock meta frame = datagram_of (look place (taken clock meta frame)) (group_after clock events)
+completed place events clock meta frame =
+    datagram_of (look place (taken clock meta frame)) (group_after clock events)
 
 -- and the events after it, the latest first
 unfoldable pub events_after : ℕ → List Event → Option Stamp → Meta → List ℕ → List Event

@@ -18,7 +18,7 @@ use std::alloc::Global;
 
 /// Writes a file as a pcapng file (draft-ietf-opsawg-pcapng, 4) of one section in that byte order: its first
 /// interface, if one stands before the first packet, right after the section header, and each other interface
-/// in front of its first packet. Nothing of the file was passed before. `Refused` comes at a packet that has no time
+/// in front of its first packet. Nothing of the file was passed before. Returns `Refused` at a packet that has no time
 /// (rule 17, no-time), at one whose interface would be the 1,025th (rule 13, interface-limit), and if
 /// the file's packets end in a refusal: what is written is the text of the packets before it. After
 /// `Read`, `Write` or `Memory` a prefix of the text is written.
@@ -48,7 +48,7 @@ pub fn to_pcapng<R: Source, W: Sink>(
 
 /// Writes a file as a pcap file (draft-ietf-opsawg-pcap, 4 and 5) in that byte order, with the link and the
 /// snaplen of its first interface, in microseconds if each of that interface's units is a whole number of
-/// them, else in nanoseconds. Nothing of the file was passed before. `Refused` comes, in this order, at a
+/// them, else in nanoseconds. Nothing of the file was passed before. Returns `Refused`, in this order, at a
 /// packet that has no time (rule 17, no-time), has another link (18, link-mixed), has a time that isn't whole
 /// in that fraction (19, inexact) or one whose seconds are below 0 or above 4,294,967,295 (20, time-range),
 /// and if the file's packets end in a refusal: what is written is the text of the packets before it. A

@@ -23,7 +23,7 @@ pub(crate) enum Form {
     Pcap(Option<Interface>),
 }
 
-// Writes the first packet of a pcap file, after the header of its interface, or answers why it isn't written.
+// Writes the first packet of a pcap file, after the header of its interface, or returns why it isn't written.
 fn put_leading<W: Sink>(
     order: Order,
     meta: &Meta,
@@ -43,7 +43,7 @@ fn put_leading<W: Sink>(
     put_after_header(&meta.interface, order, meta, frame, writer)
 }
 
-// Writes a packet of a pcap file, which has that header if it has one, or answers why it isn't written.
+// Writes a packet of a pcap file, which has that header if it has one, or returns why it isn't written.
 fn put_headed<W: Sink>(
     first: &mut Option<Interface>,
     order: Order,
@@ -69,7 +69,7 @@ fn put_headed<W: Sink>(
     Ok(())
 }
 
-/// Writes a packet, or answers why it isn't written.
+/// Writes a packet, or returns why it isn't written.
 pub(crate) fn put_in<W: Sink>(
     form: &mut Form,
     order: Order,

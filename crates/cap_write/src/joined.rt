@@ -131,7 +131,7 @@ fn put_joined<F: PacketFeed, W: Sink>(
 /// A datagram isn't written if some of its data wasn't captured, or if it is UDP or TCP and its data doesn't have
 /// that form; nor is a frame that isn't IPv4. Interfaces are numbered by first use.
 ///
-/// `Refused` comes at a packet that has no time (rule 17, no-time), whatever it holds, at one that
+/// Returns `Refused` at a packet that has no time (rule 17, no-time), whatever it holds, at one that
 /// completes a datagram whose interface would be the 1,025th (rule 13, interface-limit), and if the run
 /// ends in a refusal: what is written is the text of the datagrams before it. After `Read`, `Write` or
 /// `Memory` a prefix of the text is written.
@@ -160,11 +160,11 @@ pub fn write_joined<F: PacketFeed, W: Sink>(
 /// datagrams that `write_joined` writes, with link 101 and no snaplen, in microseconds if each unit of the first
 /// datagram's interface is a whole number of them, else in nanoseconds.
 ///
-/// `Refused` comes at a packet that has no time (rule 17, no-time), whatever it holds, at one that completes a datagram
-/// and has a time that isn't whole in that fraction (19, inexact) or one whose seconds are below 0 or above
+/// Returns `Refused` at a packet that has no time (rule 17, no-time), whatever it holds, at one that completes a
+/// datagram and has a time that isn't whole in that fraction (19, inexact) or one whose seconds are below 0 or above
 /// 4,294,967,295 (20, time-range), and if the run ends in a refusal: what is written is the text of the datagrams
 /// before it. The header is written with the first datagram; if none comes, nothing is written, and unless the run ends
-/// in a refusal rule 21, no-interface, is answered of file 1. After `Read`, `Write` or `Memory` a prefix of the text is
+/// in a refusal rule 21, no-interface, is returned of file 1. After `Read`, `Write` or `Memory` a prefix of the text is
 /// written.
 pub fn write_joined_pcap<F: PacketFeed, W: Sink>(
     alloc: Global,

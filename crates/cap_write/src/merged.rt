@@ -17,7 +17,7 @@ use cap_source::{PacketFeed, next_packet};
 use std::alloc::Global;
 
 /// Writes the packets of a feed as a pcapng file (draft-ietf-opsawg-pcapng, 4) of one section in that byte
-/// order, each interface in front of its first packet. Interfaces are numbered by first use. `Refused` comes
+/// order, each interface in front of its first packet. Interfaces are numbered by first use. Returns `Refused`
 /// at a packet that has no time (rule 17, no-time), at one whose interface would be the 1,025th (rule 13,
 /// interface-limit), and if the feed's packets end in a refusal: what is written is the text of the
 /// packets before it. After `Read`, `Write` or `Memory` a prefix of the text is written.
@@ -43,11 +43,11 @@ pub fn write_merged<F: PacketFeed, W: Sink>(
 
 /// Writes the packets of a feed as a pcap file (draft-ietf-opsawg-pcap, 4 and 5) in that byte order, with the link and
 /// the snaplen of the first packet's interface, in microseconds if each unit of that interface is a whole number of
-/// them, else in nanoseconds. `Refused` comes, in this order, at a packet that has no time (rule 17, no-time), has
+/// them, else in nanoseconds. Returns `Refused`, in this order, at a packet that has no time (rule 17, no-time), has
 /// another link (18, link-mixed), has a time that isn't whole in that fraction (19, inexact) or one whose seconds are
 /// below 0 or above 4,294,967,295 (20, time-range), and if the feed's packets end in a refusal: what is written is the
 /// text of the packets before it. Nothing is written if the first packet has no time, or if no packet comes: then rule
-/// 21, no-interface, is answered of file 1, unless the feed ends in a refusal. After `Read`, `Write` or `Memory` a
+/// 21, no-interface, is returned of file 1, unless the feed ends in a refusal. After `Read`, `Write` or `Memory` a
 /// prefix of the text is written.
 pub fn write_merged_pcap<F: PacketFeed, W: Sink>(
     feed: &mut F,

@@ -67,7 +67,7 @@ fn put_writable<W: Sink>(writer: &mut W, order: Order, packet: &Writable<'_>) ->
     put_packet(writer, order, fields, packet.frame)
 }
 
-/// Writes a packet, or answers why it isn't written.
+/// Writes a packet, or returns why it isn't written.
 pub(crate) fn put_one<W: Sink>(
     origins: &mut Origins,
     order: Order,

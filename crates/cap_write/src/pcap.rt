@@ -69,7 +69,7 @@ fn written_time(first: &Interface, meta: &Meta) -> Result<RecordTime, Fault>
     time_of(units, fraction_of(first), meta)
 }
 
-/// Writes a packet after the header of that interface, or answers why it isn't written.
+/// Writes a packet after the header of that interface, or returns why it isn't written.
 pub(crate) fn put_after_header<W: Sink>(
     first: &Interface,
     order: Order,
@@ -147,7 +147,7 @@ pub(crate) fn no_interface(file: u32) -> Fault
     })
 }
 
-// Answers the refusal of a file that describes no interface: its own, or that it describes none.
+// Returns the refusal of a file that describes no interface: its own, or that it describes none.
 fn refuse_bare<F: PacketFeed>(feed: &mut F, file: u32) -> Result<(), Fault>
     ensures text { IsTrue (F.feed feed.old).told
         → IsBare file (F.feed feed.old).items result }
@@ -165,11 +165,11 @@ fn refuse_bare<F: PacketFeed>(feed: &mut F, file: u32) -> Result<(), Fault>
 
 /// Writes the packets of a feed as the pcap file (draft-ietf-opsawg-pcap, 4 and 5), in that byte order, of a file of
 /// that number with that first interface: with its link and its snaplen, in microseconds if each of its units is a
-/// whole number of them, else in nanoseconds. `Refused` comes, in this order, at a packet that has no time (rule 17,
+/// whole number of them, else in nanoseconds. Returns `Refused`, in this order, at a packet that has no time (rule 17,
 /// no-time), has another link (18, link-mixed), has a time that isn't whole in that fraction (19, inexact) or one whose
 /// seconds are below 0 or above 4,294,967,295 (20, time-range), and if the feed's items end in a refusal: what is
 /// written is the text of the packets before it. If there is no first interface, the feed's own refusal, or rule 21,
-/// no-interface, is answered, and nothing is written. After `Read`, `Write` or `Memory` a prefix of the text is
+/// no-interface, is returned, and nothing is written. After `Read`, `Write` or `Memory` a prefix of the text is
 /// written.
 pub(crate) fn put_pcap<F: PacketFeed, W: Sink>(
     feed: &mut F,

@@ -57,7 +57,7 @@ fn put_front<W: Sink>(writer: &mut W, order: Order, first: Option<Interface>) ->
 
 /// Writes the packets of a feed as the pcapng file (draft-ietf-opsawg-pcapng, 4), of one section in that byte order, of
 /// a file of that number: its first interface, if there is one, right after the section header, and each other
-/// interface in front of its first packet. `Refused` comes at a packet that has no time (rule 17, no-time), at one
+/// interface in front of its first packet. Returns `Refused` at a packet that has no time (rule 17, no-time), at one
 /// whose interface would be the 1,025th (rule 13, interface-limit), and if the feed's items end in a refusal: what is
 /// written is the text of the packets before it. After `Read`, `Write` or `Memory` a prefix of the text is written.
 pub(crate) fn put_pcapng<F: PacketFeed, W: Sink>(

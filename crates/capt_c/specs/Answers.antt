@@ -11,7 +11,7 @@ use Rattle.cap_bytes.specs.declared.numbers.Order.{Order}
 use Rattle.cap_bytes.specs.declared.numbers.Order.TheVariants.{Big, Little}
 use Rattle.capt_c.specs.declared.answers.Place.{Place}
 
--- the status of a call that answers that fault
+-- the status of a call that returns that fault
 abbrev pub status_of : Fault → ℕ
 status_of (Refused refusal) = 2
 status_of (Read file offset) = 3

@@ -28,13 +28,13 @@ pub record ShowsFields (meta : Meta) (p : Packet) : Type 0 where
   pub link : p.link ≡ meta.interface.link
   pub time : ShowsTime meta.units meta.interface p.seconds p.carry p.numerator p.denominator
 
--- what is answered for what is known to come next
+-- what is returned for what is known to come next
 abbrev pub head_answer : Head → Result Bool Fault
 head_answer (heads.Packet meta) = Ok true
 head_answer (heads.Refused refusal) = Err (Refused refusal)
 head_answer heads.End = Ok false
 
--- If it was known what comes next, that is what is answered: the end and a refusal, which stay known, come again and
+-- If it was known what comes next, that is what is returned: the end and a refusal, which stay known, come again and
 -- again.
 abbrev pub AgreesWithKnown : Option Head → Result Bool Fault → Type 0
 AgreesWithKnown known answer = IfSome known (λ head. answer ≡ head_answer head)
@@ -54,7 +54,7 @@ LeavesPacket old (Err (Read file offset)) p new = FeedBreaks old file offset new
 LeavesPacket old (Err Write) p new = ⊥
 LeavesPacket old (Err Memory) p new = IsTrue old.told → new.items ≡ old.items
 
--- what a call for the next packet answers and leaves
+-- what a call for the next packet returns and leaves
 abbrev pub StepsPacket : Feed → Result Bool Fault → Packet → Feed → Type 0
 StepsPacket old answer p new = AgreesWithKnown old.known answer × LeavesPacket old answer p new
 
@@ -79,6 +79,6 @@ LeavesMany old (Err (Read file offset)) count packets new = (count ≡ 0) × Fee
 LeavesMany old (Err Write) count packets new = ⊥
 LeavesMany old (Err Memory) count packets new = (count ≡ 0) × (IsTrue old.told → new.items ≡ old.items)
 
--- what a call for the next packets answers and leaves
+-- what a call for the next packets returns and leaves
 abbrev pub StepsMany : Feed → Result Bool Fault → ℕ → List Packet → Feed → Type 0
 StepsMany old answer count packets new = AgreesWithKnown old.known answer × LeavesMany old answer count packets new

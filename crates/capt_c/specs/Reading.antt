@@ -45,7 +45,7 @@ OpensCapture feed tail told bytes can_fail status (Some (helds.Capture c)) =
     (status ≡ 0) × ((feed c).known ≡ None) × ((feed c).files ≡ 1 ∷ []) × ((feed c).told ≡ told)
     × ((feed c).items ≡ file_items tail 1 bytes) × ((feed c).can_fail 1 ≡ can_fail)
 
--- What a call for the next packet answers and leaves.
+-- What a call for the next packet returns and leaves.
 abbrev pub Nexts : (CaptureReader → Feed) → Option Held → ℕ → Packet → Place → Option Held → Type 0
 Nexts feed None status p place new = (status ≡ 6) × (new ≡ None)
 Nexts feed (Some (helds.Text text)) status p place new = (status ≡ 6) × (new ≡ Some (helds.Text text))
@@ -55,7 +55,7 @@ Nexts feed (Some (helds.Capture c)) status p place new =
     × (place ≡ place_of_step answer)
     × (new ≡ Some (helds.Capture later)) × StepsPacket (feed c) answer p (feed later) × FeedKeeps (feed c) (feed later)
 
--- What a call for the next packets answers and leaves.
+-- What a call for the next packets returns and leaves.
 abbrev pub NextsMany : (CaptureReader → Feed) → Option Held → ℕ → ℕ → List Packet → Place → Option Held → Type 0
 NextsMany feed None status count packets place new = (status ≡ 6) × (new ≡ None)
 NextsMany feed (Some (helds.Text text)) status count packets place new = (status ≡ 6) × (new ≡ Some (helds.Text text))
@@ -77,7 +77,7 @@ pub record ShowsEnding (ending : Ending) (end : End) : Type 0 where
   pub format : end.is_pcapng ≡ is_pcapng_format ending.format
   pub was_cut : end.was_cut ≡ ending.was_cut
 
--- What is known of a feed of one file if that is answered for what comes next: how the file ended, if that is the end.
+-- What is known of a feed of one file if that is returned for what comes next: how the file ended, if that is the end.
 abbrev pub EndTold : Feed → Result Head Fault → ℕ → End → Type 0
 EndTold feed (Ok (heads.Packet meta)) status end = status ≡ 6
 EndTold feed (Ok (heads.Refused refusal)) status end = status ≡ 6
@@ -85,7 +85,7 @@ EndTold feed (Ok heads.End) status end =
     (status ≡ 0) × ((file : ℕ) → feed.files ≡ file ∷ [] → ShowsEnding (feed.endings file).ending end)
 EndTold feed (Err fault) status end = status ≡ 6
 
--- What a call answers and leaves that tells how a capture ended.
+-- What a call returns and leaves that tells how a capture ended.
 abbrev pub TellsEnd : (CaptureReader → Feed) → Option Held → ℕ → End → Option Held → Type 0
 TellsEnd feed None status end new = (status ≡ 6) × (new ≡ None)
 TellsEnd feed (Some (helds.Text text)) status end new = (status ≡ 6) × (new ≡ Some (helds.Text text))

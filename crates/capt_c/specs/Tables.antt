@@ -46,7 +46,7 @@ abbrev pub place_of_step : Result Step Fault → Place
 place_of_step (Ok step) = nowhere
 place_of_step (Err fault) = place_of_fault fault
 
--- What a call that takes the next packet answers and leaves.
+-- What a call that takes the next packet returns and leaves.
 abbrev pub StepsTable : Option Held → ℕ → Place → Option Held → Type 0
 StepsTable None status place new = (status ≡ 6) × (new ≡ None)
 StepsTable (Some (helds.Capture c)) status place new = (status ≡ 6) × (new ≡ Some (helds.Capture c))
@@ -55,7 +55,7 @@ StepsTable (Some (helds.Table t)) status place new =
     (answer : Result Step Fault) × (status ≡ status_of_step answer) × (place ≡ place_of_step answer)
     × LeavesTable new (λ later. TableSteps (table_of t.value) answer later × StepKeeps (table_of t.value) later)
 
--- What a call answers that shows the report over the packets that were taken.
+-- What a call returns that shows the report over the packets that were taken.
 abbrev pub WritesTable : Option Held → ℕ → ℕ → Place → Option Held → Type 0
 WritesTable None len status place text = status ≡ 6
 WritesTable (Some (helds.Capture c)) len status place text = status ≡ 6

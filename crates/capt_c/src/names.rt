@@ -45,7 +45,7 @@ fn rule_of(number: u32) -> Option<Rule>
     }
 }
 
-// Puts as much of a text into a buffer as it has room for, and answers how long the text is.
+// Puts as much of a text into a buffer as it has room for, and returns how long the text is.
 fn put(text: &[u8], buffer: &mut [u8]) -> usize
     ensures { PutsText text.now result (length buffer.old) buffer.new }
 {
@@ -56,7 +56,7 @@ fn put(text: &[u8], buffer: &mut [u8]) -> usize
     text.len()
 }
 
-/// Puts as much of a rule's name into a buffer as it has room for, and answers how long the name is: 0 if there is no
+/// Puts as much of a rule's name into a buffer as it has room for, and returns how long the name is: 0 if there is no
 /// such rule.
 #[unsafe(no_mangle)]
 pub extern "C" fn capt_rule_name(rule: u32, buffer: &mut [u8]) -> usize
@@ -97,7 +97,7 @@ fn fault_of(status: u32, place: &Place) -> Option<Fault>
 }
 
 /// Puts as much of the line into a buffer as it has room for that `capt` prints of the fault that a status and a place
-/// tell, with its end, and answers how long the line is: 0 if the status tells no fault.
+/// tell, with its end, and returns how long the line is: 0 if the status tells no fault.
 #[unsafe(no_mangle)]
 pub extern "C" fn capt_error_text(status: u32, place: &Place, buffer: &mut [u8]) -> usize
     ensures text { (fault : Fault) → status_of fault ≡ status → place_of_fault fault ≡ place.now
@@ -110,7 +110,7 @@ pub extern "C" fn capt_error_text(status: u32, place: &Place, buffer: &mut [u8])
     }
 }
 
-/// Puts as much of the version into a buffer as it has room for, and answers how long it is.
+/// Puts as much of the version into a buffer as it has room for, and returns how long it is.
 #[unsafe(no_mangle)]
 pub extern "C" fn capt_version(buffer: &mut [u8]) -> usize
     ensures { PutsText (codes "1.0.0") result (length buffer.old) buffer.new }

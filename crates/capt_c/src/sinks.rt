@@ -57,7 +57,7 @@ impl Sink for Grown {
     }
 }
 
-// Appends the bytes, and answers how many they are.
+// Appends the bytes, and returns how many they are.
 fn append(vector: &mut Vec<u8>, bytes: &[u8]) -> Result<usize, Broken>
     ensures count { IfOk result (λ n. n ≡ length bytes.now) }
     ensures items { IfOk result (λ n. vector.new.items ≡ vector.old.items ++ take n bytes.now) }

@@ -31,7 +31,7 @@ FailsBy size Lacks old Memory new = WindowShows old new × (old.room < size) × 
 FailsBy size Lacks old Write new = ⊥
 FailsBy size Lacks old (Refused refusal) new = ⊥
 
--- what a look for a piece answers that is seen in this way
+-- what a look for a piece returns that is seen in this way
 abbrev pub LooksFor : {P : Type 0} → (P → Type 0) → Bool → Option Rule → ℕ → Type 0 → Tail → WindowState
     → Result (Result P Stop) Fault → WindowState → Type 0
 LooksFor Sees inside fault size Lacks tail old (Ok (Ok piece)) new = Sees piece

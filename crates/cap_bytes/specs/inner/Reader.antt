@@ -134,7 +134,7 @@ pub record GivesStop {K : Type 0} (inside : Bool) (fault : Option Rule) (stop : 
   pub again : IfSome old.stop (λ first. (stop ≡ first) × (new ≡ old))
   pub first : IfNone old.stop (ReaderStops inside fault stop old new)
 
--- What a call for a piece answers: a piece that comes in this way, what ended the pieces, or a fault, that of a growth
+-- What a call for a piece returns: a piece that comes in this way, what ended the pieces, or a fault, that of a growth
 -- to `size` bytes only if there is less room than that.
 abbrev pub GivesNextPiece : {K P : Type 0} → (P → Type 0) → Bool → Option Rule → ℕ → Type 0 → ReaderState K
     → Result (Option P) Fault → ReaderState K → Type 0

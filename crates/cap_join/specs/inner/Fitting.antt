@@ -1,4 +1,4 @@
--- What every datagram keeps that a joiner answers, whatever it stands for.
+-- What every datagram keeps that a joiner returns, whatever it stands for.
 use Rattle.std.specs.Prelude.{◌*◌, ◌≤◌, ◌^◌, length, ⊤}
 use Rattle.cap_join.specs.declared.datagrams.Datagram.{Datagram}
 use Rattle.cap_join.specs.declared.datagrams.Put.{Put}

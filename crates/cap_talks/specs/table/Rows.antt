@@ -57,7 +57,7 @@ are_all_in_order talks = list_all (λ talk. is_in_order talk.1) talks
 abbrev pub is_refused : ℕ → List Talk → TalkKey → Bool
 is_refused limit rows key = not (is_some (lookup (same_talk key) rows)) && not (nat_lt (length rows) limit)
 
--- what answers that
+-- what returns that
 abbrev pub is_limit : Result (Unit {0}) TalksFault → Bool
 is_limit (Ok _) = false
 is_limit (Err Limit) = true

@@ -1,4 +1,4 @@
--- What reading a file whole, to count its packets, answers.
+-- What reading a file whole, to count its packets, returns.
 use Rattle.std.specs.Prelude.{◌≡◌, ℕ, ◌+◌, ◌-◌, List, [], ◌∷◌, take, Vec, Some, None, Result, Ok, Err, ⊤}
 use Rattle.std.specs.declared.alloc.Global.{Global}
 use Rattle.cap_bytes.specs.declared.faults.Fault.{Fault}
@@ -11,7 +11,7 @@ use Rattle.cap_talks.specs.declared.counts.counts.Counts.{Counts}
 use Rattle.cap_talks.specs.declared.counts.files.Counted.{Counted}
 use Rattle.cap_talks.specs.talks.InfoText.{first_refusal}
 
--- all packets that a feed gave are counted, or what refused it is answered
+-- all packets that a feed gave are counted, or what refused it is returned
 abbrev pub CountsAll : Feed → Result Counts Fault → Feed → Type 0
 CountsAll old (Ok counts) new =
     (refusal_of old.items ≡ None) × (counts ≡ counted (packets_of old.items))

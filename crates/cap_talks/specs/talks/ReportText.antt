@@ -40,6 +40,6 @@ report_text_in form count endings run = text_of_in form count (Some endings) (ta
 abbrev pub report_text : ℕ → (ℕ → FileEnd) → List (Clocked Item) → List ℕ
 report_text count endings run = report_text_in Text count endings run
 
--- the refusal that is answered instead, if there is one
+-- the refusal that is returned instead, if there is one
 abbrev pub report_refusal : List (Clocked Item) → Option Refusal
 report_refusal run = refusal_after [] run

@@ -5,7 +5,7 @@ use Rattle.cap_bytes.specs.declared.faults.Fault.{Fault}
 use Rattle.cap_bytes.specs.declared.faults.Fault.TheVariants.{Refused, Read, Write, Memory}
 use Rattle.cap_bytes.specs.declared.faults.Refusal.{Refusal}
 
--- The text is written if nothing is refused. A refusal is answered, and nothing is written then, nor if a read
+-- The text is written if nothing is refused. A refusal is returned, and nothing is written then, nor if a read
 -- failed or a growth was refused. If the writer failed, a prefix of the text is written.
 abbrev pub Tells : List ℕ → Option Refusal → List ℕ → Result Unit Fault → List ℕ → Type 0
 Tells text refusal old (Ok _) new = (refusal ≡ None) × (new ≡ old ++ text)

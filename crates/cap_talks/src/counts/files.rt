@@ -36,7 +36,7 @@ fn put_each<W: Sink>(writer: &mut W, form: Form, counted: &[Counted]) -> Result<
 }
 
 /// Writes a line that says how many files there are, at most 32, and the lines of these, which have the numbers from 1
-/// on, in a form. Answers `Fault::Write`, and no other fault, if the writer failed: a prefix of the lines is written
+/// on, in a form. Returns `Fault::Write`, and no other fault, if the writer failed: a prefix of the lines is written
 /// then.
 pub fn put_files<W: Sink>(writer: &mut W, form: Form, counted: &[Counted]) -> Result<(), Fault>
     requires most { length counted.now ≤ 32 }

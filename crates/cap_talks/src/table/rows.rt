@@ -148,7 +148,7 @@ fn take_both(row: &mut TalkRow, first: Option<TimedFrame>, last: Option<TimedFra
     take_last(&mut row.last, &mut row.last_place, &last);
 }
 
-// Moves the greatest time so far to that of a frame, if that is later than one that is there. Answers whether it is.
+// Moves the greatest time so far to that of a frame, if that is later than one that is there. Returns whether it is.
 #[inline(always)]
 fn goes_on(last: &mut Option<Stamp>, place: &mut u64, frame: &Option<TimedFrame>) -> bool
     ensures later { result ≡ is_after frame.now last.old }

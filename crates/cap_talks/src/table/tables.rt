@@ -96,11 +96,11 @@ impl<F: PacketFeed> Table<F> {
         }
     }
 
-    /// Takes the packet that comes next, or answers `Done` if none is left, now and at each later call.
+    /// Takes the packet that comes next, or returns `Done` if none is left, now and at each later call.
     ///
-    /// `Refused` comes exactly if what comes next is a refusal, or a packet that would open the 1,048,577th
-    /// conversation (rule 16, talk-limit); each later call answers it again. `Read` comes if a device failed, and
-    /// `Memory` if a growth was refused. A step that answers a fault has taken nothing: the table is as it was, and so
+    /// Returns `Refused` exactly if what comes next is a refusal, or a packet that would open the 1,048,577th
+    /// conversation (rule 16, talk-limit); each later call returns it again. Returns `Read` if a device failed, and
+    /// `Memory` if a growth was refused. A step that returns a fault has taken nothing: the table is as it was, and so
     /// are the packets to come, unless it was `Read`.
     pub fn step(&mut self) -> Result<Step, Fault>
         ensures step { TableSteps (table_of self.old) result (table_of self.new) }
@@ -124,7 +124,7 @@ impl<F: PacketFeed> Table<F> {
         }
     }
 
-    /// Writes the report over the packets that were taken. Until `step` has answered `Done` it doesn't say how the
+    /// Writes the report over the packets that were taken. Until `step` has returned `Done` it doesn't say how the
     /// files end: a file of which no packet was taken has the format `-`, the blocks that were skipped are those
     /// before the last packet that was taken, and no line says `cut`. It takes no memory, and can be called at any
     /// time. After `Write` a prefix of the report is written.

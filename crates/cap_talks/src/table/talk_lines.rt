@@ -233,7 +233,7 @@ fn put_each<W: Sink>(writer: &mut W, form: Form, talks: &Talks) -> Result<(), Fa
 }
 
 /// Writes a line that says how many conversations there are, and a line for each, in the order of their first
-/// units, in a form. Answers `Fault::Write`, and no other fault, if the writer failed: a prefix of the lines is
+/// units, in a form. Returns `Fault::Write`, and no other fault, if the writer failed: a prefix of the lines is
 /// written then.
 pub fn put_talks<W: Sink>(writer: &mut W, form: Form, talks: &Talks) -> Result<(), Fault>
     ensures text { IsTrue (W.tells_held writer.old)

@@ -65,7 +65,7 @@ impl Talks {
     /// that completed them. All frames of its rows and the unit's are fewer than 2^64, and their bytes fewer
     /// than 2^128. The unit's first frame isn't later than its last one, and is the same if it came in one.
     ///
-    /// `Limit` comes exactly if the unit's conversation is a new one and there are 1,048,576 already, `Memory`
+    /// Returns `Limit` exactly if the unit's conversation is a new one and there are 1,048,576 already, `Memory`
     /// if a growth was refused. Both leave the table as it was.
     #[inline(always)]
     pub fn add(&mut self, unit: &CountedUnit) -> Result<(), TalksFault>

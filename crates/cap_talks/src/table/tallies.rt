@@ -244,8 +244,8 @@ impl Tally {
         Ok(())
     }
 
-    // Takes a fragment, while no datagram waits, and counts the datagram that it completes, if it does. It isn't inlined, so
-    // that what it returns takes no room where whole datagrams are taken.
+    // Takes a fragment, while no datagram waits, and counts the datagram that it completes, if it does. It isn't
+    // inlined, so that what it returns takes no room where whole datagrams are taken.
     #[inline(never)]
     fn take_fragment(
         &mut self,
@@ -278,8 +278,8 @@ impl Tally {
 
     /// Takes the packet that comes next, which has that time.
     ///
-    /// `Limit` comes exactly if it completes a unit of a new conversation and there are 1,048,576 already, `Memory` if
-    /// a growth was refused; a packet that is no datagram and no fragment needs none. Both leave the counts as they
+    /// Returns `Limit` exactly if it completes a unit of a new conversation and there are 1,048,576 already, `Memory`
+    /// if a growth was refused; a packet that is no datagram and no fragment needs none. Both leave the counts as they
     /// were, and the same call may be made again; a datagram that the packet joined is kept for it.
     #[inline(always)]
     pub(crate) fn take(

@@ -73,7 +73,7 @@ fn count_files<R: Source>(alloc: Global, sources: Vec<R>, tail: Tail) -> Result<
 
 /// Writes a line that says how many files there are, and a line for each of 1 to 32 capture files, each of either
 /// format: `file I FORMAT packets P bytes B truncated Q skipped S first T last T`. Each file is read by itself, in
-/// order. If some are refused, the refusal of the first is answered and nothing is written; nor is anything if a read
+/// order. If some are refused, the refusal of the first is returned and nothing is written; nor is anything if a read
 /// fails or a growth is refused. After `Write` a prefix of the lines is written.
 pub fn file_lines<R: Source, W: Sink>(
     alloc: Global,

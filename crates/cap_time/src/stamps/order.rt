@@ -45,7 +45,7 @@ fn any_cmp(a: Stamp, b: Stamp) -> Ordering
 }
 
 impl Stamp {
-    /// Moves to another time, if that is later, and answers how this one compared with it before.
+    /// Moves to another time, if that is later, and returns how this one compared with it before.
     // Of stamps that count alike only the units are written, as they alone differ.
     #[inline(always)]
     pub fn reach(&mut self, time: &Stamp) -> Ordering

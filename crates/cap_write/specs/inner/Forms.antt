@@ -58,7 +58,7 @@ abbrev pub IsFew : FormState → Type 0
 IsFew (numbered origins) = length origins ≤ 1024
 IsFew (headed first) = ⊤
 
--- What is answered at the end: a pcap file without a header is refused.
+-- What is returned at the end: a pcap file without a header is refused.
 abbrev pub EndsForm : FormState → Result (Unit {0}) Fault → Type 0
 EndsForm (numbered origins) result = result ≡ Ok tt
 EndsForm (headed None) result = result ≡ Err (Refused (bare_refusal 1 []))

@@ -1,4 +1,4 @@
--- What a call for the number of a packet's interface answers.
+-- What a call for the number of a packet's interface returns.
 use Rattle.std.specs.Prelude.{◌≡◌, ℕ, List, ⊤, Some, None, Result, Ok, Err}
 use Rattle.cap_bytes.specs.declared.faults.Fault.{Fault}
 use Rattle.cap_bytes.specs.declared.faults.Fault.TheVariants.{Refused, Read, Write, Memory}

@@ -1,4 +1,4 @@
--- What one step of a table answers, and what it leaves.
+-- What one step of a table returns, and what it leaves.
 use Rattle.std.specs.Prelude.{◌≡◌, ℕ, List, [], ◌∷◌, ◌+◌, ◌<◌, ◌≤◌, Bool, true, false, IsTrue, Option, Some, None}
 use Rattle.std.specs.Prelude.{IfSome, ◌⊎◌, Result, Ok, Err, drop, length, ⊤, if◌then◌else◌}
 use Rattle.cap_bytes.specs.declared.faults.Fault.{Fault}
@@ -137,7 +137,7 @@ TableSteps old (Err (Read file offset)) new = TableFails file offset old new
 TableSteps old (Err Write) new = ⊥
 TableSteps old (Err Memory) new = WaitsAgain old new
 
--- At the end, and at a refusal, the same is answered from then on.
+-- At the end, and at a refusal, the same is returned from then on.
 abbrev pub AnswersAgain : Option Head → Result Step Fault → Type 0
 AnswersAgain None result = ⊤
 AnswersAgain (Some (heads.Packet meta)) result = ⊤

@@ -105,19 +105,19 @@ with_group c n counts = with_frames c n (record counts { unjoined = counts.unjoi
 abbrev pub counted_one : Class → ℕ
 counted_one c = if is_class class.Counted c then 1 else 0
 
--- If it is answered that a packet was counted, the tally stands for it too; else a datagram waits.
+-- If it is returned that a packet was counted, the tally stands for it too; else a datagram waits.
 abbrev pub Looks : TallyState → Taken → Bool → TallyState → Type 0
 Looks old x true new = (xs : List Taken) → TallyStands old xs (Some x) → TallyStands new xs (Some x)
 Looks old x false new =
     (xs : List Taken) → TallyStands old xs (Some x) → (is_limit_at xs x ≡ false)
     × ((next : Option Taken) → TallyStands new (x ∷ xs) next)
 
--- a datagram waits, if that is answered
+-- a datagram waits, if that is returned
 abbrev pub WaitsIf : Option Datagram → Bool → Type 0
 WaitsIf None waits = waits ≡ false
 WaitsIf (Some d) waits = waits ≡ true
 
--- What a call for one packet more answers: `Limit` exactly if the packet's conversation would be one too many.
+-- What a call for one packet more returns: `Limit` exactly if the packet's conversation would be one too many.
 abbrev pub LimitBy : Result (Unit {0}) TalksFault → Bool → Type 0
 LimitBy (Ok _) limit = limit ≡ false
 LimitBy (Err faults.Limit) limit = limit ≡ true
