@@ -11,3 +11,5 @@ pub mod Parts
 pub mod Reading
 pub mod Spelling
 pub mod Splitting
+pub mod Whole
+pub mod More

@@ -12,7 +12,8 @@ use cap_bytes::{Fault, Rule, Source, Window, u16_at, u32_at};
 // How many bytes the total length takes after the body.
 const TRAILER_SIZE: usize = 4;
 
-/// What a block is refused by that is there whole.
+/// What a block is refused by that stands whole at the front of some bytes, by its header: its total length again after
+/// its body, and of a section header the version. draft-ietf-opsawg-pcapng, 3.1 and 4.1.
 #[inline(always)]
 pub fn body_rule(block: Block, bytes: &[u8]) -> Option<Rule>
     requires header { IsHeader block block.offset bytes.now }

@@ -78,7 +78,7 @@ fn order_of(section: Option<Order>, bytes: &[u8]) -> Option<Order>
 /// bytes tell it. If there is none, the first rule that they break; `Rule::Cut` if they are too
 /// few. The order is that of the section that is being read, if one is.
 #[inline(always)]
-pub fn header_of(section: Option<Order>, offset: u64, bytes: &[u8]) -> Result<Block, Rule>
+pub fn find_block_header(section: Option<Order>, offset: u64, bytes: &[u8]) -> Result<Block, Rule>
     requires { offset ≤ 2 ^ 40 }
     ensures { ParsesBlockHeader section offset bytes.now result }
 {
@@ -108,9 +108,9 @@ pub fn header_of(section: Option<Order>, offset: u64, bytes: &[u8]) -> Result<Bl
 }
 
 /// The enhanced packet block (draft-ietf-opsawg-pcapng, 4.3) that stands at the front of some bytes, which begin at
-/// `offset`, as far as its first 12 bytes tell it, in that order, which is that of the section: what `header_of`
-/// answers then, with no table of kinds on the way of a packet. `None` says nothing: the block is another one, or
-/// breaks a rule.
+/// `offset`, as far as its first 12 bytes tell it, in that order, which is that of the section: what
+/// `find_block_header` returns then, with no table of kinds on the way of a packet. `None` says nothing: the block is
+/// another one, or breaks a rule.
 #[inline(always)]
 pub fn enhanced_at(order: Order, offset: u64, bytes: &[u8]) -> Option<Block>
     requires head { 12 ≤ length bytes.now }
@@ -156,7 +156,7 @@ pub fn look_at_header<R: Source>(
     if is_end(section, window.bytes()) {
         return Ok(Err(Stop::End));
     }
-    match header_of(section, offset, window.bytes()) {
+    match find_block_header(section, offset, window.bytes()) {
         Ok(block) => Ok(Ok(block)),
         Err(rule) => Ok(Err(Stop::by(section.is_some(), tail, Refusal { file, offset, rule }))),
     }

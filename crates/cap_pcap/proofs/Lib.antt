@@ -6,3 +6,4 @@ pub mod Reading
 pub mod Spelling
 pub mod Splitting
 pub mod Writing
+pub mod More

@@ -1,3 +1,4 @@
+pub mod Finding
 pub mod Laws
 pub mod Parsing
 pub mod Reader

@@ -67,7 +67,7 @@ fn spelling_of(bytes: &[u8]) -> Option<(Order, Unit)>
 /// The header that stands at the front of some bytes, which begin at `offset`. If there is none,
 /// the first rule that is broken; `Rule::Cut` if they are too few.
 #[tactic(auto, unfolding(crate::specs::Split::pcap_header_fault, crate::specs::Split::header_at))]
-pub fn header_of(offset: u64, bytes: &[u8]) -> Result<PcapHeader, Rule>
+pub fn find_header(offset: u64, bytes: &[u8]) -> Result<PcapHeader, Rule>
     requires { offset ≤ 2 ^ 40 }
     ensures parses { ParsesPcapHeader offset bytes.now result }
 {
@@ -106,7 +106,7 @@ pub fn look_for_header<R: Source>(
     let file = window.file();
     let offset = window.offset();
     window.need(HEADER_SIZE)?;
-    match header_of(offset, window.bytes()) {
+    match find_header(offset, window.bytes()) {
         Ok(header) => Ok(Ok(header)),
         Err(rule) => Ok(Err(Refusal { file, offset, rule })),
     }

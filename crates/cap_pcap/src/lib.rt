@@ -6,6 +6,6 @@ pub mod laws;
 mod readers;
 mod records;
 
-pub use crate::headers::{PcapHeader, put_header};
+pub use crate::headers::{PcapHeader, find_header, put_header};
 pub use crate::readers::PcapReader;
-pub use crate::records::{Record, RecordTime, put_record};
+pub use crate::records::{Record, RecordTime, find_record, put_record};

@@ -6,6 +6,7 @@ ghost use Rattle.cap_bytes.specs.inner.Reach.{Reaches, size_found};
 ghost use Rattle.cap_bytes.specs.inner.Window.{WindowKeeps, WindowPasses, coming, position, read_to};
 ghost use Rattle.cap_bytes.specs.declared.faults.Tail.{Tail};
 ghost use Rattle.cap_pcap.specs.Grammar.{head_bytes, record_bytes};
+ghost use Rattle.cap_pcap.specs.inner.Finding.{FindsRecord};
 ghost use Rattle.cap_pcap.specs.inner.Parsing.{Measures, LooksForRecord, SeesRecord};
 ghost use Rattle.cap_pcap.specs.inner.Reader.{record_size};
 ghost use Rattle.cap_pcap.specs.Split.{record_at, captured_at};
@@ -90,6 +91,23 @@ fn record_of(header: PcapHeader, offset: u64, bytes: &[u8]) -> Record
         Order::Little => record_in(Order::Little, header.unit, offset, bytes),
         Order::Big => record_in(Order::Big, header.unit, offset, bytes),
     }
+}
+
+/// The record that stands whole at the front of some bytes, which begin at `offset`. If there is none, the first rule
+/// that is broken; `Rule::Cut` if they are too few. draft-ietf-opsawg-pcap, 5.
+#[tactic(auto, unfolding(crate::specs::Split::record_fault))]
+pub fn find_record(header: PcapHeader, offset: u64, bytes: &[u8]) -> Result<Record, Rule>
+    requires { offset ≤ 2 ^ 40 }
+    ensures { FindsRecord header offset bytes.now result }
+{
+    if bytes.len() < HEAD_SIZE {
+        return Err(Rule::Cut);
+    }
+    let size = measure(header.order, offset, bytes)?;
+    if size > bytes.len() {
+        return Err(Rule::Cut);
+    }
+    Ok(record_of(header, offset, bytes))
 }
 
 // Passes the first bytes that a window shows, if it shows a whole record after them.

@@ -16,3 +16,9 @@ pub mod Resolutions
 pub mod Saying
 pub mod Showing
 pub mod Written
+pub mod FedStops
+pub mod FedRecords
+pub mod FedSteps
+pub mod FedBlocks
+pub mod FedBodies
+pub mod FedBlockSteps

@@ -3,6 +3,7 @@
 
 mod captures;
 mod contents;
+mod fed;
 mod feeds;
 mod interfaces;
 mod known;

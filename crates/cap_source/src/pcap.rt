@@ -48,8 +48,8 @@ fn ending_of_pcap(was_cut: bool) -> FileEnd
     }
 }
 
-// What a record tells of its packet.
-fn meta_of_record(file: u32, header: PcapHeader, given: Record) -> Meta
+/// What a record tells of its packet.
+pub fn meta_of_record(file: u32, header: PcapHeader, given: Record) -> Meta
     ensures { result ≡ meta_of file (interface_of header) given }
 {
     Meta {

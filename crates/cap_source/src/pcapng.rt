@@ -53,8 +53,8 @@ fn read_content<R: Source>(
     }
 }
 
-// What a block tells of its packet.
-fn meta_of_packet(file: u32, block: Block, reached: &Reached, packet: Packet) -> Meta
+/// What a block tells of its packet.
+pub fn meta_of_packet(file: u32, block: Block, reached: &Reached, packet: Packet) -> Meta
     requires { reached.now.base < 2 ^ 63 }
     ensures { result ≡ meta_in file (progress_of reached.now) block packet }
 {

@@ -9,7 +9,7 @@ returns-then-is_end-clause-answer g c = grind (arith, SeesStop-none)
 
 pub returns-in-Ok-clause-answer : goal.returns-in-Ok-clause-answer
 returns-in-Ok-clause-answer g c =
-    let e = rw (c.in-Ok.is, c.bytes-2.ensures, c.offset-offset.ensures.value) at c.header_of.ensures in
+    let e = rw (c.in-Ok.is, c.bytes-2.ensures, c.offset-offset.ensures.value) at c.find_block_header.ensures in
     SeesHeader-parsed c.in_ok-need.field-0 c.args.section c.args.window.now c.need.new.self c.in-Ok.block
     c.in_ok-need.ensures.answer
     c.in_ok-need.ensures.keeps e.0 e.1

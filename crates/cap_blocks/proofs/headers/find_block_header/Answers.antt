@@ -2,7 +2,7 @@ use Rattle.std.proofs.Common.{arith}
 use Rattle.cap_blocks.specs.Split.{block_at}
 use Rattle.cap_blocks.proofs.Faults.{header_fault-fields, fields_fault-short, fields_fault-unordered}
 use Rattle.cap_blocks.proofs.Faults.{fields_fault-length, fields_fault-limit, fields_fault-fits}
-use Rattle.cap_blocks.proofs.headers.header_of.Goals as goal
+use Rattle.cap_blocks.proofs.headers.find_block_header.Goals as goal
 
 pub returns-then-bytes-lt-FRAME_SIZE : goal.returns-then-bytes-lt-FRAME_SIZE
 returns-then-bytes-lt-FRAME_SIZE c = grind (arith, header_fault-fields, fields_fault-short)

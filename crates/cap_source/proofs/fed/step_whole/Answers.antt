@@ -1,0 +1,56 @@
+use Rattle.std.proofs.Common.{Some, sym, ◌∙◌}
+use Rattle.cap_blocks.proofs.Looking.{IsHeader-parsed}
+use Rattle.cap_blocks.proofs.Whole.{fault-cut, fault-whole}
+use Rattle.cap_bytes.specs.declared.faults.Rule.TheVariants.{Cut}
+use Rattle.cap_source.proofs.FedStops.{broken-keeps, broken-sound}
+use Rattle.cap_source.proofs.FedBlockSteps.{block-breaks, header-facts, taken}
+use Rattle.cap_source.specs.inner.FedSteps.{course_of}
+use Rattle.cap_source.proofs.fed.step_whole.Goals as goal
+
+pub returns-then-bytes-block-clause-step : goal.returns-then-bytes-block-clause-step
+returns-then-bytes-block-clause-step c =
+    block-breaks (course_of c.args.course.now) c.args.section c.args.bytes.now c.requires.stage Cut
+    c.break_off.result (course_of c.break_off.new.course)
+    (fault-cut c.args.section c.args.course.now.offset c.args.bytes.now c.args.block c.requires.header
+    c.if-bytes-block.true)
+    (rw c.is_some-inside.ensures at c.break_off.ensures)
+
+pub body_rule-requires-clause-header : goal.body_rule-requires-clause-header
+body_rule-requires-clause-header c =
+    IsHeader-parsed c.args.section c.args.course.now.offset c.args.bytes.now c.args.block c.requires.header
+
+pub take_block-requires-clause-begins : goal.take_block-requires-clause-begins
+take_block-requires-clause-begins c =
+    (header-facts c.args.section c.args.course.now.offset c.args.bytes.now c.args.block c.requires.header).0
+
+pub take_block-requires-clause-limit : goal.take_block-requires-clause-limit
+take_block-requires-clause-limit c =
+    (header-facts c.args.section c.args.course.now.offset c.args.bytes.now c.args.block c.requires.header).1
+
+pub take_block-requires-clause-allowed : goal.take_block-requires-clause-allowed
+take_block-requires-clause-allowed c =
+    (header-facts c.args.section c.args.course.now.offset c.args.bytes.now c.args.block c.requires.header).2
+
+pub returns-in-Some-clause-step : goal.returns-in-Some-clause-step
+returns-in-Some-clause-step c =
+    block-breaks (course_of c.args.course.now) c.args.section c.args.bytes.now c.requires.stage c.in-Some.rule
+    c.break_off-in-Some.result (course_of c.break_off-in-Some.new.course)
+    (fault-whole c.args.section c.args.course.now.offset c.args.bytes.now c.args.block (Some c.in-Some.rule)
+    c.requires.header (sym c.body_rule.ensures ∙ c.in-Some.is))
+    (rw c.is_some-inside.ensures at c.break_off-in-Some.ensures)
+
+pub returns-in-Some-clause-keeps : goal.returns-in-Some-clause-keeps
+returns-in-Some-clause-keeps c = broken-keeps _ _ _ _ _ _ c.break_off-in-Some.ensures
+
+pub returns-in-Some-clause-sound : goal.returns-in-Some-clause-sound
+returns-in-Some-clause-sound c = broken-sound _ _ _ _ _ _ c.requires.sound c.break_off-in-Some.ensures
+
+pub returns-in-None-clause-step : goal.returns-in-None-clause-step
+returns-in-None-clause-step c =
+    taken (course_of c.args.course.now) c.args.section c.args.bytes.now c.requires.stage c.args.block c.requires.header
+    c.if-bytes-block.false (sym c.body_rule.ensures ∙ c.in-None.is) c.take_block.result
+    (course_of c.take_block.new.course) c.take_block.ensures.step
+
+pub take_block-requires-clause-least : goal.take_block-requires-clause-least
+take_block-requires-clause-least c =
+    (header-facts c.args.section c.args.course.now.offset c.args.bytes.now c.args.block c.requires.header).3

@@ -1,0 +1,166 @@
+-- What a look at the next bytes of a capture that is fed returns, and leaves.
+use Rattle.std.specs.Prelude.{◌≡◌, ◌+◌, ◌≤◌, ◌<◌, ◌^◌, ℕ, Bool, true, false, List, [], ◌∷◌, ◌++◌, length, take, drop}
+use Rattle.std.specs.Prelude.{Result, Ok, Err, ⊤, Some, not, ◌&&◌}
+use Rattle.cap_blocks.specs.Split.{body_in}
+use Rattle.cap_blocks.specs.declared.blocks.Block.{Block}
+use Rattle.cap_bytes.specs.Items.{stop_where}
+use Rattle.cap_bytes.specs.declared.faults.Fault.{Fault}
+use Rattle.cap_bytes.specs.declared.faults.Fault.TheVariants.{Refused, Read, Write, Memory}
+use Rattle.cap_bytes.specs.declared.faults.Rule.{Rule}
+use Rattle.cap_bytes.specs.declared.faults.Rule.TheVariants as rules
+use Rattle.cap_bytes.specs.declared.stops.Stop.{Stop}
+use Rattle.cap_bytes.specs.declared.stops.Stop.TheVariants as stops
+use Rattle.cap_source.specs.Fed.{CourseState, MayFollow, items_after}
+use Rattle.cap_source.specs.Feed.{Item, packet, refused}
+use Rattle.cap_source.specs.Contents.{content_in}
+use Rattle.cap_source.specs.Items.{Progress, after, meta_in}
+use Rattle.cap_source.specs.declared.contents.Content.{Content}
+use Rattle.cap_source.specs.declared.contents.Content.TheVariants as contents
+use Rattle.cap_source.specs.declared.contents.Packet.{Packet}
+use Rattle.cap_source.specs.declared.fed.Course.{Course}
+use Rattle.cap_source.specs.declared.fed.FedStep.{FedStep}
+use Rattle.cap_source.specs.declared.fed.Stage.{Stage}
+use Rattle.cap_source.specs.declared.fed.Stage.TheVariants.{Start, Records, Blocks, Skipping, Stopped}
+use Rattle.cap_source.specs.declared.fed.FedStep.TheVariants as steps
+use Rattle.cap_source.specs.inner.Reached.{counted_blocks, progress_of}
+
+abbrev pub course_of : Course → CourseState
+course_of c =
+    record {
+      file = c.file;
+      tail = c.tail;
+      ended = c.ended;
+      offset = c.offset;
+      stage = c.stage;
+      progress = progress_of c.reached;
+    }
+
+-- a block that is being skipped begins there and ends by byte 2^40
+abbrev pub IsSoundStage : Stage → ℕ → Type 0
+IsSoundStage Start offset = ⊤
+IsSoundStage (Records header) offset = ⊤
+IsSoundStage (Blocks section) offset = ⊤
+IsSoundStage (Skipping block left) offset =
+    (block.offset ≡ offset) × (offset + block.total ≤ 2 ^ 40) × (12 ≤ block.total)
+IsSoundStage (Stopped stop) offset = ⊤
+
+-- what is always true of it
+pub record IsSoundCourse (c : CourseState) : Type 0 where
+  pub limit : c.offset ≤ 2 ^ 40
+  pub counted : counted_blocks c.progress ≤ c.offset
+  pub stage : IsSoundStage c.stage c.offset
+
+-- what is returned of what ended a capture
+abbrev pub IsToldStop : Stop → Result FedStep Fault → Type 0
+IsToldStop stops.End result = result ≡ Ok steps.Ends
+IsToldStop stops.Cut result = result ≡ Ok steps.Ends
+IsToldStop (stops.Refused refusal) result = result ≡ Err (Refused refusal)
+
+-- It stops there for good.
+abbrev pub StopsFed : CourseState → Stop → Result FedStep Fault → CourseState → Type 0
+StopsFed old stop result new = (new ≡ record old { stage = Stopped stop }) × IsToldStop stop result
+
+-- whether too few bytes are the reason
+abbrev pub is_cut_rule : Rule → Bool
+is_cut_rule rules.Cut = true
+is_cut_rule rule = false
+
+-- More are wanted, or it stops, if the next bytes break a rule.
+abbrev pub BreaksIf : Bool → CourseState → Stop → Result FedStep Fault → CourseState → Type 0
+BreaksIf true old stop result new = (result ≡ Ok steps.Short) × (new ≡ old)
+BreaksIf false old stop result new = StopsFed old stop result new
+
+abbrev pub BreaksBy : CourseState → Rule → Stop → Result FedStep Fault → CourseState → Type 0
+BreaksBy old rule stop result new = BreaksIf (not old.ended && is_cut_rule rule) old stop result new
+
+abbrev pub BreaksOff : CourseState → Bool → List ℕ → Rule → Result FedStep Fault → CourseState → Type 0
+BreaksOff old inside bytes rule result new =
+    (stop : Stop) × (stop_where inside old.tail old.file old.offset bytes (Some rule) ≡ Some stop)
+    × BreaksBy old rule stop result new
+
+-- it goes on after a block of that order
+abbrev pub behind_block : CourseState → Block → Progress → CourseState
+behind_block c block progress =
+    record {
+      file = c.file;
+      tail = c.tail;
+      ended = c.ended;
+      offset = block.offset + block.total;
+      stage = Blocks (Some block.order);
+      progress = progress;
+    }
+
+-- a block says that, and no packet
+abbrev pub IsNoPacket : Content → Type 0
+IsNoPacket contents.Section = ⊤
+IsNoPacket (contents.Interface described) = ⊤
+IsNoPacket (contents.Packet p) = ⊥
+IsNoPacket contents.Other = ⊤
+
+-- a packet's bytes lie within its block
+abbrev pub SaysWithin : Block → Result Content Rule → Type 0
+SaysWithin block (Ok contents.Section) = ⊤
+SaysWithin block (Ok (contents.Interface described)) = ⊤
+SaysWithin block (Ok (contents.Packet p)) = 12 + p.place + p.captured ≤ block.total
+SaysWithin block (Ok contents.Other) = ⊤
+SaysWithin block (Err rule) = ⊤
+
+-- What taking a block of a known kind returns and leaves, by what the block says.
+abbrev pub TakesFed : CourseState → Block → Result Content Rule → Result FedStep Fault → CourseState → Type 0
+TakesFed old block said (Ok (steps.Packet meta place size)) new =
+    (p : Packet) × (said ≡ Ok (contents.Packet p)) × (meta ≡ meta_in old.file old.progress block p)
+    × (place ≡ 8 + p.place) × (size ≡ block.total) × (12 + p.place + p.captured ≤ block.total)
+    × (new ≡ behind_block old block old.progress)
+TakesFed old block said (Ok (steps.Passed n)) new =
+    (content : Content) × (said ≡ Ok content) × IsNoPacket content × (n ≡ block.total)
+    × (new ≡ behind_block old block (after old.progress content))
+TakesFed old block said (Ok steps.Short) new = ⊥
+TakesFed old block said (Ok steps.Ends) new = ⊥
+TakesFed old block said (Err (Refused refusal)) new =
+    (rule : Rule) × (said ≡ Err rule)
+    × (refusal ≡ record { file = old.file; offset = block.offset; rule = rule })
+    × (new ≡ record old { stage = Stopped (stops.Refused refusal) })
+TakesFed old block said (Err (Read file offset)) new = ⊥
+TakesFed old block said (Err Write) new = ⊥
+TakesFed old block said (Err Memory) new = new ≡ old
+
+abbrev pub TakesBlockFed : CourseState → Block → List ℕ → Result FedStep Fault → CourseState → Type 0
+TakesBlockFed old block bytes result new =
+    TakesFed old block (content_in old.progress.interfaces block.kind block.order (body_in block.total bytes)) result new
+
+-- No packet comes of these bytes if they are all: none, or a refusal by rule 3.
+abbrev pub AreShort : List Item → Type 0
+AreShort [] = ⊤
+AreShort (packet meta frame ∷ items) = ⊥
+AreShort (refused refusal ∷ items) = refusal.rule ≡ rules.Cut
+
+-- what every look keeps
+pub record CourseKeeps (old new : CourseState) : Type 0 where
+  pub file : new.file ≡ old.file
+  pub tail : new.tail ≡ old.tail
+  pub ended : new.ended ≡ old.ended
+
+-- What a look at the next bytes returns and leaves.
+abbrev pub StepsFed : CourseState → List ℕ → Result FedStep Fault → CourseState → Type 0
+StepsFed old bytes (Ok (steps.Passed n)) new =
+    (0 < n) × (n ≤ length bytes)
+    × ((later : List ℕ) → MayFollow old later
+    → items_after old (bytes ++ later) ≡ items_after new (drop n bytes ++ later))
+StepsFed old bytes (Ok (steps.Packet meta place size)) new =
+    (0 < size) × (size ≤ length bytes) × (place + meta.captured ≤ size)
+    × ((later : List ℕ) → MayFollow old later
+    → items_after old (bytes ++ later)
+    ≡ packet meta (take meta.captured (drop place bytes)) ∷ items_after new (drop size bytes ++ later))
+StepsFed old bytes (Ok steps.Short) new =
+    (old.ended ≡ false) × AreShort (items_after old bytes)
+    × ((later : List ℕ) → items_after old (bytes ++ later) ≡ items_after new (bytes ++ later))
+StepsFed old bytes (Ok steps.Ends) new =
+    ((later : List ℕ) → MayFollow old later → items_after old (bytes ++ later) ≡ [])
+    × ((rest : List ℕ) → items_after new rest ≡ [])
+StepsFed old bytes (Err (Refused refusal)) new =
+    ((later : List ℕ) → MayFollow old later → items_after old (bytes ++ later) ≡ refused refusal ∷ [])
+    × ((rest : List ℕ) → items_after new rest ≡ refused refusal ∷ [])
+StepsFed old bytes (Err (Read file offset)) new = ⊥
+StepsFed old bytes (Err Write) new = ⊥
+StepsFed old bytes (Err Memory) new =
+    (later : List ℕ) → items_after old (bytes ++ later) ≡ items_after new (bytes ++ later)
