@@ -40,7 +40,8 @@ returns-clause-shows g c =
     let m = c.show.new.self in
     let y = c.index_mut.result.now in
     let z = c.show.new.feed in
-    at-place f (λ k x ms gs. LaneShows (part k x) b (part m (f z)) → ShowsAt (parts ls (map f fs)) place b (parts ms gs))
+    at-place f (λ k x ms gs. LaneShows (part k x) b (part m (f z)) → ShowsAt (parts ls (map f fs)) place b
+    (parts ms gs))
     ls c.deref_mut.result.now fs place l m y z c.deref_mut.ensures.value c.index_mut.ensures.value
     (shows-there f ls fs place l m y z b (but-within f ls fs place c.requires.alike c.requires.others)
     c.requires.alike c.requires.others) c.show.ensures.shows

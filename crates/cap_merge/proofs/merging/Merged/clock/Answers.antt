@@ -13,7 +13,8 @@ first_place-requires g c =
 pub clock_at-requires : goal.clock_at-requires
 clock_at-requires g c =
     let m = c.args.self.now in
-    rw c.as_slice.ensures.value (place_within g.F.PacketFeed.feed m.lanes.items m.feeds.items c.in-Some.place m.kept.alike
+    rw c.as_slice.ensures.value
+    (place_within g.F.PacketFeed.feed m.lanes.items m.feeds.items c.in-Some.place m.kept.alike
     (sym c.first_place.ensures.place ∙ c.in-Some.is))
 
 pub returns : goal.returns
@@ -22,7 +23,8 @@ returns g c =
     let ls = m.lanes.items in
     let fs = m.feeds.items in
     let at = sym c.first_place.ensures.place ∙ c.in-Some.is in
-    let clock = first-clock g.F.PacketFeed.feed g.met.F.PacketFeed.lawful ls fs c.in-Some.place m.kept.some m.kept.alike at
+    let clock = first-clock g.F.PacketFeed.feed g.met.F.PacketFeed.lawful ls fs c.in-Some.place m.kept.some
+    m.kept.alike at
     c.requires m.kept.bounded m.kept.reached
     c.clock_at.result.now (sym (rw c.as_slice.ensures.value at c.clock_at.ensures)) in
     record {

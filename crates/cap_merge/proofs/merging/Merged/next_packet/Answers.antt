@@ -14,7 +14,8 @@ first_place-requires g c =
 pub clock_at-requires : goal.clock_at-requires
 clock_at-requires g c =
     let m = c.args.self.now in
-    rw c.as_slice.ensures.value (place_within g.F.PacketFeed.feed m.lanes.items m.feeds.items c.in-Some.place m.kept.alike
+    rw c.as_slice.ensures.value
+    (place_within g.F.PacketFeed.feed m.lanes.items m.feeds.items c.in-Some.place m.kept.alike
     (sym c.first_place.ensures.place ∙ c.in-Some.is))
 
 pub packet-requires : goal.packet-requires
@@ -45,7 +46,8 @@ invariant_of-result g c =
     let f = g.F.PacketFeed.feed in
     let at = sym c.first_place.ensures.place ∙ c.in-Some.is in
     let next = packet-next (merged_feed (parts ls (map f fs))).known c.requires in
-    let clock = first-clock f g.met.F.PacketFeed.lawful ls fs c.in-Some.place m.kept.some m.kept.alike at next m.kept.bounded m.kept.reached
+    let clock = first-clock f g.met.F.PacketFeed.lawful ls fs c.in-Some.place m.kept.some m.kept.alike at next
+    m.kept.bounded m.kept.reached
     c.clock_at.result.now (sym (rw c.as_slice.ensures.value at c.clock_at.ensures)) in
     record { bounded = clock.bounded }
 
@@ -58,7 +60,8 @@ returns g c =
     let place = c.in-Some.place in
     let at = sym c.first_place.ensures.place ∙ c.in-Some.is in
     let next = packet-next (merged_feed (parts ls (map f fs))).known c.requires in
-    let clock = first-clock f g.met.F.PacketFeed.lawful ls fs place m.kept.some m.kept.alike at next m.kept.bounded m.kept.reached
+    let clock = first-clock f g.met.F.PacketFeed.lawful ls fs place m.kept.some m.kept.alike at next m.kept.bounded
+    m.kept.reached
     c.clock_at.result.now (sym (rw c.as_slice.ensures.value at c.clock_at.ensures)) in
     record {
       clock = clock.value;

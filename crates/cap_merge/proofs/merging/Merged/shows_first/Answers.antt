@@ -92,4 +92,5 @@ returns g c =
     (parts c.show_at.new.lanes.items (map f fs)) c.unwrap_or.result learns
     (λ t. (rw c.as_slice-2.ensures.value at c.coming_at.ensures) (map f fs)
     (length-map fs f ∙ c.show_at.ensures.feeds ∙ sym m.kept.alike
-    ∙ sym c.show_at.ensures.lanes) c.show_at.ensures.agrees ∙ packet_only c.coming_at.result c.unwrap_or.result c.unwrap_or.ensures t)
+    ∙ sym c.show_at.ensures.lanes) c.show_at.ensures.agrees ∙ packet_only c.coming_at.result c.unwrap_or.result
+    c.unwrap_or.ensures t)

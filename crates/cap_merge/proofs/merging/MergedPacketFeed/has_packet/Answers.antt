@@ -12,7 +12,8 @@ returns-then-shows_first g c =
     let qs = parts n.lanes.items (map g.F.PacketFeed.feed n.feeds.items) in
     let lawful = lawful-each g.F.PacketFeed.feed g.met.F.PacketFeed.lawful n.lanes.items n.feeds.items in
     let shows = rw c.if-shows_first.true at c.shows_first.ensures in
-    let h = finds-all ps qs (Ok true) (numbered-from g.F.PacketFeed.feed m.lanes.items m.feeds.items m.kept.alike m.kept.numbered)
+    let h = finds-all ps qs (Ok true)
+    (numbered-from g.F.PacketFeed.feed m.lanes.items m.feeds.items m.kept.alike m.kept.numbered)
     shows.0 shows.1 lawful in
     record { answer = h.answer; keeps = h.keeps; items = h.items; asks = h.asks; run = h.run; clocks = h.clocks }
 

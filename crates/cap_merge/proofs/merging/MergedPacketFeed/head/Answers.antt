@@ -64,5 +64,6 @@ returns-in-Ok-false g c =
     let qs = parts n.lanes.items (map g.F.PacketFeed.feed n.feeds.items) in
     let lawful = lawful-each g.F.PacketFeed.feed g.met.F.PacketFeed.lawful n.lanes.items n.feeds.items in
     let h = heads-known ps qs End c.in_ok-look.ensures.asks
-    (end-comes (merged_feed qs).known (rw (c.in-Ok-false.is, c.in-Ok-false.field-0-test) at c.in_ok-look.ensures.next)) lawful in
+    (end-comes (merged_feed qs).known
+    (rw (c.in-Ok-false.is, c.in-Ok-false.field-0-test) at c.in_ok-look.ensures.next)) lawful in
     record { answer = h.answer; keeps = h.keeps; items = h.items; asks = h.asks; run = h.run; clocks = h.clocks }
