@@ -136,7 +136,8 @@ fn set_packet(
     said: Result<Packet, Rule>,
     known: &mut Known,
 )
-    requires { reached.now.base < 2 ^ 63 }
+    requires base { reached.now.base < 2 ^ 63 }
+    requires unknown { known.old ≡ None }
     ensures { known.new ≡ next_at file (progress_of reached.now) block (of_body Content.Packet said) }
 {
     match said {
