@@ -12,8 +12,8 @@ use cap_bytes::Refusal;
 use cap_time::{Interface, Resolution};
 use std::marker::Model;
 
-/// What comes next of a file, if that is known, as it is kept: an `Option<Next>` in which a packet has fields of its own.
-/// So it is forgotten by one mark, where an `Option<Next>` would be set to zero as a whole.
+/// What comes next of a file, if that is known, as it is kept: an `Option<Next>` in which a packet has fields of its
+/// own. So it is forgotten by one mark, where an `Option<Next>` would be set to zero as a whole.
 #[derive(Drop)]
 pub struct Known {
     is_packet: bool,
