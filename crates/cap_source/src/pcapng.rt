@@ -199,9 +199,7 @@ fn take_block<R: Source>(
             known.set_refused(refusal, ending_of_blocks(reached, false));
             Ok(())
         }
-        Err(Fault::Read { file, offset }) => Err(Fault::Read { file, offset }),
-        Err(Fault::Write) => Err(Fault::Write),
-        Err(Fault::Memory) => Err(Fault::Memory),
+        Err(fault) => Err(fault),
     }
 }
 
