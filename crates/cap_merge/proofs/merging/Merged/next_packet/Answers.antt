@@ -1,6 +1,7 @@
 use Rattle.std.proofs.Common.{sym, ◌∙◌, map, subst}
 use Rattle.cap_source.specs.Feed.{IsPacket}
 use Rattle.cap_merge.specs.Parts.{parts, merged_feed}
+use Rattle.cap_merge.specs.inner.View.{parts_of}
 use Rattle.cap_merge.proofs.FirstClock.{first-clock}
 use Rattle.cap_merge.proofs.Firsts.{known-packet, known-there, frame-here, no-packet, packet-next}
 use Rattle.cap_merge.proofs.Placing.{none-placed, place_within}
@@ -9,7 +10,7 @@ use Rattle.cap_merge.proofs.merging.Merged.next_packet.Goals as goal
 pub first_place-requires : goal.first_place-requires
 first_place-requires g c =
     let m = c.args.self.now in
-    known-packet (parts m.lanes.items (map g.F.PacketFeed.feed m.feeds.items)) c.requires
+    known-packet (parts_of m) c.requires
 
 pub clock_at-requires : goal.clock_at-requires
 clock_at-requires g c =
@@ -77,5 +78,5 @@ returns g c =
 pub unreachable-requires : goal.unreachable-requires
 unreachable-requires g c =
     let m = c.args.self.now in
-    let ps = parts m.lanes.items (map g.F.PacketFeed.feed m.feeds.items) in
+    let ps = parts_of m in
     no-packet ps (none-placed ps (sym c.first_place.ensures.place ∙ c.in-None.is)) c.requires
