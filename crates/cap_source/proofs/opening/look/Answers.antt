@@ -2,7 +2,7 @@ use Rattle.std.proofs.Common.{arith}
 use Rattle.std.proofs.lemmas.Result.{err_from_is_err_and}
 use Rattle.cap_bytes.proofs.Reach.{Reaches-need, ReachesTo-need}
 use Rattle.cap_source.proofs.Looks.{looks_at}
-use Rattle.cap_source.proofs.learning.look.Goals as goal
+use Rattle.cap_source.proofs.opening.look.Goals as goal
 
 pub returns-then-is_section-clause-answer : goal.returns-then-is_section-clause-answer
 returns-then-is_section-clause-answer g c = grind (arith, looks_at)

@@ -2,7 +2,7 @@ use Rattle.cap_source.proofs.Looks.{opened_reads, opened_by, opened_keeps, unrea
 use Rattle.cap_source.specs.inner.Readers.{reader_file_state}
 use Rattle.cap_bytes.proofs.Reach.{ReachesTo-here}
 use Rattle.std.proofs.Common.{◌+◌}
-use Rattle.cap_source.proofs.learning.open.Goals as goal
+use Rattle.cap_source.proofs.opening.open.Goals as goal
 
 pub returns-in_ok-format-in-Unread-clause-answer : goal.returns-in_ok-format-in-Unread-clause-answer
 returns-in_ok-format-in-Unread-clause-answer g c = λ progress.
