@@ -14,7 +14,7 @@ use Rattle.cap_digest.specs.Canonical.{canonical_form, canonical_text, head_byte
 use Rattle.cap_digest.specs.DigestText.{digest_facts, digest_line, digest_text}
 use Rattle.cap_laws.proofs.FileNumbers.{file-numbered}
 use Rattle.cap_laws.proofs.Twins.{IsTwin, TwinItems, twins}
-use Rattle.cap_laws.specs.Digests.{FileTextLaw, PcapDigest, PcapngDigest, SameText, TextLaw}
+use Rattle.cap_laws.specs.Digests.{DigestOfConverted, FileTextLaw, SameText, TextLaw}
 use Rattle.cap_laws.specs.again.Laws.{IsSamePacket, PcapAgain, PcapngAgain, SamePackets}
 use Rattle.cap_laws.specs.again.Rounds.{in_file}
 use Rattle.cap_print.specs.Facts.{line_in}
@@ -24,6 +24,7 @@ use Rattle.cap_source.specs.Feed.{Item, packet, refused, refusal_of}
 use Rattle.cap_source.specs.Items.{file_first, file_items}
 use Rattle.cap_source.specs.Times.{meta_time}
 use Rattle.cap_source.specs.inner.Fields.{FitsMeta, ItemFits}
+use Rattle.cap_source.specs.declared.packets.Format.TheVariants.{Pcap, Pcapng}
 use Rattle.cap_source.specs.declared.packets.Meta.{Meta}
 use Rattle.cap_time.specs.Stamp.{printed_of, stamp_in}
 use Rattle.cap_time.specs.declared.resolutions.Interface.{Interface}
@@ -192,18 +193,16 @@ same-files form tail tail_again number bytes again h =
     line-of form tail_again number again alike.second
     ∙ sym (line-of form tail number bytes alike.first ∙ same-line form number xs ys alike)
 
-pub pcapng-digest : PcapngAgain → PcapngDigest
-pcapng-digest law order tail tail_again bytes are none short form number =
+pub converted-digest : PcapngAgain → PcapAgain → DigestOfConverted
+converted-digest pcapng pcap Pcapng order tail tail_again bytes are none short form number =
     let first = file_first tail 1 bytes in
     let items = file_items tail 1 bytes in
     let text = pcapng_bytes order 1 first items in
-    let again = law order tail tail_again 1 1 bytes are short in
+    let again = pcapng order tail tail_again 1 1 bytes are short in
     same-files form tail tail_again number bytes text
     (twins-same items (file_items tail_again 1 text)
     (twins (first_origins 1 first) (first_origins 1 first) items (file_items tail_again 1 text) none again.1
     (sym again.0)))
-
-pub pcap-digest : PcapAgain → PcapDigest
-pcap-digest law order tail tail_again bytes are none short form number =
-    let text = pcap_bytes order (file_first tail 1 bytes) (file_items tail 1 bytes) in
-    same-files form tail tail_again number bytes text ((law order tail tail_again 1 1 bytes are).1 none short)
+converted-digest pcapng pcap Pcap order tail tail_again bytes are none short form number =
+    same-files form tail tail_again number bytes (pcap_bytes order (file_first tail 1 bytes) (file_items tail 1 bytes))
+    ((pcap order tail tail_again 1 1 bytes are).1 none short)

@@ -9,10 +9,10 @@ use Rattle.cap_digest.specs.DigestText.{digest_text}
 use Rattle.cap_laws.specs.again.Laws.{SamePackets}
 use Rattle.cap_print.specs.declared.forms.Form.{Form}
 use Rattle.cap_source.specs.Feed.{Item, refusal_of}
-use Rattle.cap_source.specs.Items.{file_first, file_items}
+use Rattle.cap_source.specs.Items.{file_items}
 use Rattle.cap_source.specs.inner.Fields.{ItemFits}
-use Rattle.cap_write.specs.Pcap.{pcap_bytes, pcap_refusal}
-use Rattle.cap_write.specs.Texts.{pcapng_bytes, pcapng_refusal}
+use Rattle.cap_source.specs.declared.packets.Format.{Format}
+use Rattle.cap_tool.specs.Converted.{convert_refusal, convert_text}
 
 -- Two lists of packets, the fields of which fit in their widths, have the same canonical text exactly if their packets
 -- have, one by one, the same link types, exact times, lengths and bytes.
@@ -31,23 +31,11 @@ FileTextLaw =
     → refusal_of (file_items tail file bytes) ≡ None → refusal_of (file_items tail_again file_again again) ≡ None
     → SameText (file_items tail file bytes) (file_items tail_again file_again again)
 
--- What is written of any file as pcapng, if nothing is refused and it is at most 2^40 bytes long, has the digest line
--- of the file, under every number and in either form.
-abbrev pub PcapngDigest : Type 0
-PcapngDigest =
-    (order : Order) (tail tail_again : Tail) (bytes : List ℕ) → AreBytes bytes
-    → (let items = file_items tail 1 bytes in
-    let first = file_first tail 1 bytes in
-    let text = pcapng_bytes order 1 first items in
-    pcapng_refusal 1 first items ≡ None → length text ≤ 2 ^ 40
-    → (form : Form) (number : ℕ) → digest_text form tail_again number text ≡ digest_text form tail number bytes)
-
--- So has what is written of it as pcap.
-abbrev pub PcapDigest : Type 0
-PcapDigest =
-    (order : Order) (tail tail_again : Tail) (bytes : List ℕ) → AreBytes bytes
-    → (let items = file_items tail 1 bytes in
-    let first = file_first tail 1 bytes in
-    let text = pcap_bytes order first items in
-    pcap_refusal 1 first items ≡ None → length text ≤ 2 ^ 40
-    → (form : Form) (number : ℕ) → digest_text form tail_again number text ≡ digest_text form tail number bytes)
+-- What `convert` writes of any file, in either format and byte order, has the digest line of the file, under every
+-- number and in either form, if nothing is refused and at most 2^40 bytes are written.
+abbrev pub DigestOfConverted : Type 0
+DigestOfConverted =
+    (format : Format) (order : Order) (tail tail_again : Tail) (bytes : List ℕ) → AreBytes bytes
+    → convert_refusal format tail bytes ≡ None → length (convert_text format order tail bytes) ≤ 2 ^ 40
+    → (form : Form) (number : ℕ)
+    → digest_text form tail_again number (convert_text format order tail bytes) ≡ digest_text form tail number bytes

@@ -1,5 +1,5 @@
 //! Laws of digests, each the contract of a function that does nothing.
-ghost use Rattle.cap_laws.specs.Digests.{FileTextLaw, PcapDigest, PcapngDigest, TextLaw};
+ghost use Rattle.cap_laws.specs.Digests.{DigestOfConverted, FileTextLaw, TextLaw};
 
 use crate::again::{pcap_again, pcapng_again};
 
@@ -12,11 +12,10 @@ pub fn same_text()
     ensures files { FileTextLaw }
 {}
 
-/// What `to_pcapng` writes of any file, and what `to_pcap` writes of it, of either format and whatever bytes it holds,
-/// has the digest line of the file if nothing is refused and the text is at most 2^40 bytes long.
+/// What `convert` writes of any file, in either format and byte order and whatever bytes the file holds, has the digest
+/// line of the file if nothing is refused and at most 2^40 bytes are written.
 pub fn converted_digest()
-    ensures pcapng { PcapngDigest }
-    ensures pcap { PcapDigest }
+    ensures { DigestOfConverted }
 {
     pcapng_again();
     pcap_again();
