@@ -1,20 +1,18 @@
 -- Lists of packets with the same canonical text, and files that are converted.
-use Rattle.std.proofs.Common.{◌≡◌, ◌≤◌, ◌<◌, ◌+◌, ◌^◌, ℕ, List, [], ◌∷◌, ◌++◌, length, map, Option, Some, None, Equal, refl, sym, ap}
+use Rattle.std.proofs.Common.{◌≡◌, ℕ, List, [], ◌∷◌, ◌++◌, length, map, Option, Some, None, refl, sym, ap}
 use Rattle.std.proofs.Common.{◌∙◌, subst, arith, length-append}
 use Rattle.std.specs.List.{AllByRecursion, AllZip}
 use Rattle.std.specs.Option.{option_map}
-use Rattle.std.specs.Prelude.{if◌then◌else◌, is_none, ◌↔◌}
-use Rattle.cap_blocks.specs.Split.{AreBytes}
+use Rattle.std.specs.Prelude.{if◌then◌else◌, is_none}
 use Rattle.cap_bytes.specs.declared.faults.Refusal.{Refusal}
 use Rattle.cap_bytes.specs.declared.faults.Tail.{Tail}
-use Rattle.cap_bytes.specs.declared.numbers.Order.{Order}
 use Rattle.cap_digest.proofs.Injective.{SameHead, head-bytes, head-some, text-alike}
 use Rattle.cap_digest.proofs.Times.{canonical-same, same-canonical}
 use Rattle.cap_digest.specs.Canonical.{canonical_form, canonical_text, head_bytes}
 use Rattle.cap_digest.specs.DigestText.{digest_facts, digest_line, digest_text}
 use Rattle.cap_laws.proofs.FileNumbers.{file-numbered}
 use Rattle.cap_laws.proofs.Twins.{IsTwin, TwinItems, twins}
-use Rattle.cap_laws.specs.Digests.{DigestOfConverted, FileTextLaw, SameText, TextLaw}
+use Rattle.cap_laws.specs.Digests.{DigestOfConverted, FileTextLaw, TextLaw}
 use Rattle.cap_laws.specs.again.Laws.{IsSamePacket, PcapAgain, PcapngAgain, SamePackets}
 use Rattle.cap_laws.specs.again.Rounds.{in_file}
 use Rattle.cap_print.specs.Facts.{line_in}
@@ -23,7 +21,7 @@ use Rattle.cap_source.proofs.Fields.{fields_fit-law}
 use Rattle.cap_source.specs.Feed.{Item, packet, refused, refusal_of}
 use Rattle.cap_source.specs.Items.{file_first, file_items}
 use Rattle.cap_source.specs.Times.{meta_time}
-use Rattle.cap_source.specs.inner.Fields.{FitsMeta, ItemFits}
+use Rattle.cap_source.specs.inner.Fields.{ItemFits}
 use Rattle.cap_source.specs.declared.packets.Format.TheVariants.{Pcap, Pcapng}
 use Rattle.cap_source.specs.declared.packets.Meta.{Meta}
 use Rattle.cap_time.specs.Stamp.{printed_of, stamp_in}
