@@ -1,4 +1,5 @@
 mod Alike
+mod Diffs
 mod FileNumbers
 mod InOrder
 mod JoinedByPlaces
