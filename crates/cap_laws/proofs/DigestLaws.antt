@@ -12,7 +12,8 @@ use Rattle.cap_digest.specs.Canonical.{canonical_form, canonical_text, head_byte
 use Rattle.cap_digest.specs.DigestText.{digest_facts, digest_line, digest_text}
 use Rattle.cap_laws.proofs.FileNumbers.{file-numbered}
 use Rattle.cap_laws.proofs.Twins.{IsTwin, TwinItems, twins}
-use Rattle.cap_laws.specs.Digests.{DigestOfConverted, FileTextLaw, TextLaw}
+use Rattle.cap_laws.specs.Diffs.{SameExactly}
+use Rattle.cap_laws.specs.Digests.{DigestOfConverted, FileTextLaw, SameAsDiff, TextLaw}
 use Rattle.cap_laws.specs.again.Laws.{IsSamePacket, PcapAgain, PcapngAgain, SamePackets}
 use Rattle.cap_laws.specs.again.Rounds.{in_file}
 use Rattle.cap_print.specs.Facts.{line_in}
@@ -150,6 +151,13 @@ file_text-law tail tail_again file file_again bytes again are are_again a b =
     text-law (file_items tail file bytes) (file_items tail_again file_again again)
     (fields_fit-law tail file bytes are) (fields_fit-law tail_again file_again again are_again) a b
 
+-- `diff` says the same
+pub same_as_diff : SameExactly → SameAsDiff
+same_as_diff exactly tail first second are are_second a b =
+    let text = file_text-law tail tail 1 2 first second are are_second a b in
+    let same = exactly tail first second in
+    (λ h. same.1 (text.0 h), λ h. text.1 (same.0 h))
+
 -- ---- lines
 
 numbered-alike : (n : ℕ) (xs : List Item) → refusal_of xs ≡ None → AreAlike (map (in_file n) xs) xs
@@ -176,7 +184,8 @@ line-of form tail number bytes none =
     let xs = file_items tail 1 bytes in
     let again = file_items tail number bytes in
     let alike : AreAlike again xs =
-    subst (λ (l : List Item). AreAlike l xs) (sym (file-numbered tail number 1 bytes)) (numbered-alike number xs none) in
+    subst (λ (l : List Item). AreAlike l xs) (sym (file-numbered tail number 1 bytes))
+    (numbered-alike number xs none) in
     ap (λ r. if is_none r then digest_line form number again else []) alike.first
     ∙ same-line form number again xs alike
 

@@ -1,5 +1,5 @@
 -- What the canonical text of packets, and so a digest, says of them, and what stays of it when a file is converted.
-use Rattle.std.specs.Prelude.{◌≡◌, ◌↔◌, ◌≤◌, ◌^◌, ℕ, List, length, None}
+use Rattle.std.specs.Prelude.{◌≡◌, ◌↔◌, ◌≤◌, ◌^◌, ℕ, List, length, None, IsTrue}
 use Rattle.std.specs.List.{AllByRecursion, AllZip}
 use Rattle.cap_blocks.specs.Split.{AreBytes}
 use Rattle.cap_bytes.specs.declared.faults.Tail.{Tail}
@@ -13,6 +13,7 @@ use Rattle.cap_source.specs.Items.{file_items}
 use Rattle.cap_source.specs.inner.Fields.{ItemFits}
 use Rattle.cap_source.specs.declared.packets.Format.{Format}
 use Rattle.cap_tool.specs.Converted.{convert_refusal, convert_text}
+use Rattle.cap_tool.specs.DiffText.{comparison_of, is_same}
 
 -- Two lists of packets, the fields of which fit in their widths, have the same canonical text exactly if their packets
 -- have, one by one, the same link types, exact times, lengths and bytes.
@@ -30,6 +31,14 @@ FileTextLaw =
     (tail tail_again : Tail) (file file_again : ℕ) (bytes again : List ℕ) → AreBytes bytes → AreBytes again
     → refusal_of (file_items tail file bytes) ≡ None → refusal_of (file_items tail_again file_again again) ≡ None
     → SameText (file_items tail file bytes) (file_items tail_again file_again again)
+
+-- Two captures of which none is refused have the same canonical text exactly if `diff` says that they are the same.
+abbrev pub SameAsDiff : Type 0
+SameAsDiff =
+    (tail : Tail) (first second : List ℕ) → AreBytes first → AreBytes second
+    → refusal_of (file_items tail 1 first) ≡ None → refusal_of (file_items tail 2 second) ≡ None
+    → (canonical_text (file_items tail 1 first) ≡ canonical_text (file_items tail 2 second))
+    ↔ IsTrue (is_same (comparison_of tail first second))
 
 -- What `convert` writes of any file, in either format and byte order, has the digest line of the file, under every
 -- number and in either form, if nothing is refused and at most 2^40 bytes are written.

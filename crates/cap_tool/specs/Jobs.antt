@@ -75,7 +75,8 @@ DoesTask tasks.Blocks tail form shown order to files = Prints (blocks_in form ta
     (block_refusal tail (only_of files))
 DoesTask tasks.Diff tail form shown order to files = Tells (diff_text_in form (comparison_in tail files))
     (diff_refusal (comparison_in tail files))
-DoesTask tasks.Digest tail form shown order to files = Prints (digests_text form tail files) (first_refusal tail 1 files)
+DoesTask tasks.Digest tail form shown order to files =
+    Prints (digests_text form tail files) (first_refusal tail 1 files)
 DoesTask tasks.Info tail form shown order to files = Tells (info_text_in form tail files) (first_refusal tail 1 files)
 DoesTask tasks.Report tail form shown order to files =
     Tells (report_text_in form (length files) (endings_of_files tail files) (clocked_run tail files))
