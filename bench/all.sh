@@ -8,6 +8,7 @@
 #                                          three hashes of the file; no truncated packets, no skipped blocks
 #   tcpdump -nn -tt -q                     looks into the headers, and prints no place and no bytes of a packet; without
 #                                          -tt it also calculates local times
+#   sha256sum                              hashes the file's bytes: 16 more of each record than its data, where a digest has 42
 #   editcap -F, mergecap -I none -F        carry on comments and other options; -I none keeps the interfaces of all files
 # A plain C program checks no more than the lengths that it reads past: count.c knows neither tags nor fragments.
 #
@@ -116,6 +117,8 @@ print(f"{'':22} {more:.0f} bytes of memory for each further conversation")
 for file in ("mixed.pcap", "small.pcap", "mixed.pcapng", "small.pcapng"):
     row(f"info {file}", [program, "info", file],
         {"cat": ["cat", file], "info.c": ["./info", file], "capinfos -Tmtcdae": ["capinfos", "-Tmtcdae", file]})
+for file in ("mixed.pcap", "small.pcap", "mixed.pcapng"):
+    row(f"digest {file}", [program, "digest", file], {"sha256sum": ["sha256sum", file]})
 for words in (["list", "small.pcap"], ["list", "small.pcapng"], ["blocks", "small.pcapng"]):
     text_of(*words)
     peer = {"tcpdump -nn -tt -q": ["tcpdump", "-nn", "-tt", "-q", "-r", words[1]]} if words[0] == "list" else {}

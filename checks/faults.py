@@ -7,7 +7,7 @@ have written nothing, and the other commands a prefix, and has given all memory 
 `Fault::Memory`, each has to pass, whichever request is refused.
 
 Devices: each read of each file failing in turn, which is told with the header, record or block that it is of (`list`, `blocks` and a
-merge: after all that comes before it); a writer
+merge: after all that comes before it, `digest`: after the lines of the files before); a writer
 that fails, or takes nothing, after any number of bytes, which has just these (one that a signal interrupts is asked
 again); a file without end, which rule 14 stops, and a read of it that fails beyond byte 2^32.
 
@@ -60,6 +60,7 @@ GROWTHS = {
     "report": ["equal-resolutions", "tagged-frames", "overlapped-fragments", "thirty-seconds", "thirty-seconds, whole", "overlap-map", "cut",
                "conversations", "groups", "interfaces", "longest"],
     "info": ["runs-back and options", "cut"],
+    "digest": ["runs-back and options", "cut"],
     "merge": ["runs-back", "interfaces"],
     "merge-pcap": ["runs-back"],
     "join": ["overlapped-fragments", "interfaces"],
@@ -72,6 +73,7 @@ GROWTHS = {
 DEVICES = {
     "report": ["tagged-frames", "overlapped-fragments", "runs-back and options"],
     "info": ["runs-back and options"],
+    "digest": ["runs-back and options"],
     "merge": ["runs-back", "runs-back and options"],
     "merge-pcap": ["runs-back", "runs-back and options"],
     "join": ["overlapped-fragments", "runs-back"],
@@ -194,6 +196,8 @@ def reads_of(count, bench, shim, out, task, row):
             is_so = told_as(task, seen, wanted, f"fault: read file {number} offset {offset}\n".encode()) and seen[3] == 1
             if task in ("list", "blocks"):
                 is_so = is_so and seen[1] == wanted_of(task, [content[:offset]])[1]
+            if task == "digest":
+                is_so = is_so and seen[1] == wanted_of(task, contents[:number - 1])[1]
             if task in ("merge", "merge-pcap"):
                 is_so = is_so and len(model.File(1, seen[1], True).packets) == MERGED_BEFORE[row][number, offset]
             count.check(f"{task} of {row}, read {call} of file {number}", is_so, seen)
@@ -212,7 +216,7 @@ def writes_of(count, bench, shim, out, task, row):
 def endless(count, bench, shim, out):
     """A section, and then blocks of 2^32 - 4 bytes without end: 256 of them end by byte 2^40, and the next begins there."""
     offset = 28 + 256 * (2**32 - 4)
-    for task in ("list", "blocks", "info", "report", "pcap", "pcapng", "merge", "join", "merge-pcap", "join-pcap"):
+    for task in ("list", "blocks", "info", "report", "digest", "pcap", "pcapng", "merge", "join", "merge-pcap", "join-pcap"):
         seen = bench.run(task, [SECTION], task == "list", out=out, faults=(shim, {"ENDLESS": 1}))
         is_so = (seen[0], seen[2]) == (1, f"refused: file 1 offset {offset} rule 14 file-limit\n".encode())
         count.check(f"{task} of a file without end", is_so and seen[4] < 16_384 and (task != "blocks" or seen[1].count(b"\n") == 257), seen)
@@ -236,7 +240,7 @@ def standard(count, bench, shim, out):
 def far(count, bench, shim, out):
     """A read that fails beyond byte 2^32 of such a file, in the second of its blocks, is told with all of that block's offset."""
     offset = 28 + (2**32 - 4)
-    for task in ("list", "blocks", "info", "report", "pcap", "pcapng", "merge", "join", "merge-pcap", "join-pcap"):
+    for task in ("list", "blocks", "info", "report", "digest", "pcap", "pcapng", "merge", "join", "merge-pcap", "join-pcap"):
         seen = bench.run(task, [SECTION], out=out, faults=(shim, {"ENDLESS": 1, "READ": "3-99999"}))
         is_so = (seen[0], seen[2], seen[3]) == (1, f"fault: read file 1 offset {offset}\n".encode(), 1)
         count.check(f"{task}, a read that fails beyond byte 2^32", is_so, seen)

@@ -3,7 +3,7 @@ draft-ietf-opsawg-pcapng, RFC 791, RFC 768, RFC 9293) and from what docs/RULES.m
 not from capt's code. The scripts of this folder hold the built program to it.
 
 `answer(task, files, ..)` gives what is written (a text, or the bytes of OUT) and the refusal, or none."""
-import struct
+import hashlib, struct
 from collections import namedtuple
 from fractions import Fraction
 
@@ -372,6 +372,23 @@ def info(files):
     return f"files {len(files)}\n" + "".join(file_line(file.number, file.ending, file.packets) for file in files), None
 
 
+def canonical(packet):
+    """A packet's bytes in the text whose SHA-256 is its file's digest."""
+    time = time_of(packet)
+    form = bytes(32) if time is None else (time // 1).to_bytes(16, "big", signed=True) + struct.pack(">QQ", (time % 1).numerator, time.denominator)
+    return struct.pack(">HII", packet.interface.link, packet.captured, packet.original) + form + packet.data
+
+
+def digest(files):
+    lines = []
+    for file in files:
+        if file.refusal:
+            return "".join(lines), file.refusal
+        text = b"".join(canonical(packet) for packet in file.packets)
+        lines.append(f"digest {file.number} sha256 {hashlib.sha256(text).hexdigest()} packets {len(file.packets)}\n")
+    return "".join(lines), None
+
+
 def end_text(protocol, end):
     address = ".".join(str(byte) for byte in struct.pack(">I", end[0]))
     return address if end[1] is None else f"{address}:{end[1]}"
@@ -518,4 +535,4 @@ def answer(task, contents, allow_cut=False, order="<"):
         return to_pcap(order, files[0])
     if task in ("join", "join-pcap"):
         return join(to, order, files)
-    return {"list": list_, "blocks": blocks, "info": info, "report": report}[task](files)
+    return {"list": list_, "blocks": blocks, "info": info, "report": report, "digest": digest}[task](files)

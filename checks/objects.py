@@ -1,5 +1,5 @@
 #!/usr/bin/env python3
-"""JSON Lines: what `list`, `blocks`, `info` and `report` print with --json is, object for object and byte for byte, what the text lines of the
+"""JSON Lines: what `list`, `blocks`, `info`, `report` and `digest` print with --json is, object for object and byte for byte, what the text lines of the
 model say of the same files, and Python's json reads each line as those values. Over the files of checks/corpus/, the examples, the worked captures,
 and captures made at random, some of them damaged; `list` also with --data. A refusal and a fault are an object too, with the file's path.
 
@@ -16,7 +16,7 @@ import model
 from captures import PROGRAM, TOP, VECTORS, Bench, Count, make_shim, run, vector, wanted_of
 from soak import mutated, some_capture
 
-TASKS = ("list", "blocks", "info", "report")
+TASKS = ("list", "blocks", "info", "report", "digest")
 PROTOCOLS = {"udp": 17, "tcp": 6}
 TIME = re.compile(r"(-?\d+)\+(\d+)/(\d+)")
 
@@ -55,6 +55,9 @@ def object_of(line):
         return {"type": kind, "protocol": PROTOCOLS.get(name) or int(name[1:]), "a": end_of(a), "b": end_of(b),
                 "forward": {"packets": int(out), "bytes": int(out_bytes)}, "backward": {"packets": int(back), "bytes": int(back_bytes)},
                 "first": time_of(first), "last": time_of(last)}
+    if kind == "digest":
+        number, _, digits, _, packets = words
+        return {"type": kind, "file": int(number), "sha256": digits, "packets": int(packets)}
     if kind in ("files", "talks", "joined"):
         words = [kind, *words]
     return {"type": kind, **pairs_of(words)}
@@ -119,7 +122,7 @@ def main():
             for place, content in enumerate(contents):
                 for _ in range(rng.choice([0, 0, 0, 1, 2])):
                     contents[place] = mutated(rng, content, rng.choice(contents))
-            task, allow_cut = rng.choice(("info", "report", "blocks")), rng.random() < 0.5
+            task, allow_cut = rng.choice(("info", "report", "digest", "blocks")), rng.random() < 0.5
             holds(bench, task, contents[:1] if task == "blocks" else contents, allow_cut)
             holds(bench, "list", contents[:1], allow_cut, rng.choice((None, None, 0, 20, 262_144)))
             for name in os.listdir(bench.folder):

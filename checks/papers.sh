@@ -71,11 +71,11 @@ told = {(int(number), name) for number, name in re.findall(r"^\.TP\n\.B (\d+) ([
 judged("man/capt.1, rules", told == rules, f"other rules: {sorted(told ^ rules)}")
 # the lines that the helps show are lines of the manual page, letter by letter
 lines = set(re.sub(r"^\.B |\\f.", "", page, flags=re.M).replace("\\-", "-").split("\n"))
-shown = set(re.findall(r"^  ((?:files?|total|frames|joined|talks?|packet|block) .*)$", text_of("checks/says.txt"), re.M))
-judged("man/capt.1, lines", len(shown) == 9 and shown <= lines, f"lacks {sorted(shown - lines)}")
+shown = set(re.findall(r"^  ((?:files?|total|frames|joined|talks?|packet|block|digest) .*)$", text_of("checks/says.txt"), re.M))
+judged("man/capt.1, lines", len(shown) == 10 and shown <= lines, f"lacks {sorted(shown - lines)}")
 
 # a pipe into or out of capt fails if any of its programs does
-TASK = "(?:report|info|list|blocks|convert|merge|join)"
+TASK = "(?:report|info|list|blocks|digest|convert|merge|join)"
 for page in ("README.md", "docs/GUIDE.md", "docs/RULES.md", "docs/RECIPES.md", "man/capt.1", "checks/says.txt"):
     lines = text_of(page).split("\n")
     pipes = [n for n, line in enumerate(lines) if re.search(rf"\| capt {TASK} |\bcapt {TASK} [^|`]*\|(?!\|)", line)]

@@ -101,6 +101,17 @@ run report - -; check 'report of standard input twice' 2 '' 'fault: input'
 run report; check 'report of no file' 2 '' '*'
 "$program" report "$one" > /dev/full 2> "$work/err"; status=$?; : > "$work/out"; check 'report on a full disk' 1 '' 'fault: write'
 "$program" report "$work/cut.pcap" > /dev/full 2> "$work/err"; status=$?; check 'report of a cut file on a full disk' 1 '' 'refused: file 1 offset 24 rule 3 cut'
+# digest: the SHA-256 of the canonical text of that packet, also where a pcapng file has it; the lines before a fault stand
+digest='sha256 ae7312267c797be18247384507fd1956f2af9397397bd84f72a62298f1352b4e packets 1'
+run digest "$one" "$work/want.pcapng" "$work/big.pcap"; check 'digest' 0 "digest 1 $digest
+digest 2 $digest
+digest 3 $digest" ''
+input=$one; run digest -; check 'digest of standard input' 0 "digest 1 $digest" ''; input=
+run digest "$one" "$work/cut.pcap" "$one"; check 'digest of a cut file' 1 "digest 1 $digest" 'refused: file 2 offset 24 rule 3 cut'
+run digest "$one" "$work/folder"; check 'digest of a folder' 1 "digest 1 $digest" 'fault: read file 2 offset 0'
+run digest "$one" "$work/missing"; check 'digest of a missing file' 1 '' 'fault: open file 2'
+run digest - -; check 'digest of standard input twice' 2 '' 'fault: input'
+"$program" digest "$one" > /dev/full 2> "$work/err"; status=$?; : > "$work/out"; check 'digest on a full disk' 1 '' 'fault: write'
 # merge: the packet twice, each behind an interface of its own
 { cat "$work/want.pcapng"; tail -c +29 "$work/want.pcapng" | head -c 32
   printf '\x06\0\0\0\x24\0\0\0\x01\0\0\0\0\0\0\0\xa0\x25\x26\0\x04\0\0\0\x04\0\0\0\x01\x02\x03\x04\x24\0\0\0'; } > "$work/twice"
@@ -373,6 +384,7 @@ completed merge capt help m
 completed '--explain' capt list --e
 completed '--output' capt merge --ou
 completed '--json' capt info --j
+completed '--json' capt digest --j
 completed '--data' capt list --da
 completed '' capt list --json --data 1
 

@@ -7,7 +7,7 @@ import sys
 
 sys.dont_write_bytecode = True
 
-import itertools, os, struct, tempfile
+import hashlib, itertools, os, struct, tempfile
 
 from captures import (CARRIED as PACKET, INTERFACE, MICRO_LITTLE, PROGRAM, SECTION, Bench, Count, datagram, make_shim, packet, pcap_header,
                       record, run, vector)
@@ -368,6 +368,48 @@ NO_PACKET = "file 1 offset 0 rule 21 no-interface"
 # Seconds from 2^32 - 1 on.
 LAST_SECOND = interface("0e00 0800 ffffffff00000000")
 
+# Captures, the canonical text of each, and how many packets it has. The text has of each packet the link type in 2 bytes, the captured and the original
+# length in 4 each, the seconds in 16, the numerator and the denominator of the fraction in 8 each, and the captured bytes.
+HALF = "0000000000000001 0000000000000002"
+CARRIED_TEXT = f"0001 00000004 00000004 00000000000000000000000000000002 {HALF} 01020304"
+DIGESTED = [
+    # the same packet in each format and order, and in a microsecond's units and a tenth of a second's
+    *(([content], [CARRIED_TEXT], [1]) for content in (vector("CARRY_PCAP").hex(), CARRIED, CARRIED_BIG, CARRY_BIG,
+                                                       f"{SECTION} {INTERFACE} {enhanced(0)}", of_units(1, 25, data="01020304"))),
+    # half a second before 1970 began; 13/32 of a second in 1,024 units
+    ([f"{SECTION} {interface('0e00 0800 fdffffffffffffff')} {enhanced(0)}"],
+     [f"0001 00000004 00000004 ffffffffffffffffffffffffffffffff {HALF} 01020304"], [1]),
+    ([f"{SECTION} {interface('0900 0100 8a000000')} {enhanced(0)}"],
+     ["0001 00000004 00000004 00000000000000000000000000000989 000000000000000d 0000000000000020 01020304"], [1]),
+    # whole seconds; 1 of 60 bytes that were captured, and none of 60
+    ([of_link(101, at(1, "0a", 60), at(2, "", 60))],
+     ["0065 00000001 0000003c 00000000000000000000000000000001 0000000000000000 0000000000000001 0a"
+      "0065 00000000 0000003c 00000000000000000000000000000002 0000000000000000 0000000000000001"], [2]),
+    # the greatest seconds, and the least: 2^64 - 1 after second 2^63 - 1, and second -2^63
+    ([f"{SECTION} {interface('0900 0100 00000000 0e00 0800 ffffffffffffff7f')}{packet(0, 2**64 - 1, b'').hex()}"],
+     ["0001 00000000 00000000 0000000000000001 7ffffffffffffffe 0000000000000000 0000000000000001"], [1]),
+    ([f"{SECTION} {interface('0900 0100 00000000 0e00 0800 0000000000000080')}{packet(0, 0, b'').hex()}"],
+     ["0001 00000000 00000000 ffffffffffffffff 8000000000000000 0000000000000000 0000000000000001"], [1]),
+    # no time, 4 of 10 bytes; no packet; and three files
+    ([f"{SECTION} {interface(snaplen='04000000')} 03000000 14000000 0a000000 01020304 14000000"], [f"0001 00000004 0000000a {'00' * 32} 01020304"],
+     [1]),
+    ([ETHERNET], [""], [0]),
+    ([ETHERNET, CARRIED, OBSOLETE], ["", CARRIED_TEXT, CARRIED_TEXT], [0, 1, 1]),
+]
+
+
+def digests(texts, packets):
+    """The lines of files whose packets have these canonical texts."""
+    return "".join(f"digest {n} sha256 {hashlib.sha256(bytes.fromhex(text)).hexdigest()} packets {count}\n"
+                   for n, (text, count) in enumerate(zip(texts, packets), 1))
+
+
+# Captures of which some are refused: how many lines are printed before, and the refusal.
+NOT_DIGESTED = [
+    ([CUT], 0, "file 1 offset 24 rule 3 cut"), ([CARRIED, "00000000", CUT], 1, "file 2 offset 0 rule 1 magic"),
+    ([CARRIED, CARRIED, CUT], 2, "file 3 offset 24 rule 3 cut"), ([CARRIED] * 31 + [CUT], 31, "file 32 offset 24 rule 3 cut"),
+]
+
 # Captures that are merged as pcap, what is written of them, and how that is refused, if it is.
 MERGED_AS_PCAP = [
     ([of_link(1, at(2, "0a")), of_link(1, at(1, "0b", 60))], of_link(1, at(1, "0b", 60), at(2, "0a")), None),
@@ -443,6 +485,7 @@ def gives(content):
 LISTED_JSON = '{"type":"packet","n":1,"offset":60,"time":[2,500000,1000000],"captured":4,"original":4,"link":1,"data":"%s"}\n'
 INFO_JSON = ('{"type":"files","files":1}\n{"type":"file","file":1,"format":"pcapng","packets":0,"bytes":0,"truncated":0,"skipped":0,'
              '"first":null,"last":null,"cut":true}\n')
+DIGEST_JSON = f'{{"type":"digest","file":%d,"sha256":"{hashlib.sha256(bytes.fromhex(CARRIED_TEXT)).hexdigest()}","packets":1}}\n'
 BLOCKS_JSON = ('{"type":"block","n":1,"offset":0,"order":"little","kind":"0a0d0d0a","total":28}\n'
                '{"type":"block","n":2,"offset":28,"order":"little","kind":"00000001","total":32}\n'
                '{"type":"block","n":3,"offset":60,"order":"little","kind":"00000006","total":36}\n')
@@ -455,6 +498,10 @@ LINES = [
     ("list --allow-cut cut", prints("")), ("list cut --allow-cut", prints("")),
     ("blocks a", prints(BLOCKS)), ("blocks --allow-cut - < cut", prints(BLOCKS[:BLOCKS.index("block 3")])),
     ("info a b", prints(TWO)), ("info --allow-cut - < cut", prints(TOLD_CUT)), ("info - a -", INPUT),
+    ("digest a b", prints(digests([CARRIED_TEXT] * 2, [1, 1]))), ("digest -", prints(digests([CARRIED_TEXT], [1]))), ("digest - -", INPUT),
+    ("digest --allow-cut - < cut", prints(digests([""], [0]))),
+    ("digest a cut b", (1, digests([CARRIED_TEXT], [1]).encode(), b"refused: file 2 offset 60 rule 3 cut\n", None)),
+    ("digest a none", (1, b"", b"fault: open file 2\n", None)), ("digest --json a b", prints(DIGEST_JSON % 1 + DIGEST_JSON % 2)),
     ("report a b", prints(f"{TWO}total packets 2 bytes 8 truncated 0\n{frames(short=2)}")), ("report - -", INPUT),
     ("report - --allow-cut < cut", prints(f"{TOLD_CUT}total packets 0 bytes 0 truncated 0\n{frames()}")),
     ("convert --to pcap -o c a", writes(CARRIED)), ("convert --order little --to pcap -o - -", gives(CARRIED)),
@@ -474,18 +521,20 @@ LINES = [
     ("report --json a none", (1, b"", b'{"type":"fault","fault":"open","file":2,"path":"none"}\n', None)), ("info --json - -", INPUT),
     ("merge --whole -o c a b -", writes(THRICE)), ("merge --whole -o c cut", (1, b"", b"refused: file 1 offset 60 rule 3 cut\n", None)),
     ("--version", prints(VERSION)), ("-V", prints(VERSION)),
-    *((words, HELP) for words in ("--help", "-h", "list --help", "list -h", "blocks -h", "info --help", "convert -h", "help",
+    *((words, HELP) for words in ("--help", "-h", "list --help", "list -h", "blocks -h", "digest -h", "info --help", "convert -h", "help",
         "help merge")),
     *((words, FAULTY) for words in (
         "", "help frobnicate", "frobnicate a", "--allow-cut list a", "list", "list a b", "list --version", "list --allow-cut --allow-cut a",
-        "list --allow-cut=yes a", "list --order big a", "list -x a", "blocks", "blocks a b", "info", "info -o c a", "report", "report -o c a",
+        "list --allow-cut=yes a", "list --order big a", "list -x a", "blocks", "blocks a b", "digest", "digest -o c a", "info", "info -o c a",
+        "report", "report -o c a",
         "convert -o c a", "convert --to pcap a", "convert --to pcap -o c", "convert --to tar -o c a", "convert --to pcap -o c a b",
         "convert --order middle --to pcap -o c a", "convert --to pcap --to pcap -o c a", "merge a b", "merge -o c", "merge --to tar -o c a",
         "merge -o c -o d a", "merge -o c --output d a", "merge --whole -o - a", "report --whole a", "join a", "join --to pcap a",
         "merge --to pcap --to pcap -o c a", "report --to pcap a",
         "list --data 4 a", "list --data 4 --allow-cut a", "list --json --data", "list --json --data= a", "list --json --data +4 a",
         "list --json --data 4.0 a", "list --json --data -4 a", "list --json --data 262145 a", "list --json --data 4 --data 4 a",
-        "list --json --json a", "list --json=yes a", "blocks --json --data 4 a", "info --json --data 4 a", "report --json --data 4 a",
+        "list --json --json a", "list --json=yes a", "blocks --json --data 4 a", "digest --json --data 4 a", "info --json --data 4 a",
+        "report --json --data 4 a",
         "convert --json --to pcap -o c a", "merge --json -o c a", "join --json -o c a")),
 ]
 
@@ -535,6 +584,12 @@ def main():
             holds(contents, task, contents, allow_cut, lambda *seen: seen == (1, b"", error))
         for content, text in TOLD_OF:
             holds(content, "info", [content], False, lambda *seen: seen == (0, f"files 1\n{text}".encode(), b""))
+        for contents, texts, packets in DIGESTED:
+            wanted = digests(texts, packets).encode()
+            holds(contents, "digest", contents, False, lambda *seen: seen == (0, wanted, b""))
+        for contents, printed, told in NOT_DIGESTED:
+            ended = (1, digests([CARRIED_TEXT] * printed, [1] * printed).encode(), f"refused: {told}\n".encode())
+            holds(contents, "digest", contents, False, lambda *seen: seen == ended)
         for files in itertools.permutations(SPELLINGS):
             wanted = merged(files)
             holds([file[3] for file in files], "merge", [file[0].hex() for file in files], False, lambda *seen: seen == (0, wanted, b""))

@@ -25,6 +25,7 @@ ROOTS = {
         "cap_laws.InOrder.text_by_places_in", "cap_laws.InOrder.refusal_by_places", "cap_merge.Files.clocked_run",
         "cap_merge.Files.endings_of_files", TELLS,
     ],
+    "digest": ["cap_tool.DigestsText.digests_text", "cap_talks.talks.InfoText.first_refusal", PRINTS],
     "convert": ["cap_tool.Converted.convert_text", "cap_tool.Converted.convert_refusal", PRINTS],
     "merge": ["cap_tool.MergeText.merge_text_in", "cap_tool.MergeText.merge_refusal_in", PRINTS],
     "join": [
