@@ -7,7 +7,7 @@ have written nothing, and the other commands a prefix, and has given all memory 
 `Fault::Memory`, each has to pass, whichever request is refused.
 
 Devices: each read of each file failing in turn, which is told with the header, record or block that it is of (`list`, `blocks` and a
-merge: after all that comes before it); a writer
+merge: after all that comes before it, `digest`: after the lines of the files before); a writer
 that fails, or takes nothing, after any number of bytes, which has just these (one that a signal interrupts is asked
 again); a file without end, which rule 14 stops, and a read of it that fails beyond byte 2^32.
 
@@ -52,6 +52,8 @@ ROWS = {
     "options": [vector("OPTIONS_PCAPNG")],
     "cut": [vector("TAGGED_FRAMES")[:-1]],
     "longest": [pcap_header(1) + record(1, bytes(262_144)) + record(2, b"\1")],
+    "longest, twice": [pcap_header(1) + record(1, bytes(262_144)) + record(2, b"\1")] * 2,
+    "carried": [vector("CARRY_PCAP"), vector("CARRY_PCAPNG")],
     "conversations": [pcap_header(101) + b"".join(record(n, datagram(udp((n, 9)))) for n in range(3_000))],
     "groups": [pcap_header(101) + b"".join(record(1, datagram(bytes(8), 8, True, n)) for n in range(1_026))],
     "interfaces": [SECTION + interface(6) * 300 + b"".join(packet(n, n, WHOLE) for n in range(300))],
@@ -60,6 +62,7 @@ GROWTHS = {
     "report": ["equal-resolutions", "tagged-frames", "overlapped-fragments", "thirty-seconds", "thirty-seconds, whole", "overlap-map", "cut",
                "conversations", "groups", "interfaces", "longest"],
     "info": ["runs-back and options", "cut"],
+    "digest": ["runs-back and options", "cut"],
     "merge": ["runs-back", "interfaces"],
     "merge-pcap": ["runs-back"],
     "join": ["overlapped-fragments", "interfaces"],
@@ -67,11 +70,13 @@ GROWTHS = {
     "pcapng": ["carry-pcap", "interfaces"],
     "pcap": ["carry-pcapng", "longest"],
     "list": ["options", "carry-pcap", "longest"],
+    "diff": ["runs-back", "carried", "longest, twice"],
     "blocks": ["options", "interfaces"],
 }
 DEVICES = {
     "report": ["tagged-frames", "overlapped-fragments", "runs-back and options"],
     "info": ["runs-back and options"],
+    "digest": ["runs-back and options"],
     "merge": ["runs-back", "runs-back and options"],
     "merge-pcap": ["runs-back", "runs-back and options"],
     "join": ["overlapped-fragments", "runs-back"],
@@ -79,6 +84,7 @@ DEVICES = {
     "pcapng": ["carry-pcap", "carry-pcapng", "options"],
     "pcap": ["carry-pcap", "carry-pcapng"],
     "list": ["options", "tagged-frames"],
+    "diff": ["runs-back", "carried"],
     "blocks": ["options"],
 }
 # How many packets of two files a merge writes before a read fails, by the file and the place that are told: of a file nothing is read before the first
@@ -101,13 +107,13 @@ def told_as(task, seen, wanted, fault):
     """Whether a run that met a fault told it, has given all memory back, and has written nothing, or a prefix of what was
     wanted."""
     status, text, error, _, _, blocks = seen
-    return (status, error, blocks) == (1, fault, 0) and (text == b"" if task in ("report", "info") else wanted[1].startswith(text))
+    return (status, error, blocks) == (1, fault, 0) and (text == b"" if task in ("diff", "report", "info") else wanted[1].startswith(text))
 
 
 def growths_before_files(bench, shim, out, task):
     """Refuses each growth of a run whose file is missing: those of the command line. The first number that meets none, and
     what was wrong."""
-    words = words_of(task, [os.path.join(bench.folder, "missing")], out=out)
+    words = words_of(task, [os.path.join(bench.folder, "missing")] * (2 if task == "diff" else 1), out=out)
     for n in range(1, 10_000):
         seen = run(words, bench.program, (shim, {"GROWTHS": f"{n}-{n + 1}"}))
         if seen[3] == 0:
@@ -192,8 +198,12 @@ def reads_of(count, bench, shim, out, task, row):
             seen = bench.run(task, contents, out=out, faults=(shim, {"READ": f"{number + 2}-{call}", "PIECE": 1}))
             offset = max(place for place in places if place <= call - 1)
             is_so = told_as(task, seen, wanted, f"fault: read file {number} offset {offset}\n".encode()) and seen[3] == 1
+            if task == "diff" and seen[3] == 0:        # it ended before that read
+                is_so = seen[:3] == wanted and seen[5] == 0
             if task in ("list", "blocks"):
                 is_so = is_so and seen[1] == wanted_of(task, [content[:offset]])[1]
+            if task == "digest":
+                is_so = is_so and seen[1] == wanted_of(task, contents[:number - 1])[1]
             if task in ("merge", "merge-pcap"):
                 is_so = is_so and len(model.File(1, seen[1], True).packets) == MERGED_BEFORE[row][number, offset]
             count.check(f"{task} of {row}, read {call} of file {number}", is_so, seen)
@@ -212,7 +222,7 @@ def writes_of(count, bench, shim, out, task, row):
 def endless(count, bench, shim, out):
     """A section, and then blocks of 2^32 - 4 bytes without end: 256 of them end by byte 2^40, and the next begins there."""
     offset = 28 + 256 * (2**32 - 4)
-    for task in ("list", "blocks", "info", "report", "pcap", "pcapng", "merge", "join", "merge-pcap", "join-pcap"):
+    for task in ("list", "blocks", "info", "report", "digest", "pcap", "pcapng", "merge", "join", "merge-pcap", "join-pcap"):
         seen = bench.run(task, [SECTION], task == "list", out=out, faults=(shim, {"ENDLESS": 1}))
         is_so = (seen[0], seen[2]) == (1, f"refused: file 1 offset {offset} rule 14 file-limit\n".encode())
         count.check(f"{task} of a file without end", is_so and seen[4] < 16_384 and (task != "blocks" or seen[1].count(b"\n") == 257), seen)
@@ -236,7 +246,7 @@ def standard(count, bench, shim, out):
 def far(count, bench, shim, out):
     """A read that fails beyond byte 2^32 of such a file, in the second of its blocks, is told with all of that block's offset."""
     offset = 28 + (2**32 - 4)
-    for task in ("list", "blocks", "info", "report", "pcap", "pcapng", "merge", "join", "merge-pcap", "join-pcap"):
+    for task in ("list", "blocks", "info", "report", "digest", "pcap", "pcapng", "merge", "join", "merge-pcap", "join-pcap"):
         seen = bench.run(task, [SECTION], out=out, faults=(shim, {"ENDLESS": 1, "READ": "3-99999"}))
         is_so = (seen[0], seen[2], seen[3]) == (1, f"fault: read file 1 offset {offset}\n".encode(), 1)
         count.check(f"{task}, a read that fails beyond byte 2^32", is_so, seen)

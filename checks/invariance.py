@@ -3,7 +3,7 @@
 `merge`, `convert --to pcapng` and `convert --to pcap` of the built program made of them.
 
 All lines but those of the files are the same, byte for byte; after `convert --to pcap` times are compared as fractions, since
-they may have another form. A capture that isn't written whole is refused by the rule that is said here.
+they may have another form. The line of `digest` is the same after both conversions. A capture that isn't written whole is refused by the rule that is said here.
 
 Use: checks/invariance.py [PROGRAM]     (as after `rt run` or `rt ci` in crates/capt)"""
 import sys
@@ -87,14 +87,17 @@ def main():
                 count.check(f"{name}: merge", done(["merge", "--order", order, "-o", out, *files]) == (0, "", ""))
                 count.check(f"{name}: merged, {order}", body(done(["report", out])[1]) == body(told), told)
             for file, rule in zip(files, rules):
-                alone = done(["report", file])[1]
+                alone, digest = done(["report", file])[1], done(["digest", file])
+                count.check(f"{name}: digest", digest[0] == 0 and digest[1].startswith("digest 1 sha256 "), digest)
                 count.check(f"{name}: pcapng", done(["convert", "--to", "pcapng", "-o", out, file]) == (0, "", ""))
                 count.check(f"{name}: report of pcapng", body(done(["report", out])[1]) == body(alone), alone)
+                count.check(f"{name}: digest of pcapng", done(["digest", out]) == digest, digest)
                 status, _, error = done(["convert", "--to", "pcap", "-o", out, file])
                 if rule:
                     count.check(f"{name}: pcap", status == 1 and f" rule {rule} " in error, status, error)
                 else:
                     count.check(f"{name}: pcap", (status, error) == (0, ""), status, error)
+                    count.check(f"{name}: digest of pcap", done(["digest", out]) == digest, digest)
                     again = body(done(["report", out])[1])
                     count.check(f"{name}: report of pcap", as_fractions(again) == as_fractions(body(alone)), again, alone)
     count.end()

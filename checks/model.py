@@ -3,9 +3,10 @@ draft-ietf-opsawg-pcapng, RFC 791, RFC 768, RFC 9293) and from what docs/RULES.m
 not from capt's code. The scripts of this folder hold the built program to it.
 
 `answer(task, files, ..)` gives what is written (a text, or the bytes of OUT) and the refusal, or none."""
-import struct
+import hashlib, struct
 from collections import namedtuple
 from fractions import Fraction
+from itertools import zip_longest
 
 RULES = {1: "magic", 2: "version", 3: "cut", 4: "packet-long", 5: "block-length", 6: "block-trailer", 7: "order-magic",
          8: "captured", 9: "interface-unknown", 10: "option-end", 11: "option-length", 12: "resolution", 13: "interface-limit",
@@ -372,6 +373,23 @@ def info(files):
     return f"files {len(files)}\n" + "".join(file_line(file.number, file.ending, file.packets) for file in files), None
 
 
+def canonical(packet):
+    """A packet's bytes in the text whose SHA-256 is its file's digest."""
+    time = time_of(packet)
+    form = bytes(32) if time is None else (time // 1).to_bytes(16, "big", signed=True) + struct.pack(">QQ", (time % 1).numerator, time.denominator)
+    return struct.pack(">HII", packet.interface.link, packet.captured, packet.original) + form + packet.data
+
+
+def digest(files):
+    lines = []
+    for file in files:
+        if file.refusal:
+            return "".join(lines), file.refusal
+        text = b"".join(canonical(packet) for packet in file.packets)
+        lines.append(f"digest {file.number} sha256 {hashlib.sha256(text).hexdigest()} packets {len(file.packets)}\n")
+    return "".join(lines), None
+
+
 def end_text(protocol, end):
     address = ".".join(str(byte) for byte in struct.pack(">I", end[0]))
     return address if end[1] is None else f"{address}:{end[1]}"
@@ -398,10 +416,46 @@ def report(files):
     return "".join(lines), None
 
 
+def packet_line(n, p):
+    return (f"packet {n} offset {p.offset} time {printed(p)} captured {p.captured} original {p.original} "
+            f"link {p.interface.link} data {p.data[:16].hex() or '-'}\n")
+
+
 def list_(files):
-    lines = [f"packet {n} offset {p.offset} time {printed(p)} captured {p.captured} original {p.original} "
-             f"link {p.interface.link} data {p.data[:16].hex() or '-'}\n" for n, p in enumerate(files[0].packets, 1)]
-    return "".join(lines), files[0].refusal
+    return "".join(packet_line(n, p) for n, p in enumerate(files[0].packets, 1)), files[0].refusal
+
+
+def differences(a, b):
+    """In what two packets differ; `end` if there is one of them."""
+    if a is None or b is None:
+        return ["end"]
+    pairs = [("link", a.interface.link, b.interface.link), ("time", time_of(a), time_of(b)), ("captured", a.captured, b.captured),
+             ("original", a.original, b.original), ("data", a.data, b.data)]
+    return [name for name, of_a, of_b in pairs if of_a != of_b]
+
+
+def first_difference(files):
+    """The number of the first packet that isn't the same in two files, in what it differs, and both packets; or the number of packets; or
+    the refusal before that."""
+    items = [file.packets + ([file.refusal] if file.refusal else []) for file in files]
+    for n, (a, b) in enumerate(zip_longest(*items), 1):
+        refused = [item for item in (a, b) if isinstance(item, Refusal)]
+        if refused:
+            return None, refused[0]
+        if differences(a, b):
+            return (n, differences(a, b), a, b), None
+    return (len(items[0]), [], None, None), None
+
+
+def diff(files):
+    found, refusal = first_difference(files)
+    if refusal:
+        return "", refusal
+    n, words, *packets = found
+    if not words:
+        return f"same packets {n}\n", None
+    sides = [f"{sign} {packet_line(n, packet) if packet else 'end' + chr(10)}" for sign, packet in zip("-+", packets)]
+    return f"differ packet {n} {' '.join(words)}\n{''.join(sides)}", None
 
 
 def blocks(files):
@@ -518,4 +572,9 @@ def answer(task, contents, allow_cut=False, order="<"):
         return to_pcap(order, files[0])
     if task in ("join", "join-pcap"):
         return join(to, order, files)
-    return {"list": list_, "blocks": blocks, "info": info, "report": report}[task](files)
+    return {"list": list_, "blocks": blocks, "diff": diff, "info": info, "report": report, "digest": digest}[task](files)
+
+
+def status_of(task, text, refusal):
+    """The status after such an answer."""
+    return 1 if refusal else 3 if task == "diff" and text.startswith("differ") else 0

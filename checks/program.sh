@@ -76,6 +76,19 @@ run convert --to pcap -o /dev/full "$work/cut.pcap"; check 'a refusal on a full 
 run convert --to pcap -o /dev/full "$work/section"; check 'a refusal with nothing to write, on a full disk' 1 '' 'refused: file 1 offset 0 rule 21 no-interface'
 run convert --to pcap "$one"; check 'no output' 2 '' '*'
 run convert -o "$work/none" "$one"; check 'no format' 2 '' '*'; absent 'no format' "$work/none"
+# diff: the status is 3 if two captures differ, and 1 if that can't be written
+difference="differ packet 1 end
+- $line
++ end"
+run diff "$one" "$work/want.pcapng"; check 'diff' 0 'same packets 1' ''
+input=$one; run diff - "$work/want.pcap"; check 'diff of standard input' 0 'same packets 1' ''; input=
+run diff "$one" "$work/section"; check 'diff of captures that differ' 3 "$difference" ''
+run diff --explain "$one" "$work/section"; check 'diff, explained' 3 "$difference" ''
+run diff "$one" "$work/cut.pcap"; check 'diff of a cut file' 1 '' 'refused: file 2 offset 24 rule 3 cut'
+run diff "$one" "$work/missing"; check 'diff of a missing file' 1 '' 'fault: open file 2'
+run diff "$work/folder" "$one"; check 'diff of a folder' 1 '' 'fault: read file 1 offset 0'
+run diff - -; check 'diff of standard input twice' 2 '' 'fault: input'
+"$program" diff "$one" "$work/section" > /dev/full 2> "$work/err"; status=$?; : > "$work/out"; check 'a difference on a full disk' 1 '' 'fault: write'
 # report: a frame of 4 bytes, short for Ethernet; nothing is written where a file is refused, or a read fails
 report='files 1
 file 1 pcap packets 1 bytes 4 truncated 0 skipped 0 first 2+500000/1000000 last 2+500000/1000000
@@ -101,6 +114,17 @@ run report - -; check 'report of standard input twice' 2 '' 'fault: input'
 run report; check 'report of no file' 2 '' '*'
 "$program" report "$one" > /dev/full 2> "$work/err"; status=$?; : > "$work/out"; check 'report on a full disk' 1 '' 'fault: write'
 "$program" report "$work/cut.pcap" > /dev/full 2> "$work/err"; status=$?; check 'report of a cut file on a full disk' 1 '' 'refused: file 1 offset 24 rule 3 cut'
+# digest: the SHA-256 of the canonical text of that packet, also where a pcapng file has it; the lines before a fault stand
+digest='sha256 ae7312267c797be18247384507fd1956f2af9397397bd84f72a62298f1352b4e packets 1'
+run digest "$one" "$work/want.pcapng" "$work/big.pcap"; check 'digest' 0 "digest 1 $digest
+digest 2 $digest
+digest 3 $digest" ''
+input=$one; run digest -; check 'digest of standard input' 0 "digest 1 $digest" ''; input=
+run digest "$one" "$work/cut.pcap" "$one"; check 'digest of a cut file' 1 "digest 1 $digest" 'refused: file 2 offset 24 rule 3 cut'
+run digest "$one" "$work/folder"; check 'digest of a folder' 1 "digest 1 $digest" 'fault: read file 2 offset 0'
+run digest "$one" "$work/missing"; check 'digest of a missing file' 1 '' 'fault: open file 2'
+run digest - -; check 'digest of standard input twice' 2 '' 'fault: input'
+"$program" digest "$one" > /dev/full 2> "$work/err"; status=$?; : > "$work/out"; check 'digest on a full disk' 1 '' 'fault: write'
 # merge: the packet twice, each behind an interface of its own
 { cat "$work/want.pcapng"; tail -c +29 "$work/want.pcapng" | head -c 32
   printf '\x06\0\0\0\x24\0\0\0\x01\0\0\0\0\0\0\0\xa0\x25\x26\0\x04\0\0\0\x04\0\0\0\x01\x02\x03\x04\x24\0\0\0'; } > "$work/twice"
@@ -373,6 +397,9 @@ completed merge capt help m
 completed '--explain' capt list --e
 completed '--output' capt merge --ou
 completed '--json' capt info --j
+completed '--json' capt diff --j
+completed diff capt help d
+completed '--json' capt digest --j
 completed '--data' capt list --da
 completed '' capt list --json --data 1
 

@@ -13,7 +13,7 @@ ghost use Rattle.cap_bytes.specs.declared.faults.Tail.{Tail};
 use crate::blocks::{Block, is_known};
 use crate::bodies::{body_rule, look_at_body};
 use crate::headers::{FRAME_SIZE, enhanced_at, look_at_header};
-use cap_bytes::{Fault, Order, Refusal, Source, Stop, Tail, Window};
+use cap_bytes::{FILE_LIMIT, Fault, Order, Refusal, Source, Stop, Tail, Window};
 use std::marker::Model;
 
 // How many bytes of a block stand in front of its body.
@@ -135,7 +135,9 @@ impl<R: Source> BlockReader<R> {
         ensures opened { result ≡ opened_reader window tail }
         ensures held { result.held ≤ 524288 }
     {
-        let _limits = (window.offset(), window.held());
+        // limits of every window, which the reader keeps
+        prove!(window.offset() <= FILE_LIMIT);
+        prove!(window.held() <= 524_288);
         BlockReader {
             window,
             tail,
@@ -156,18 +158,6 @@ impl<R: Source> BlockReader<R> {
         ensures items { IsTrue self.old.told → IfSome result (λ block. TakesBlock self.old (Ok (Some block)) self.new) }
         ensures none { IsNone result → self.new ≡ self.old }
     {
-        self.read_packet()
-    }
-
-    // The same.
-    #[inline(always)]
-    fn read_packet(&mut self) -> Option<Block>
-        ensures kind { IfSome result (λ block. block.kind ≡ enhanced_kind) }
-        ensures answer { IfSome result (λ block. GivesNextBlock self.old (Ok (Some block)) self.new) }
-        ensures reaches { IfSome result (λ block. ReachesBlock self.old (Ok (Some block)) self.new) }
-        ensures keeps { ReaderKeeps self.old self.new }
-        ensures none { IsNone result → self.new ≡ self.old }
-    {
         if self.stop.is_some() {
             return None;
         }
@@ -181,11 +171,16 @@ impl<R: Source> BlockReader<R> {
         }
     }
 
-    // Looks for the next block, after the one that was given last.
-    fn read_block(&mut self) -> Result<Option<Block>, Fault>
+    /// The next block, or `None` at the end of the file, which comes again then. `body` lends the body of
+    /// a block of a known kind; one of another kind is skipped, and its trailer looked at. Bytes that are
+    /// no block are refused, now and at each later call; if the tail is accepted, a rest that is cut is
+    /// dropped instead, which is the end, but never within the first section header. `Memory` leaves what
+    /// is to come. A read that fails is reported with the offset at which the block begins, and comes again.
+    pub fn next_block(&mut self) -> Result<Option<Block>, Fault>
         ensures answer { GivesNextBlock self.old result self.new }
         ensures reaches { ReachesBlock self.old result self.new }
         ensures keeps { ReaderKeeps self.old self.new }
+        ensures items { IsTrue self.old.told → TakesBlock self.old result self.new }
     {
         if let Some(stop) = self.stop {
             return stop.answer();
@@ -203,20 +198,6 @@ impl<R: Source> BlockReader<R> {
                 stop.answer()
             }
         }
-    }
-
-    /// The next block, or `None` at the end of the file, which comes again then. `body` lends the body of
-    /// a block of a known kind; one of another kind is skipped, and its trailer looked at. Bytes that are
-    /// no block are refused, now and at each later call; if the tail is accepted, a rest that is cut is
-    /// dropped instead, which is the end, but never within the first section header. `Memory` leaves what
-    /// is to come. A read that fails is reported with the offset at which the block begins, and comes again.
-    pub fn next_block(&mut self) -> Result<Option<Block>, Fault>
-        ensures answer { GivesNextBlock self.old result self.new }
-        ensures reaches { ReachesBlock self.old result self.new }
-        ensures keeps { ReaderKeeps self.old self.new }
-        ensures items { IsTrue self.old.told → TakesBlock self.old result self.new }
-    {
-        self.read_block()
     }
 
     /// The body of the block that was given last, without the 8 bytes in front of it and the 4 after.

@@ -42,7 +42,8 @@ Digesting-none a hasher empty =
       refusal = λ t. refl;
     }
 
-text_of-packet : (items : List Item) (meta : Meta) (frame : List ℕ) (rest : List Item) → items ≡ packet meta frame ∷ rest
+text_of-packet : (items : List Item) (meta : Meta) (frame : List ℕ) (rest : List Item)
+    → items ≡ packet meta frame ∷ rest
     → canonical_text items ≡ head_bytes meta ++ frame ++ canonical_text rest
 unfolding canonical_text
 text_of-packet items meta frame rest is = ap canonical_text is
@@ -122,7 +123,8 @@ nothing-more old = sym (append-nil old)
 -- if a file's packets aren't all taken, nothing is printed of it
 pub Prints-none : (fault : Fault) (feed : Feed) (form : Form) (tail : Tail) (file : ℕ) (bytes old : List ℕ)
     → feed.items ≡ file_items tail file bytes → DigestsAll feed (Err fault)
-    → Prints {A = Unit {0}} (digest_text form tail file bytes) (refusal_of (file_items tail file bytes)) old (Err fault) old
+    → Prints {A = Unit {0}} (digest_text form tail file bytes) (refusal_of (file_items tail file bytes)) old (Err fault)
+    old
 Prints-none (Refused refusal) feed form tail file bytes old is d =
     let known : refusal_of (file_items tail file bytes) ≡ Some refusal = ap refusal_of (sym is) ∙ d in
     (known, rw known (nothing-more old))

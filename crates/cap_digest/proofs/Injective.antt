@@ -1,6 +1,6 @@
 -- Packets with the same canonical text.
-use Rattle.std.proofs.Common.{◌≡◌, ◌+◌, ◌/◌, ◌^◌, ◌≤◌, ◌<◌, ◌∙◌, ℕ, ℤ, pos, negsuc, ◌+ℤ◌, List, [], ◌++◌, length, take, drop, refl, sym}
-use Rattle.std.proofs.Common.{ap, arith, lit<, FitsSigned, Option, Some, None, take_at, drop_at}
+use Rattle.std.proofs.Common.{◌≡◌, ◌+◌, ◌/◌, ◌^◌, ◌≤◌, ◌<◌, ◌∙◌, ℕ, ℤ, pos, negsuc, ◌+ℤ◌, List, [], ◌++◌, length}
+use Rattle.std.proofs.Common.{take, drop, refl, sym, ap, arith, lit<, FitsSigned, Option, Some, None, take_at, drop_at}
 use Rattle.std.proofs.Common.{length-append, append_assoc}
 use Rattle.std.proofs.lemmas.Int.{to_z-of_z, ints}
 use Rattle.std.proofs.Math.Nat.{div-le_self}
@@ -185,7 +185,8 @@ head-some meta =
     let original = bytes_of Big 4 meta.original in
     omega (
       arith,
-      length-append (link ++ captured ++ original) (form_bytes (canonical_form (option_map printed_of (meta_time meta)))),
+      length-append (link ++ captured ++ original)
+          (form_bytes (canonical_form (option_map printed_of (meta_time meta)))),
       length-append (link ++ captured) original,
       length-append link captured,
       length-bytes_of Big 2 meta.interface.link,

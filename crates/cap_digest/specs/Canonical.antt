@@ -36,7 +36,8 @@ canonical_form (Some form) = in_lowest_terms form
 -- their 32 bytes: the seconds in 16, as two's complement, the numerator and the denominator in 8 each
 abbrev pub form_bytes : Printed → List ℕ
 form_bytes form =
-    bytes_of Big 16 (cast_unsigned w128 form.seconds) ++ bytes_of Big 8 form.numerator ++ bytes_of Big 8 form.denominator
+    bytes_of Big 16 (cast_unsigned w128 form.seconds) ++ bytes_of Big 8 form.numerator
+    ++ bytes_of Big 8 form.denominator
 
 -- the 42 bytes before a packet's captured bytes: the link type in 2, the captured length and the original one in 4
 -- each, the time in 32, the highest byte of each number first

@@ -1,20 +1,19 @@
 -- Lists of packets with the same canonical text, and files that are converted.
-use Rattle.std.proofs.Common.{◌≡◌, ◌≤◌, ◌<◌, ◌+◌, ◌^◌, ℕ, List, [], ◌∷◌, ◌++◌, length, map, Option, Some, None, Equal, refl, sym, ap}
+use Rattle.std.proofs.Common.{◌≡◌, ℕ, List, [], ◌∷◌, ◌++◌, length, map, Option, Some, None, refl, sym, ap}
 use Rattle.std.proofs.Common.{◌∙◌, subst, arith, length-append}
 use Rattle.std.specs.List.{AllByRecursion, AllZip}
 use Rattle.std.specs.Option.{option_map}
-use Rattle.std.specs.Prelude.{if◌then◌else◌, is_none, ◌↔◌}
-use Rattle.cap_blocks.specs.Split.{AreBytes}
+use Rattle.std.specs.Prelude.{if◌then◌else◌, is_none}
 use Rattle.cap_bytes.specs.declared.faults.Refusal.{Refusal}
 use Rattle.cap_bytes.specs.declared.faults.Tail.{Tail}
-use Rattle.cap_bytes.specs.declared.numbers.Order.{Order}
 use Rattle.cap_digest.proofs.Injective.{SameHead, head-bytes, head-some, text-alike}
 use Rattle.cap_digest.proofs.Times.{canonical-same, same-canonical}
 use Rattle.cap_digest.specs.Canonical.{canonical_form, canonical_text, head_bytes}
 use Rattle.cap_digest.specs.DigestText.{digest_facts, digest_line, digest_text}
 use Rattle.cap_laws.proofs.FileNumbers.{file-numbered}
 use Rattle.cap_laws.proofs.Twins.{IsTwin, TwinItems, twins}
-use Rattle.cap_laws.specs.Digests.{FileTextLaw, PcapDigest, PcapngDigest, SameText, TextLaw}
+use Rattle.cap_laws.specs.Diffs.{SameExactly}
+use Rattle.cap_laws.specs.Digests.{DigestOfConverted, FileTextLaw, SameAsDiff, TextLaw}
 use Rattle.cap_laws.specs.again.Laws.{IsSamePacket, PcapAgain, PcapngAgain, SamePackets}
 use Rattle.cap_laws.specs.again.Rounds.{in_file}
 use Rattle.cap_print.specs.Facts.{line_in}
@@ -23,7 +22,8 @@ use Rattle.cap_source.proofs.Fields.{fields_fit-law}
 use Rattle.cap_source.specs.Feed.{Item, packet, refused, refusal_of}
 use Rattle.cap_source.specs.Items.{file_first, file_items}
 use Rattle.cap_source.specs.Times.{meta_time}
-use Rattle.cap_source.specs.inner.Fields.{FitsMeta, ItemFits}
+use Rattle.cap_source.specs.inner.Fields.{ItemFits}
+use Rattle.cap_source.specs.declared.packets.Format.TheVariants.{Pcap, Pcapng}
 use Rattle.cap_source.specs.declared.packets.Meta.{Meta}
 use Rattle.cap_time.specs.Stamp.{printed_of, stamp_in}
 use Rattle.cap_time.specs.declared.resolutions.Interface.{Interface}
@@ -151,6 +151,13 @@ file_text-law tail tail_again file file_again bytes again are are_again a b =
     text-law (file_items tail file bytes) (file_items tail_again file_again again)
     (fields_fit-law tail file bytes are) (fields_fit-law tail_again file_again again are_again) a b
 
+-- `diff` says the same
+pub same_as_diff : SameExactly → SameAsDiff
+same_as_diff exactly tail first second are are_second a b =
+    let text = file_text-law tail tail 1 2 first second are are_second a b in
+    let same = exactly tail first second in
+    (λ h. same.1 (text.0 h), λ h. text.1 (same.0 h))
+
 -- ---- lines
 
 numbered-alike : (n : ℕ) (xs : List Item) → refusal_of xs ≡ None → AreAlike (map (in_file n) xs) xs
@@ -177,7 +184,8 @@ line-of form tail number bytes none =
     let xs = file_items tail 1 bytes in
     let again = file_items tail number bytes in
     let alike : AreAlike again xs =
-    subst (λ (l : List Item). AreAlike l xs) (sym (file-numbered tail number 1 bytes)) (numbered-alike number xs none) in
+    subst (λ (l : List Item). AreAlike l xs) (sym (file-numbered tail number 1 bytes))
+    (numbered-alike number xs none) in
     ap (λ r. if is_none r then digest_line form number again else []) alike.first
     ∙ same-line form number again xs alike
 
@@ -192,18 +200,16 @@ same-files form tail tail_again number bytes again h =
     line-of form tail_again number again alike.second
     ∙ sym (line-of form tail number bytes alike.first ∙ same-line form number xs ys alike)
 
-pub pcapng-digest : PcapngAgain → PcapngDigest
-pcapng-digest law order tail tail_again bytes are none short form number =
+pub converted-digest : PcapngAgain → PcapAgain → DigestOfConverted
+converted-digest pcapng pcap Pcapng order tail tail_again bytes are none short form number =
     let first = file_first tail 1 bytes in
     let items = file_items tail 1 bytes in
     let text = pcapng_bytes order 1 first items in
-    let again = law order tail tail_again 1 1 bytes are short in
+    let again = pcapng order tail tail_again 1 1 bytes are short in
     same-files form tail tail_again number bytes text
     (twins-same items (file_items tail_again 1 text)
     (twins (first_origins 1 first) (first_origins 1 first) items (file_items tail_again 1 text) none again.1
     (sym again.0)))
-
-pub pcap-digest : PcapAgain → PcapDigest
-pcap-digest law order tail tail_again bytes are none short form number =
-    let text = pcap_bytes order (file_first tail 1 bytes) (file_items tail 1 bytes) in
-    same-files form tail tail_again number bytes text ((law order tail tail_again 1 1 bytes are).1 none short)
+converted-digest pcapng pcap Pcap order tail tail_again bytes are none short form number =
+    same-files form tail tail_again number bytes (pcap_bytes order (file_first tail 1 bytes) (file_items tail 1 bytes))
+    ((pcap order tail tail_again 1 1 bytes are).1 none short)

@@ -1,4 +1,5 @@
 mod Alike
+mod Diffs
 mod DigestLaws
 mod FileNumbers
 mod InOrder

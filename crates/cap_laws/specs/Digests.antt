@@ -1,5 +1,5 @@
 -- What the canonical text of packets, and so a digest, says of them, and what stays of it when a file is converted.
-use Rattle.std.specs.Prelude.{◌≡◌, ◌↔◌, ◌≤◌, ◌^◌, ℕ, List, length, None}
+use Rattle.std.specs.Prelude.{◌≡◌, ◌↔◌, ◌≤◌, ◌^◌, ℕ, List, length, None, IsTrue}
 use Rattle.std.specs.List.{AllByRecursion, AllZip}
 use Rattle.cap_blocks.specs.Split.{AreBytes}
 use Rattle.cap_bytes.specs.declared.faults.Tail.{Tail}
@@ -9,10 +9,11 @@ use Rattle.cap_digest.specs.DigestText.{digest_text}
 use Rattle.cap_laws.specs.again.Laws.{SamePackets}
 use Rattle.cap_print.specs.declared.forms.Form.{Form}
 use Rattle.cap_source.specs.Feed.{Item, refusal_of}
-use Rattle.cap_source.specs.Items.{file_first, file_items}
+use Rattle.cap_source.specs.Items.{file_items}
 use Rattle.cap_source.specs.inner.Fields.{ItemFits}
-use Rattle.cap_write.specs.Pcap.{pcap_bytes, pcap_refusal}
-use Rattle.cap_write.specs.Texts.{pcapng_bytes, pcapng_refusal}
+use Rattle.cap_source.specs.declared.packets.Format.{Format}
+use Rattle.cap_tool.specs.Converted.{convert_refusal, convert_text}
+use Rattle.cap_tool.specs.DiffText.{comparison_of, is_same}
 
 -- Two lists of packets, the fields of which fit in their widths, have the same canonical text exactly if their packets
 -- have, one by one, the same link types, exact times, lengths and bytes.
@@ -31,23 +32,19 @@ FileTextLaw =
     → refusal_of (file_items tail file bytes) ≡ None → refusal_of (file_items tail_again file_again again) ≡ None
     → SameText (file_items tail file bytes) (file_items tail_again file_again again)
 
--- What is written of any file as pcapng, if nothing is refused and it is at most 2^40 bytes long, has the digest line
--- of the file, under every number and in either form.
-abbrev pub PcapngDigest : Type 0
-PcapngDigest =
-    (order : Order) (tail tail_again : Tail) (bytes : List ℕ) → AreBytes bytes
-    → (let items = file_items tail 1 bytes in
-    let first = file_first tail 1 bytes in
-    let text = pcapng_bytes order 1 first items in
-    pcapng_refusal 1 first items ≡ None → length text ≤ 2 ^ 40
-    → (form : Form) (number : ℕ) → digest_text form tail_again number text ≡ digest_text form tail number bytes)
+-- Two captures of which none is refused have the same canonical text exactly if `diff` says that they are the same.
+abbrev pub SameAsDiff : Type 0
+SameAsDiff =
+    (tail : Tail) (first second : List ℕ) → AreBytes first → AreBytes second
+    → refusal_of (file_items tail 1 first) ≡ None → refusal_of (file_items tail 2 second) ≡ None
+    → (canonical_text (file_items tail 1 first) ≡ canonical_text (file_items tail 2 second))
+    ↔ IsTrue (is_same (comparison_of tail first second))
 
--- So has what is written of it as pcap.
-abbrev pub PcapDigest : Type 0
-PcapDigest =
-    (order : Order) (tail tail_again : Tail) (bytes : List ℕ) → AreBytes bytes
-    → (let items = file_items tail 1 bytes in
-    let first = file_first tail 1 bytes in
-    let text = pcap_bytes order first items in
-    pcap_refusal 1 first items ≡ None → length text ≤ 2 ^ 40
-    → (form : Form) (number : ℕ) → digest_text form tail_again number text ≡ digest_text form tail number bytes)
+-- What `convert` writes of any file, in either format and byte order, has the digest line of the file, under every
+-- number and in either form, if nothing is refused and at most 2^40 bytes are written.
+abbrev pub DigestOfConverted : Type 0
+DigestOfConverted =
+    (format : Format) (order : Order) (tail tail_again : Tail) (bytes : List ℕ) → AreBytes bytes
+    → convert_refusal format tail bytes ≡ None → length (convert_text format order tail bytes) ≤ 2 ^ 40
+    → (form : Form) (number : ℕ)
+    → digest_text form tail_again number (convert_text format order tail bytes) ≡ digest_text form tail number bytes

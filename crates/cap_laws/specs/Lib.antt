@@ -1,4 +1,5 @@
 pub mod again
+pub mod Diffs
 pub mod Digests
 pub mod Forms
 pub mod InOrder

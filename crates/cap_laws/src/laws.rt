@@ -1,5 +1,6 @@
 //! Laws, each the contract of a function that does nothing.
 ghost use Rattle.std.specs.Prelude.{List};
+ghost use Rattle.cap_laws.specs.Diffs.{SameAsConverted, SameExactly};
 ghost use Rattle.cap_laws.specs.Forms.{BodyParts, PcapReport};
 ghost use Rattle.cap_laws.specs.InOrder.{ByPlaces, ReportByPlaces};
 ghost use Rattle.cap_laws.specs.JoinedByPlaces.{JoinedByPlaces};
@@ -75,6 +76,22 @@ pub fn merged_run()
 pub fn pcapng_run()
     ensures { PcapngRun }
 {
+    pcapng_again();
+}
+
+/// `diff` says that two captures have the same packets exactly if neither is refused and they have as many packets, of
+/// which those of one place have the same link type, exact time, captured and original length and captured bytes.
+pub fn diff_same()
+    ensures { SameExactly }
+{}
+
+/// `diff` says of a capture, of either format and whatever bytes it holds, and of what `convert` writes of it, in either
+/// format and byte order, that both have the same packets, as many as the capture has, if nothing is refused and at most
+/// 2^40 bytes are written.
+pub fn diff_converted()
+    ensures { SameAsConverted }
+{
+    pcap_again();
     pcapng_again();
 }
 

@@ -106,10 +106,10 @@ agrees-set f (k ∷ ls) (z ∷ zs) (suc i) m y a h = grind (arith, agrees-set f 
 agrees-set f ls fs i m y a h = grind arith
 
 -- what is written is there
-pub next-set : (ls : List Lane) (i : ℕ) (m : Lane) {next : Option (Result Bool Refusal)} → i < length ls → m.next ≡ next
+next_set : (ls : List Lane) (i : ℕ) (m : Lane) {next : Option (Result Bool Refusal)} → i < length ls → m.next ≡ next
     → (lane_at (set ls i m) i).next ≡ next
-next-set (l ∷ ls) (suc i) m h e = next-set ls i m (omega arith) e
-next-set ls i m h e = grind arith
+next_set (l ∷ ls) (suc i) m h e = next_set ls i m (omega arith) e
+next_set ls i m h e = grind arith
 
 refilled : {A : Type 0} (xs ws : List A) (n : ℕ) → length ws ≡ n → take n (ws ++ drop (length ws) xs) ≡ ws
 refilled xs ws n e = take_at ws (drop (length ws) xs) n e
@@ -126,15 +126,38 @@ at-place f Holds ls xs fs i l m y z a b h =
     subst (λ (w : List Lane × Feed × List Lane). Holds (get_or w.0 i l) w.1 w.2 (map f (set fs i z)))
     (λ j. (sym a j, f (sym b j), sym (written ls xs i m a) j)) h
 
+pub matches-at : {F : Type 0} (f : F → Feed) (ls xs : List Lane) (fs : List F) (i : ℕ) (l : Lane) (y : F) → xs ≡ ls
+    → y ≡ get_or fs i y → i < length ls → length ls ≡ length fs → LanesAgree ls (map f fs)
+    → Matches (get_or xs i l) (f y)
+matches-at f ls xs fs i l y a b h e g =
+    at-place f (λ k x ms gs. Matches k x) ls xs fs i l l y y a b (matches-there f ls fs i l y h (sym e) g)
+
+pub agrees-at : {F : Type 0} (f : F → Feed) (ls xs : List Lane) (fs : List F) (i : ℕ) (m : Lane) (z : F) → xs ≡ ls
+    → LanesAgree ls (map f fs) → Matches m (f z) → LanesAgree (refill (length ls) ls (set xs i m)) (map f (set fs i z))
+agrees-at f ls xs fs i m z a g h =
+    subst (λ (ms : List Lane). LanesAgree ms (map f (set fs i z))) (sym (written ls xs i m a))
+    (agrees-set f ls fs i m z g h)
+
+pub next-at : (ls xs : List Lane) (i : ℕ) (m : Lane) {next : Option (Result Bool Refusal)} → xs ≡ ls → i < length ls
+    → m.next ≡ next → (lane_at (refill (length ls) ls (set xs i m)) i).next ≡ next
+next-at ls xs i m a h e = ap (λ ms. (lane_at ms i).next) (written ls xs i m a) ∙ next_set ls i m h e
+
 pub packet-there : {F : Type 0} (f : F → Feed) (ls : List Lane) (fs : List F) (i : ℕ) (x : F)
     → IsPacketAt (parts ls (map f fs)) i → IsPacket (f (get_or fs i x)).known
 packet-there f (l ∷ ls) (y ∷ ys) (suc i) x h = packet-there f ls ys i x h
 packet-there f ls fs i x h = grind arith
 
-pub passes-there : {F : Type 0} (f : F → Feed) (ls : List Lane) (fs : List F) (i : ℕ) (l m : Lane) (x y : F)
+passes_there : {F : Type 0} (f : F → Feed) (ls : List Lane) (fs : List F) (i : ℕ) (l m : Lane) (x y : F)
     → i < length ls → length ls ≡ length fs
     → PassesPart (part (get_or ls i l) (f (get_or fs i x))) (part m (f y))
     → PassesAt (parts ls (map f fs)) i (parts (set ls i m) (map f (set fs i y)))
-passes-there f (k ∷ ls) (z ∷ zs) (suc i) l m x y h e p =
-    (refl, passes-there f ls zs i l m x y (omega arith) (omega arith) p)
-passes-there f ls fs i l m x y h e p = grind arith
+passes_there f (k ∷ ls) (z ∷ zs) (suc i) l m x y h e p =
+    (refl, passes_there f ls zs i l m x y (omega arith) (omega arith) p)
+passes_there f ls fs i l m x y h e p = grind arith
+
+pub passes-at : {F : Type 0} (f : F → Feed) (ls xs : List Lane) (fs : List F) (i : ℕ) (l m : Lane) (y z : F) → xs ≡ ls
+    → y ≡ get_or fs i y → i < length ls → length ls ≡ length fs → PassesPart (part (get_or xs i l) (f y)) (part m (f z))
+    → PassesAt (parts ls (map f fs)) i (parts (refill (length ls) ls (set xs i m)) (map f (set fs i z)))
+passes-at f ls xs fs i l m y z a b h e =
+    at-place f (λ k x ms gs. PassesPart (part k x) (part m (f z)) → PassesAt (parts ls (map f fs)) i (parts ms gs))
+    ls xs fs i l m y z a b (passes_there f ls fs i l m y z h e)

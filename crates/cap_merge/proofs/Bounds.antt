@@ -25,7 +25,8 @@ later_bounded : (clock time : Option Stamp) → IfSome time (λ t. seconds_of t 
 later_bounded clock time h k = grind arith
 
 -- A feed tells that a packet comes next, and the clock moves to its time.
-pub learns-packet : (clock : Option Stamp) (next : Option (Result Bool Refusal)) (time : Option Stamp) (old new : Feed) (meta : Meta)
+pub learns-packet : (clock : Option Stamp) (next : Option (Result Bool Refusal)) (time : Option Stamp)
+    (old new : Feed) (meta : Meta)
     (reached : Option Stamp)
     → is_some next ≡ false → (m : Meta) × Knows old (heads.Packet m) new → new.known ≡ Some (heads.Packet meta)
     → reached ≡ later clock time

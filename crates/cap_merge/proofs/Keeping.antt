@@ -47,7 +47,8 @@ passed_unknown (p ∷ ps) (q ∷ qs) (suc place) h = grind (arith, passed_unknow
 passed_unknown ps qs place h = grind arith
 
 module _ {F : Type 0} (f : F → Feed) (law : (x : F) → IsFeed (f x)) (ls ms : List Lane) (fs ys : List F)
-    (front : Option ℕ) (merge : IsMergeState f ls fs front) (lanes : length ms ≡ length ls) (feeds : length ys ≡ length fs)
+    (front : Option ℕ) (merge : IsMergeState f ls fs front) (lanes : length ms ≡ length ls)
+    (feeds : length ys ≡ length fs)
     (agrees : LanesAgree ms (map f ys)) where
   -- each feed was asked up to the first that can't tell
   pub asked-merge : {T : Type 0} (result : Result T Fault)

@@ -2,7 +2,7 @@
 use Rattle.std.proofs.Common.{◌≡◌, ℕ, zero, suc, ◌<◌, Bool, true, false, List, ◌∷◌, length, get_or, refl, sym, ◌∙◌}
 use Rattle.std.proofs.Common.{subst, arith, inl, inr, Some, Result, Ok, Err}
 use Rattle.std.specs.Prelude.{map, is_some, not, ◌&&◌}
-use Rattle.std.specs.List.{AllByRecursion, list_all}
+use Rattle.std.specs.List.{AllByRecursion, list_all, refill}
 use Rattle.std.specs.Ordering.{is_lt}
 use Rattle.std.proofs.Math.ListN.{set}
 use Rattle.std.proofs.lemmas.Bool.{true≢false}
@@ -20,6 +20,7 @@ use Rattle.cap_merge.specs.inner.Merge.{LearnsBy, LaneStops, LearnsAll, StopsAt,
 use Rattle.cap_merge.specs.inner.Merge.{TellsNext}
 use Rattle.cap_merge.specs.inner.Merge.{ShowsFirst}
 use Rattle.cap_merge.specs.inner.Sound.{AreFrom}
+use Rattle.cap_merge.proofs.Asking.{at-place}
 use Rattle.cap_merge.proofs.Heads.{known_all, same_all, unknown_stops, never}
 use Rattle.cap_merge.proofs.Looking.{Finds, finds-by, heads-known, heads-stopped, packet-comes, refusal-comes}
 use Rattle.cap_merge.proofs.Looking.{end-comes}
@@ -35,14 +36,22 @@ peeks_there f (k ∷ ls) (z ∷ zs) (suc i) l m x y h e p =
 peeks_there f ls fs i l m x y h e p = grind arith
 
 -- one feed is asked, and the others are known
-pub shows-there : {F : Type 0} (f : F → Feed) (ls : List Lane) (fs : List F) (i : ℕ) (l m : Lane) (x y : F) (b : Bool)
+shows_there : {F : Type 0} (f : F → Feed) (ls : List Lane) (fs : List F) (i : ℕ) (l m : Lane) (x y : F) (b : Bool)
     → i < length ls → length ls ≡ length fs
     → known_but (parts ls (map f fs)) i ≡ true → LaneShows (part (get_or ls i l) (f (get_or fs i x))) b (part m (f y))
     → ShowsAt (parts ls (map f fs)) i b (parts (set ls i m) (map f (set fs i y)))
-shows-there f ls fs i l m x y true h e k p =
+shows_there f ls fs i l m x y true h e k p =
     let r : Result Bool Fault = Ok true in
     asks-there f ls fs i l m x y r e k p
-shows-there f ls fs i l m x y false h e k p = peeks_there f ls fs i l m x y h e p
+shows_there f ls fs i l m x y false h e k p = peeks_there f ls fs i l m x y h e p
+
+pub shows-at : {F : Type 0} (f : F → Feed) (ls xs : List Lane) (fs : List F) (i : ℕ) (l m : Lane) (y z : F) (b : Bool)
+    → xs ≡ ls → y ≡ get_or fs i y → i < length ls → length ls ≡ length fs
+    → known_but (parts ls (map f fs)) i ≡ true → LaneShows (part (get_or xs i l) (f y)) b (part m (f z))
+    → ShowsAt (parts ls (map f fs)) i b (parts (refill (length ls) ls (set xs i m)) (map f (set fs i z)))
+shows-at f ls xs fs i l m y z b a d h e k =
+    at-place f (λ w x ms gs. LaneShows (part w x) b (part m (f z)) → ShowsAt (parts ls (map f fs)) i b (parts ms gs))
+    ls xs fs i l m y z a d (shows_there f ls fs i l m y z b h e k)
 
 peeked_kept : (p q : Part) → LaneShows p false q → Kept p q
 peeked_kept p q (inl e) = subst (Kept p) (sym e) (kept-itself p)

@@ -144,6 +144,7 @@ fn ask_each<F: PacketFeed>(lanes: &mut [Lane], feeds: &mut [F]) -> Result<(), Fa
 
 /// Asks each feed in turn what comes next, unless that is known, and stops at the first that can't tell:
 /// what was learned before it is kept. If only what comes next of the feed at a place isn't known, it alone is asked.
+#[tactic(auto, using(crate::proofs::Others::but_within))]
 #[inline(always)]
 pub(crate) fn ask_all<F: PacketFeed>(
     lanes: &mut ArrayVec<Lane, 32>,
@@ -166,6 +167,7 @@ pub(crate) fn ask_all<F: PacketFeed>(
 }
 
 /// Asks the feed at a place, of which a packet was passed, whether it has the next one at hand.
+#[tactic(auto, using(crate::proofs::Others::but_within))]
 #[inline(always)]
 pub(crate) fn show_at<F: PacketFeed>(
     lanes: &mut ArrayVec<Lane, 32>,

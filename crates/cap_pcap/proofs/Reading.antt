@@ -34,6 +34,11 @@ pub unread : (P : Option PcapHeader → Option ℕ → Option Stop → Type 0) (
     → known ≡ None → IsInOrder known captured stop → MayGoOn stop → P None None None → P known captured stop
 unread P known captured stop none order free p = grind arith
 
+-- what is true of a header that is known
+pub for_known : (known : Option PcapHeader) (header : PcapHeader) (P : PcapHeader → Type 0) → known ≡ Some header
+    → P header → IfSome known P
+for_known known header P e p = grind arith
+
 -- the header is seen, and passed
 pub HasHeader-seen : (w v u : WindowState) (tail : Tail) (header : PcapHeader) → SeesPcapHeader header w v
     → WindowPasses 24 v u
@@ -167,6 +172,13 @@ TakesItem_next header old new result known g k t =
     (λ bytes. records_to_come old ≡ given r bytes ∷ records_to_come new))
     262160 _ result
     (λ r h. record_taken header old new r new.lent refl known h k t) g k t
+
+pub TakesItem_known : (header : PcapHeader) (old new : ReaderState PcapHeader) (result : Result (Option Record) Fault)
+    → old.known ≡ Some header → IfSome old.known (λ h. GivesNextRecord h old result new) → ReaderKeeps old new
+    → IsTrue old.told → TakesRecord (records_to_come old) result new.lent (records_to_come new)
+TakesItem_known header old new result known g k t =
+    TakesItem_next header old new result known
+    (from_some old.known header (λ h. GivesNextRecord h old result new) known g) k t
 
 -- The same of a record that was shown already.
 pub TakesItem_shown : (header : PcapHeader) (old new : ReaderState PcapHeader) (found : Option Record)

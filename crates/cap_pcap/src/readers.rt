@@ -8,7 +8,7 @@ ghost use Rattle.cap_pcap.specs.inner.Reader.{ReachesRecord, TakesRecord, Refuse
 
 use crate::headers::{HEADER_SIZE, PcapHeader, look_for_header};
 use crate::records::{HEAD_SIZE, Record, look_for_record, take_shown};
-use cap_bytes::{Fault, Source, Stop, Tail, Window};
+use cap_bytes::{FILE_LIMIT, Fault, Source, Stop, Tail, Window};
 use std::marker::Model;
 
 /// A reader of a pcap file, record by record. It keeps no more of the file than its window shows.
@@ -63,39 +63,15 @@ impl<R: Source> PcapReader<R> {
         ensures opened { result ≡ opened_reader window tail }
         ensures held { result.held ≤ 524288 }
     {
-        // The limits that these two ensure are part of what a reader always meets.
-        let _limits = (window.offset(), window.held());
+        // limits of every window, which the reader keeps
+        prove!(window.offset() <= FILE_LIMIT);
+        prove!(window.held() <= 524_288);
         PcapReader {
             window,
             tail,
             header: None,
             captured: None,
             stop: None,
-        }
-    }
-
-    // Looks for the file's header, unless it is known.
-    fn read_header(&mut self) -> Result<PcapHeader, Fault>
-        ensures answer { GivesHeader self.old result self.new }
-        ensures reaches { ReachesHeader self.old result self.new }
-        ensures header { KeepsHeader self.old self.new }
-        ensures place { OnErr result (self.new.offset ≡ self.old.offset) }
-        ensures keeps { ReaderKeeps self.old self.new }
-    {
-        refuse_again(self.stop)?;
-        if let Some(header) = self.header {
-            return Ok(header);
-        }
-        match look_for_header(&mut self.window)? {
-            Ok(header) => {
-                self.window.pass(HEADER_SIZE);
-                self.header = Some(header);
-                Ok(header)
-            }
-            Err(refusal) => {
-                self.stop = Some(Stop::Refused(refusal));
-                Err(Fault::Refused(refusal))
-            }
         }
     }
 
@@ -120,7 +96,21 @@ impl<R: Source> PcapReader<R> {
         ensures items { IsTrue self.old.told
             → KeepsRecords (records_to_come self.old) result (records_to_come self.new) }
     {
-        self.read_header()
+        refuse_again(self.stop)?;
+        if let Some(header) = self.header {
+            return Ok(header);
+        }
+        match look_for_header(&mut self.window)? {
+            Ok(header) => {
+                self.window.pass(HEADER_SIZE);
+                self.header = Some(header);
+                Ok(header)
+            }
+            Err(refusal) => {
+                self.stop = Some(Stop::Refused(refusal));
+                Err(Fault::Refused(refusal))
+            }
+        }
     }
 
     /// The next record, if the window shows it whole already, as it does most of them: what `next_record` answers then,
@@ -137,20 +127,6 @@ impl<R: Source> PcapReader<R> {
             TakesRecord (records_to_come self.old) (Ok (Some r)) self.new.lent (records_to_come self.new)) }
         ensures none { IsNone result → self.new ≡ self.old }
     {
-        self.read_shown(header)
-    }
-
-    // The same.
-    #[inline(always)]
-    fn read_shown(&mut self, header: PcapHeader) -> Option<Record>
-        requires { self.old.known ≡ Some header }
-        ensures answer { IfSome result (λ r. GivesNextRecord header self.old (Ok (Some r)) self.new) }
-        ensures reaches { IfSome result (λ r. ReachesRecord header self.old (Ok (Some r)) self.new) }
-        ensures place { IfSome result (λ r. self.new.offset ≡ place_after self.old.offset (Ok (Some r))) }
-        ensures header { self.new.known ≡ self.old.known }
-        ensures keeps { ReaderKeeps self.old self.new }
-        ensures none { IsNone result → self.new ≡ self.old }
-    {
         if self.stop.is_some() {
             return None;
         }
@@ -160,32 +136,6 @@ impl<R: Source> PcapReader<R> {
                 Some(record)
             }
             None => None,
-        }
-    }
-
-    // Looks for the next record, after the one that was given last.
-    fn read_record(&mut self, header: PcapHeader) -> Result<Option<Record>, Fault>
-        requires { self.old.known ≡ Some header }
-        ensures answer { GivesNextRecord header self.old result self.new }
-        ensures reaches { ReachesRecord header self.old result self.new }
-        ensures place { self.new.offset ≡ place_after self.old.offset result }
-        ensures header { self.new.known ≡ self.old.known }
-        ensures keeps { ReaderKeeps self.old self.new }
-    {
-        if let Some(stop) = self.stop {
-            return stop.answer();
-        }
-        self.window.pass(size_given(self.captured));
-        self.captured = None;
-        match look_for_record(&mut self.window, header, self.tail)? {
-            Ok(record) => {
-                self.captured = Some(record.captured as usize);
-                Ok(Some(record))
-            }
-            Err(stop) => {
-                self.stop = Some(stop);
-                stop.answer()
-            }
         }
     }
 
@@ -207,7 +157,21 @@ impl<R: Source> PcapReader<R> {
             → TakesRecord (records_to_come self.old) result self.new.lent (records_to_come self.new) }
     {
         let header = self.header.unwrap();
-        self.read_record(header)
+        if let Some(stop) = self.stop {
+            return stop.answer();
+        }
+        self.window.pass(size_given(self.captured));
+        self.captured = None;
+        match look_for_record(&mut self.window, header, self.tail)? {
+            Ok(record) => {
+                self.captured = Some(record.captured as usize);
+                Ok(Some(record))
+            }
+            Err(stop) => {
+                self.stop = Some(stop);
+                stop.answer()
+            }
+        }
     }
 
     /// The captured bytes of the record that was given last, which lie in the window.

@@ -1,6 +1,6 @@
 -- One look after another at what comes next of a file.
-use Rattle.std.proofs.Common.{ℕ, ◌≡◌, ◌≤◌, ◌+◌, ◌^◌, true, false, Option, Some, None, IsTrue, is_some, Result, Ok, Err}
-use Rattle.std.proofs.Common.{IfOk, refl, arith}
+use Rattle.std.proofs.Common.{ℕ, ◌≡◌, ◌≤◌, ◌+◌, true, false, Option, Some, None, IsTrue, is_some, Result, Ok, Err}
+use Rattle.std.proofs.Common.{Bool, IfOk, refl, sym, subst, ◌∙◌, arith}
 use Rattle.std.specs.Bool.{⊤}
 use Rattle.cap_bytes.specs.declared.faults.Fault.{Fault}
 use Rattle.cap_bytes.specs.inner.Reach.{ReachesTo}
@@ -10,8 +10,7 @@ use Rattle.cap_source.specs.inner.FileState.{StepsTo}
 use Rattle.cap_source.specs.inner.FileState.{FileAnswers}
 use Rattle.cap_source.specs.inner.FileState.{TakesShown, LearnsNext, IsSoundFile}
 use Rattle.cap_source.specs.Items.{Progress}
-use Rattle.cap_source.specs.inner.Reached.{counted_blocks}
-use Rattle.cap_source.specs.inner.Readers.{reader_file_state, is_there, is_stopped}
+use Rattle.cap_source.specs.inner.Readers.{reader_file_state, is_stopped}
 use Rattle.cap_source.specs.declared.readers.Next.{Next}
 use Rattle.cap_source.specs.declared.readers.Next.TheVariants as nexts
 use Rattle.cap_source.specs.declared.readers.Reader.{Reader}
@@ -42,28 +41,14 @@ pub IsSound-shown : (old new : FileState) (known after : Option Next) → IsSoun
     → IsSoundFile new after
 IsSound-shown old new known after i k h = grind arith
 
--- How much is counted of a file, as the calls below ask it: cases of the reader stand here alone.
-counted_of : {R : Type 0} (reader : Reader R) (p : Progress) → IsTrue (is_there reader)
-    → (reader_file_state reader p).counted ≡ counted_blocks p
-counted_of (readers.Unread window tail) p there = refl
-counted_of (readers.Pcap reader) p there = refl
-counted_of (readers.Pcapng reader) p there = refl
-counted_of readers.Moved p there = grind arith
-
-pub counted_limit : {R : Type 0} (reader : Reader R) (p : Progress) (known : Option Next) → IsTrue (is_there reader)
-    → IsSoundFile (reader_file_state reader p) known → counted_blocks p ≤ 2 ^ 40
-counted_limit reader p known there i = omega (arith, counted_of reader p there, i.counted, i.limit)
-
-pub counted_kept : {R : Type 0} (old new : Reader R) (p : Progress) (known : Option Next) → IsTrue (is_there new)
-    → IsSoundFile (reader_file_state old p) known → FileKeeps (reader_file_state old p) (reader_file_state new p)
-    → counted_blocks p ≤ (reader_file_state new p).offset
-counted_kept old new p known there i k = omega (arith, counted_of new p there, k.counted i.counted)
-
--- the same of a reader that was made
-pub counted_opened : {R : Type 0} (old : Reader R) (p : Progress) (new : FileState) → IsTrue (is_there old)
-    → counted_blocks p ≤ (reader_file_state old p).offset → FileKeeps (reader_file_state old p) new
-    → new.counted ≤ new.offset
-counted_opened old p new there few k = k.counted (omega (arith, counted_of old p there, few))
+-- whether it is shown or not
+pub IsSound-taken : (old new : FileState) (known after : Option Next) (shown : Bool) → IsSoundFile old known
+    → known ≡ None → FileKeeps old new → TakesShown old shown after new
+    → (shown ≡ false → (new ≡ old) × (after ≡ None)) → IsSoundFile new after
+IsSound-taken old new known after true i not k h same = IsSound-shown old new known after i k h
+IsSound-taken old new known after false i not k h same =
+    subst (λ (w : FileState × Option Next). IsSoundFile w.0 w.1)
+    (λ j. (sym (same refl).0 j, (not ∙ sym (same refl).1) j)) i
 
 -- a reader of which nothing is known has not come to an end
 pub free_of : {R : Type 0} (reader : Reader R) (p : Progress) (known : Option Next) → is_some known ≡ false

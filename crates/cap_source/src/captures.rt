@@ -1,20 +1,25 @@
 //! The packets of one capture file.
-ghost use Rattle.std.specs.Prelude.{◌≡◌, [], ◌∷◌, ℕ, None, IfOk, IsTrue};
+ghost use Rattle.std.specs.Prelude.{◌≡◌, [], ◌∷◌, ℕ, None, IfOk, IsTrue, false};
 ghost use Rattle.std.proofs.Props.{props};
 ghost use Rattle.cap_bytes.specs.inner.SourceState.{source_of};
 ghost use Rattle.cap_source.specs.Feed.{FeedKeeps, GivesHead, KeepsItems, FindsPacket, FindsItem, IsPacket, FeedPasses};
 ghost use Rattle.cap_source.specs.Items.{file_items, file_ending, file_first};
 ghost use Rattle.cap_source.specs.inner.FileState.{file_feed, GivesFirst, KeepsFirst, IsSoundFile};
+ghost use Rattle.cap_source.specs.inner.FileState.{FileAnswers, FileKeeps, FileTakes, IfTaken, LearnsNext, ReadsTo};
+ghost use Rattle.cap_source.specs.inner.FileState.{ShowsNext, TakesShown};
 ghost use Rattle.cap_source.specs.inner.Laws.{captures_lawful};
 ghost use Rattle.cap_source.specs.inner.Reached.{progress_of};
 ghost use Rattle.cap_source.specs.inner.Readers.{reader_file_state, is_there, reader_room};
 
 use crate::feeds::{Ending, FeedHeld, Head, PacketFeed};
 use crate::known::Known;
-use crate::learning::{learn, shows};
+use crate::opening::open;
 use crate::packets::Meta;
+use crate::pcap::next_of_pcap;
+use crate::pcapng::next_of_blocks;
 use crate::reached::{Reached, nothing_reached};
 use crate::readers::{Next, Reader, ending_of, failed_of, held_of, noted_of, number_of, part_of};
+use crate::{pcap, pcapng};
 use cap_bytes::{Fault, Source, Tail, Window};
 use cap_time::Interface;
 use std::alloc::Global;
@@ -34,7 +39,7 @@ pub struct Capture<R: Source> {
 
 impl<R: Source> Capture<R> {
     ghost use Rattle.cap_source.specs.inner.Captures.{capture_number, capture_first, position_of, unread_position};
-    ghost use Rattle.cap_source.specs.inner.Captures.{ReadsToPacket};
+    ghost use Rattle.cap_source.specs.inner.Captures.{capture_file, ReadsToPacket};
 
     /// The packets that `reader` gives, which is the file of that number. It reads nothing yet, so a faulty
     /// file header is the first item.
@@ -81,8 +86,76 @@ impl<R: Source> Capture<R> {
             → ReadsToPacket (position_of self.old) (position_of self.new)) }
         ensures most { (position_of self.new).most ≡ (position_of self.old).most }
     {
-        learn(&mut self.reader, &mut self.reached, &mut self.next)?;
+        self.learn()?;
         Ok(noted_of(&self.reader, &self.reached))
+    }
+
+    // Learns what comes next, unless it is known.
+    #[inline(always)]
+    fn learn(&mut self) -> Result<(), Fault>
+        ensures answer { LearnsNext (capture_file self.old) self.old.next result (capture_file self.new) self.new.next }
+        ensures reaches { IfOk result (λ _. IfTaken self.new.next
+            (ReadsTo (capture_file self.old) (capture_file self.new))) }
+        ensures keeps { FileKeeps (capture_file self.old) (capture_file self.new) }
+    {
+        if self.next.is_some() {
+            return Ok(());
+        }
+        if self.take_shown() {
+            return Ok(());
+        }
+        self.find()
+    }
+
+    // Learns which packet comes next, unless that is known, if the window shows it already. Returns whether a packet
+    // is known then.
+    #[inline(always)]
+    fn shows(&mut self) -> bool
+        ensures answer { ShowsNext (capture_file self.old) self.old.next result (capture_file self.new) self.new.next }
+        ensures keeps { FileKeeps (capture_file self.old) (capture_file self.new) }
+    {
+        if self.next.is_some() {
+            return self.next.is_packet();
+        }
+        self.take_shown() && self.next.is_packet()
+    }
+
+    // Learns which packet comes next, if the window shows it already. Returns whether it did: if not, nothing has
+    // changed.
+    #[inline(always)]
+    fn take_shown(&mut self) -> bool
+        requires { self.old.next ≡ None }
+        ensures answer { TakesShown (capture_file self.old) result self.new.next (capture_file self.new) }
+        ensures reaches { IsTrue result → FileTakes (capture_file self.old) (capture_file self.new) }
+        ensures keeps { FileKeeps (capture_file self.old) (capture_file self.new) }
+        ensures none { result ≡ false → (capture_file self.new ≡ capture_file self.old) × (self.new.next ≡ None) }
+    {
+        // the commonest format is asked for first, in place of a jump by a table
+        if let Reader::Pcap(reader) = &mut self.reader {
+            return pcap::take_shown(reader, &mut self.next);
+        }
+        match &mut self.reader {
+            Reader::Pcapng(reader) => pcapng::take_shown(reader, &self.reached, &mut self.next),
+            _ => false,
+        }
+    }
+
+    // Learns what comes next, which isn't shown yet. It is written where it is kept, since copies of it cost more than
+    // reading it.
+    #[inline(never)]
+    fn find(&mut self) -> Result<(), Fault>
+        requires { self.old.next ≡ None }
+        ensures answer { FileAnswers (capture_file self.old) result self.new.next (capture_file self.new) }
+        ensures reaches { IfOk result (λ _. IfTaken self.new.next
+            (FileTakes (capture_file self.old) (capture_file self.new))) }
+        ensures keeps { FileKeeps (capture_file self.old) (capture_file self.new) }
+    {
+        open(&mut self.reader)?;
+        match &mut self.reader {
+            Reader::Pcap(reader) => next_of_pcap(reader, &mut self.next),
+            Reader::Pcapng(reader) => next_of_blocks(reader, &mut self.reached, &mut self.next),
+            _ => unreachable!(),
+        }
     }
 }
 
@@ -100,7 +173,7 @@ impl<R: Source> PacketFeed for Capture<R> {
         ensures reads { ReadsForHead (position_of self.old) result (position_of self.new) }
         ensures most { (position_of self.new).most ≡ (position_of self.old).most }
     {
-        learn(&mut self.reader, &mut self.reached, &mut self.next)?;
+        self.learn()?;
         match self.next.get() {
             Some(Next::Packet(meta, _)) => Ok(Head::Packet(meta)),
             Some(Next::Refused(refusal, _)) => Ok(Head::Refused(refusal)),
@@ -118,7 +191,7 @@ impl<R: Source> PacketFeed for Capture<R> {
         ensures reads { ReadsForPacket (position_of self.old) result (position_of self.new) }
         ensures most { (position_of self.new).most ≡ (position_of self.old).most }
     {
-        learn(&mut self.reader, &mut self.reached, &mut self.next)?;
+        self.learn()?;
         match self.next.get() {
             Some(Next::Packet(_, _)) => Ok(true),
             Some(Next::Refused(refusal, _)) => Err(Fault::Refused(refusal)),
@@ -129,7 +202,7 @@ impl<R: Source> PacketFeed for Capture<R> {
 
     #[inline(always)]
     fn shows_packet(&mut self) -> bool {
-        shows(&mut self.reader, &self.reached, &mut self.next)
+        self.shows()
     }
 
     #[inline(always)]

@@ -6,7 +6,7 @@ ghost use Rattle.cap_source.specs.Feed.{FindsItem, FeedPasses, IsPacket, HasFile
 use crate::packets::{Format, Meta};
 use cap_bytes::{Fault, Refusal};
 
-/// What comes next of a feed.
+/// What comes next of a feed, of however many files: what its caller needs to know of it, and no more.
 #[derive(Clone, Copy, Debug, PartialEq, Eq)]
 pub enum Head {
     /// A packet.

@@ -5,31 +5,22 @@ ghost use Rattle.cap_source.specs.declared.feeds.Head.TheVariants as heads;
 ghost use Rattle.cap_source.specs.inner.FileState.{next_head, is_packet, start_of};
 ghost use Rattle.cap_source.specs.declared.readers.Next.TheVariants.{Packet, Refused, End};
 
-use crate::feeds::{Ending, FileEnd};
+use crate::feeds::FileEnd;
 use crate::packets::{Format, Meta};
 use crate::readers::Next;
-use cap_bytes::{Refusal, Rule};
+use cap_bytes::Refusal;
 use cap_time::{Interface, Resolution};
 use std::marker::Model;
 
-// What comes next, as one mark.
-#[derive(Clone, Copy, PartialEq, Eq)]
-enum Kind {
-    Unknown,
-    Packet,
-    Refused,
-    End,
-}
-
-/// What comes next of a file, if that is known. Each kind has fields of its own, so that a packet is forgotten by one
-/// mark: an `Option<Next>` would be set to zero as a whole.
+/// What comes next of a file, if that is known, as it is kept: an `Option<Next>` in which a packet has fields of its
+/// own. So it is forgotten by one mark, where an `Option<Next>` would be set to zero as a whole.
 #[derive(Drop)]
 pub struct Known {
-    kind: Kind,
+    is_packet: bool,
     place: u32,
     meta: Meta,
-    refusal: Refusal,
-    ending: FileEnd,
+    // the refusal or the end that comes next, which stays for good
+    last: Option<Next>,
 }
 
 impl Model for Known {
@@ -38,9 +29,11 @@ impl Model for Known {
 
     ghost Value = { Option Next };
 
-    ghost use Rattle.cap_source.specs.inner.KnownView.{known_view};
+    ghost use Rattle.cap_source.specs.inner.KnownView.{known_by, IsKeptNext};
 
-    ghost view = { known_view };
+    ghost view = { λ k. known_by k.is_packet k.place k.meta k.last };
+
+    ghost invariant = { λ k. IsKeptNext k.is_packet k.last };
 }
 
 impl Known {
@@ -48,9 +41,9 @@ impl Known {
     pub fn new() -> Known
         ensures { result ≡ None }
     {
-        // none of these is read before it was put
+        // the packet isn't read before it was put
         Known {
-            kind: Kind::Unknown,
+            is_packet: false,
             place: 0,
             meta: Meta {
                 file: 0,
@@ -68,19 +61,7 @@ impl Known {
                 captured: 0,
                 original: 0,
             },
-            refusal: Refusal {
-                file: 0,
-                offset: 0,
-                rule: Rule::Cut,
-            },
-            ending: FileEnd {
-                ending: Ending {
-                    format: Format::Pcap,
-                    skipped: 0,
-                    was_cut: false,
-                },
-                named: 0,
-            },
+            last: None,
         }
     }
 
@@ -89,7 +70,7 @@ impl Known {
     pub fn is_some(&self) -> bool
         ensures { result ≡ is_some self.now }
     {
-        self.kind != Kind::Unknown
+        self.is_packet || self.last.is_some()
     }
 
     /// Whether a packet is known to come next.
@@ -97,7 +78,7 @@ impl Known {
     pub fn is_packet(&self) -> bool
         ensures { result ≡ is_packet self.now }
     {
-        self.kind == Kind::Packet
+        self.is_packet
     }
 
     /// That packet, without its bytes.
@@ -122,20 +103,20 @@ impl Known {
     pub fn get(&self) -> Option<Next>
         ensures { result ≡ self.now }
     {
-        match self.kind {
-            Kind::Unknown => None,
-            Kind::Packet => Some(Next::Packet(self.meta, self.place)),
-            Kind::Refused => Some(Next::Refused(self.refusal, self.ending)),
-            Kind::End => Some(Next::End(self.ending)),
+        if self.is_packet {
+            Some(Next::Packet(self.meta, self.place))
+        } else {
+            self.last
         }
     }
 
-    /// A packet comes next.
+    /// A packet comes next, of which nothing was known.
     #[inline(always)]
     pub fn set_packet(&mut self, meta: Meta, place: u32)
+        requires { self.old ≡ None }
         ensures { self.new ≡ Some (Packet meta place) }
     {
-        self.kind = Kind::Packet;
+        self.is_packet = true;
         self.place = place;
         self.meta = meta;
     }
@@ -144,24 +125,24 @@ impl Known {
     pub fn set_refused(&mut self, refusal: Refusal, ending: FileEnd)
         ensures { self.new ≡ Some (Refused refusal ending) }
     {
-        self.kind = Kind::Refused;
-        self.refusal = refusal;
-        self.ending = ending;
+        self.is_packet = false;
+        self.last = Some(Next::Refused(refusal, ending));
     }
 
     /// The end comes next.
     pub fn set_end(&mut self, ending: FileEnd)
         ensures { self.new ≡ Some (End ending) }
     {
-        self.kind = Kind::End;
-        self.ending = ending;
+        self.is_packet = false;
+        self.last = Some(Next::End(ending));
     }
 
-    /// What came next is passed: nothing is known.
+    /// The packet that came next is passed: nothing is known.
     #[inline(always)]
     pub fn forget(&mut self)
+        requires { IsPacket (next_head self.old) }
         ensures { self.new ≡ None }
     {
-        self.kind = Kind::Unknown;
+        self.is_packet = false;
     }
 }

@@ -132,9 +132,7 @@ fn next_record_of<R: Source>(
             known.set_refused(refusal, ending_of_pcap(false));
             Ok(())
         }
-        Err(Fault::Read { file, offset }) => Err(Fault::Read { file, offset }),
-        Err(Fault::Write) => Err(Fault::Write),
-        Err(Fault::Memory) => Err(Fault::Memory),
+        Err(fault) => Err(fault),
     }
 }
 
@@ -155,8 +153,6 @@ pub fn next_of_pcap<R: Source>(reader: &mut PcapReader<R>, known: &mut Known) ->
             known.set_refused(refusal, ending_of_pcap(false));
             Ok(())
         }
-        Err(Fault::Read { file, offset }) => Err(Fault::Read { file, offset }),
-        Err(Fault::Write) => Err(Fault::Write),
-        Err(Fault::Memory) => Err(Fault::Memory),
+        Err(fault) => Err(fault),
     }
 }

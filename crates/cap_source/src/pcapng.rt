@@ -136,7 +136,8 @@ fn set_packet(
     said: Result<Packet, Rule>,
     known: &mut Known,
 )
-    requires { reached.now.base < 2 ^ 63 }
+    requires base { reached.now.base < 2 ^ 63 }
+    requires unknown { known.old ≡ None }
     ensures { known.new ≡ next_at file (progress_of reached.now) block (of_body Content.Packet said) }
 {
     match said {
@@ -198,9 +199,7 @@ fn take_block<R: Source>(
             known.set_refused(refusal, ending_of_blocks(reached, false));
             Ok(())
         }
-        Err(Fault::Read { file, offset }) => Err(Fault::Read { file, offset }),
-        Err(Fault::Write) => Err(Fault::Write),
-        Err(Fault::Memory) => Err(Fault::Memory),
+        Err(fault) => Err(fault),
     }
 }
 

@@ -16,7 +16,8 @@ use cap_bytes::{Refusal, Source, Tail, Window};
 use cap_pcap::PcapReader;
 use cap_time::Interface;
 
-/// What comes next of a file, and how the file ends there.
+/// What comes next of a file, as its reader finds it. A `Head` tells less of it: not where a packet's bytes begin, nor
+/// how the file ends.
 #[derive(Clone, Copy)]
 pub enum Next {
     /// A packet. Its captured bytes begin at that place of what the reader lends.

@@ -4,6 +4,7 @@ mod blocks_json;
 mod captures;
 mod convert;
 mod diff;
+mod digest;
 mod jobs;
 mod join;
 mod list;

@@ -4,18 +4,19 @@ ghost use Rattle.std.specs.Prelude.{◌≤◌};
 use crate::checks::{holds, same};
 use crate::files::{bytes_of, merged_of, pair_of, reader_of, room_of, sources_of};
 use crate::hex_vectors::{
-    CARRY_PCAP, CARRY_PCAPNG, ETHERNET, FRAGMENT_FRAMES, File, INTERFACE, OPTIONS_PCAPNG, PACKET,
-    RUNS_BACK, RUNS_ON, SECTION, TAGGED_FRAMES,
+    CARRY_PCAP, CARRY_PCAPNG, ETHERNET, FRAGMENT_FRAMES, File, HEADER_ONLY, INTERFACE,
+    OPTIONS_PCAPNG, PACKET, RUNS_BACK, RUNS_ON, SECTION, TAGGED_FRAMES,
 };
 use crate::report::TAGGED_REPORT;
 use cap_blocks::{PacketFields, put_interface, put_packet, put_section};
 use cap_bytes::{Fault, Order, Pieces, Sink, Source, Tail, Tracked};
 use cap_line::Task;
 use cap_pcap::{PcapHeader, RecordTime, put_header, put_record};
+use cap_print::Form;
 use cap_source::{Capture, Format, PacketFeed};
 use cap_talks::{file_lines, report};
 use cap_time::{Interface, Resolution, Unit};
-use cap_tool::{blocks_to, convert_to, diff_to, join_to, list_to, merge_to};
+use cap_tool::{blocks_to, convert_to, diff_to, digests_to, join_to, list_to, merge_to};
 use std::alloc::Global;
 use std::io;
 use std::io::Write;
@@ -35,6 +36,11 @@ const ETHERNET_ALONE: File = &[ETHERNET];
 const END_LINES: &str = "differ packet 1 end\n\
     - packet 1 offset 24 time 2+500000/1000000 captured 4 original 4 link 1 data 01020304\n\
     + end\n";
+
+const DIGEST_LINES: &str = "digest 1 sha256 \
+    ae7312267c797be18247384507fd1956f2af9397397bd84f72a62298f1352b4e packets 1\n\
+    digest 2 sha256 \
+    e3b0c44298fc1c149afbf4c8996fb92427ae41e4649b934ca495991b7852b855 packets 0\n";
 
 const FILE_LINES: &str = "files 2\n\
     file 1 pcap packets 2 bytes 0 truncated 0 skipped 0 first 1+0/1000000 last 5+0/1000000\n\
@@ -79,6 +85,7 @@ fn call<R: Source, W: Sink>(
             let second = sources.remove(1);
             diff_to(alloc, sources.remove(0), second, tail, writer).map(|_| ())
         }
+        Task::Digest => digests_to(alloc, sources, tail, Form::Text, writer),
         Task::Info => file_lines(alloc, sources, tail, writer),
         Task::Report => report(alloc, sources, tail, writer),
         Task::Convert => {
@@ -159,7 +166,7 @@ fn fails_after_each_byte(rt: &impl Abort, alloc: Global, row: Row, wanted: &[u8]
     }
 }
 
-const PRINTED: [(Row, &str); 6] = [
+const PRINTED: [(Row, &str); 7] = [
     ((Task::List, &[CARRY_PCAP]), LINE),
     ((Task::Blocks, &[OPTIONS_PCAPNG]), BLOCK_LINES),
     (
@@ -167,6 +174,7 @@ const PRINTED: [(Row, &str); 6] = [
         "same packets 1\n",
     ),
     ((Task::Diff, &[CARRY_PCAP, ETHERNET_ALONE]), END_LINES),
+    ((Task::Digest, &[CARRY_PCAP, HEADER_ONLY]), DIGEST_LINES),
     ((Task::Info, &[RUNS_BACK, OPTIONS_PCAPNG]), FILE_LINES),
     ((Task::Report, &[TAGGED_FRAMES]), TAGGED_REPORT),
 ];

@@ -7,10 +7,11 @@ use cap_line::{
 };
 use cap_source::Format;
 
-const TASKS: [(&str, Option<Task>); 11] = [
+const TASKS: [(&str, Option<Task>); 12] = [
     ("list", Some(Task::List)),
     ("blocks", Some(Task::Blocks)),
     ("diff", Some(Task::Diff)),
+    ("digest", Some(Task::Digest)),
     ("info", Some(Task::Info)),
     ("report", Some(Task::Report)),
     ("convert", Some(Task::Convert)),
@@ -36,7 +37,7 @@ const FORMATS: [(Option<&str>, Option<Format>); 4] = [
 ];
 
 // Tasks with a number of files, a format and an output, and whether that is all that they take.
-const WHOLE: [(Task, usize, Option<Format>, Option<&str>, bool); 15] = [
+const WHOLE: [(Task, usize, Option<Format>, Option<&str>, bool); 16] = [
     (Task::List, 1, None, None, true),
     (Task::List, 2, None, None, false),
     (Task::Blocks, 1, None, None, true),
@@ -44,6 +45,7 @@ const WHOLE: [(Task, usize, Option<Format>, Option<&str>, bool); 15] = [
     (Task::Diff, 1, None, None, false),
     (Task::Diff, 2, None, None, true),
     (Task::Diff, 3, None, None, false),
+    (Task::Digest, 32, None, None, true),
     (Task::Info, 32, None, None, true),
     (Task::Report, 2, None, None, true),
     (Task::Convert, 1, Some(Format::Pcap), Some("-"), true),
@@ -122,7 +124,7 @@ fn bytes_shown_are_a_number(rt: HostRuntime) {
 }
 
 // Tasks, whether JSON Lines are asked for, how many bytes, and whether the task can show that.
-const SHOWN: [(Task, bool, Option<u32>, bool); 12] = [
+const SHOWN: [(Task, bool, Option<u32>, bool); 14] = [
     (Task::List, false, None, true),
     (Task::List, true, None, true),
     (Task::List, true, Some(0), true),
@@ -131,6 +133,8 @@ const SHOWN: [(Task, bool, Option<u32>, bool); 12] = [
     (Task::Blocks, true, Some(16), false),
     (Task::Diff, true, None, true),
     (Task::Diff, true, Some(16), false),
+    (Task::Digest, true, None, true),
+    (Task::Digest, true, Some(16), false),
     (Task::Info, true, None, true),
     (Task::Report, true, Some(16), false),
     (Task::Merge, false, None, true),

@@ -26,11 +26,11 @@ rest-piece piece behind = ap (λ l. l ++ codes "\"}\n") (encoded-append lower_di
     ∙ append_assoc (encode_lower piece) (encode_lower behind) (codes "\"}\n")
 
 -- some parts of a text, one after the other, and then the rest
-abbrev joined : List (List ℕ) → List ℕ → List ℕ
+abbrev pub joined : List (List ℕ) → List ℕ → List ℕ
 joined [] rest = rest
 joined (part ∷ parts) rest = part ++ joined parts rest
 
-joined-more : (parts : List (List ℕ)) (rest more : List ℕ) → joined parts (rest ++ more) ≡ joined parts rest ++ more
+pub joined-more : (parts : List (List ℕ)) (rest more : List ℕ) → joined parts (rest ++ more) ≡ joined parts rest ++ more
 joined-more [] rest more = refl
 joined-more (part ∷ parts) rest more = ap (λ l. part ++ l) (joined-more parts rest more)
     ∙ sym (append_assoc part (joined parts rest) more)

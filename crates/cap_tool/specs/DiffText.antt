@@ -8,13 +8,16 @@ use Rattle.cap_bytes.specs.declared.faults.Fault.{Fault}
 use Rattle.cap_bytes.specs.declared.faults.Fault.TheVariants.{Refused, Read, Write, Memory}
 use Rattle.cap_bytes.specs.declared.faults.Refusal.{Refusal}
 use Rattle.cap_bytes.specs.declared.faults.Tail.{Tail}
+use Rattle.cap_print.specs.Facts.{fields_json, line_in, number, one}
+use Rattle.cap_print.specs.declared.forms.Form.{Form}
+use Rattle.cap_print.specs.declared.forms.Form.TheVariants.{Json, Text}
 use Rattle.cap_source.specs.Feed.{Item, packet, refused}
 use Rattle.cap_source.specs.Items.{file_items}
 use Rattle.cap_source.specs.Times.{meta_time}
 use Rattle.cap_source.specs.declared.packets.Meta.{Meta}
 use Rattle.cap_time.specs.Stamp.{stamp_eq}
 use Rattle.cap_time.specs.declared.stamps.Stamp.{Stamp}
-use Rattle.cap_tool.specs.ListText.{packet_text}
+use Rattle.cap_tool.specs.ListText.{packet_facts, packet_text}
 use Rattle.cap_tool.specs.declared.diff.Differences.{Differences}
 
 -- A packet with its captured bytes.
@@ -69,34 +72,71 @@ compared n [] (packet other bytes ∷ ys) = other_packet (n + 1) None (Some (rec
 abbrev pub comparison_of : Tail → List ℕ → List ℕ → Comparison
 comparison_of tail first second = compared 0 (file_items tail 1 first) (file_items tail 2 second)
 
+-- the words of which that is so
+unfoldable pub chosen : List (Bool × List ℕ) → List (List ℕ)
+chosen [] = []
+chosen (word ∷ words) = if word.0 then word.1 ∷ chosen words else chosen words
+
 -- the words of what differs, in this order
-abbrev pub words_of : Differences → List ℕ
-words_of it =
-    (if it.link then codes " link" else []) ++ (if it.time then codes " time" else [])
-    ++ (if it.captured then codes " captured" else []) ++ (if it.original then codes " original" else [])
-    ++ (if it.bytes then codes " data" else [])
+abbrev pub words_of : Differences → List (List ℕ)
+words_of it = chosen
+    ((it.link, codes "link") ∷ (it.time, codes "time") ∷ (it.captured, codes "captured")
+    ∷ (it.original, codes "original") ∷ (it.bytes, codes "data") ∷ [])
 
--- what is said of two packets that differ, and of one whose counterpart is missing
-abbrev pub difference_words : Option Compared → Option Compared → List ℕ
+-- in what two packets differ; of one whose counterpart is missing, that the other file has ended
+abbrev pub difference_words : Option Compared → Option Compared → List (List ℕ)
 difference_words (Some a) (Some b) = words_of (differences_of a b)
-difference_words (Some a) None = codes " end"
-difference_words None other = codes " end"
+difference_words (Some a) None = codes "end" ∷ []
+difference_words None other = codes "end" ∷ []
 
--- the line of a packet as `list` prints it, or that there is none
-abbrev pub side_text : ℕ → Option Compared → List ℕ
-side_text n None = codes "end\n"
-side_text n (Some a) = packet_text n a.meta a.frame
+-- words in text, each after a blank
+abbrev pub spaced : List (List ℕ) → List ℕ
+spaced [] = []
+spaced (word ∷ words) = codes " " ++ word ++ spaced words
 
--- the first line of a difference, at the packet of that number
-abbrev pub difference_line : ℕ → Option Compared → Option Compared → List ℕ
-difference_line n a b = codes "differ packet " ++ decimal n ++ difference_words a b ++ codes "\n"
+-- words in JSON, as strings with commas between them
+abbrev pub quoted : List (List ℕ) → List ℕ
+quoted [] = []
+quoted (word ∷ []) = codes "\"" ++ word ++ codes "\""
+quoted (word ∷ next ∷ words) = codes "\"" ++ word ++ codes "\"," ++ quoted (next ∷ words)
 
--- what is printed of a comparison
-abbrev pub diff_text : Comparison → List ℕ
-diff_text (same_packets n) = codes "same packets " ++ decimal n ++ codes "\n"
-diff_text (other_packet n a b) = difference_line n a b
-    ++ ((codes "- " ++ side_text n a) ++ (codes "+ " ++ side_text n b))
-diff_text (stopped_by refusal) = []
+-- the line of two captures with the same packets, so many, in a form
+abbrev pub same_line : Form → ℕ → List ℕ
+same_line form n = line_in form (record {
+  kind = codes "same";
+  fields = one (record { label = codes " packets "; key = codes "packets"; value = number n }) ∷ [];
+})
+
+-- the first line of a difference in a form, at the packet of that number, with these words
+abbrev pub difference_line : Form → ℕ → List (List ℕ) → List ℕ
+difference_line Text n words = codes "differ packet " ++ decimal n ++ spaced words ++ codes "\n"
+difference_line Json n words =
+    codes "{\"type\":\"differ\",\"packet\":" ++ decimal n ++ codes ",\"differs\":[" ++ quoted words ++ codes "]}\n"
+
+-- what stands before a packet in a form, by the sign of its file
+abbrev pub before_side : Form → List ℕ → List ℕ
+before_side Text sign = sign ++ codes " "
+before_side Json sign = codes "{\"type\":\"side\",\"side\":\"" ++ sign ++ codes "\",\"packet\":"
+
+-- the packet of that number as the object that `list --json` prints, with at most 16 of its bytes, and then the rest of
+-- its line
+abbrev pub packet_object : ℕ → Compared → List ℕ → List ℕ
+packet_object n a rest =
+    codes "{\"type\":\"packet\"" ++ fields_json (packet_facts 16 n a.meta a.frame).fields (codes "}" ++ rest)
+
+-- a packet in a form and the end of its line, in text the line that `list` prints; or that there is none
+abbrev pub side_in : Form → ℕ → Option Compared → List ℕ
+side_in Text n None = codes "end\n"
+side_in Text n (Some a) = packet_text n a.meta a.frame
+side_in Json n None = codes "null}\n"
+side_in Json n (Some a) = packet_object n a (codes "}\n")
+
+-- what is printed of a comparison in a form
+abbrev pub diff_text_in : Form → Comparison → List ℕ
+diff_text_in form (same_packets n) = same_line form n
+diff_text_in form (other_packet n a b) = difference_line form n (difference_words a b)
+    ++ ((before_side form (codes "-") ++ side_in form n a) ++ (before_side form (codes "+") ++ side_in form n b))
+diff_text_in form (stopped_by refusal) = []
 
 -- the refusal that is answered
 abbrev pub diff_refusal : Comparison → Option Refusal
@@ -110,11 +150,11 @@ is_same (same_packets n) = true
 is_same (other_packet n a b) = false
 is_same (stopped_by refusal) = false
 
--- The comparison is printed, and answered; or a refusal is answered, and nothing is printed then, nor if a read failed
+-- The comparison is printed in a form, and answered; or a refusal is answered, and nothing is printed then, nor if a read failed
 -- or a growth was refused. If the writer failed, a prefix is printed.
-abbrev pub TellsDiff : Comparison → List ℕ → Result Bool Fault → List ℕ → Type 0
-TellsDiff c old (Ok so) new = (diff_refusal c ≡ None) × (so ≡ is_same c) × (new ≡ old ++ diff_text c)
-TellsDiff c old (Err (Refused r)) new = (diff_refusal c ≡ Some r) × (new ≡ old)
-TellsDiff c old (Err (Read file offset)) new = new ≡ old
-TellsDiff c old (Err Write) new = (diff_refusal c ≡ None) × PrintsFront (diff_text c) old new
-TellsDiff c old (Err Memory) new = new ≡ old
+abbrev pub TellsDiff : Form → Comparison → List ℕ → Result Bool Fault → List ℕ → Type 0
+TellsDiff form c old (Ok so) new = (diff_refusal c ≡ None) × (so ≡ is_same c) × (new ≡ old ++ diff_text_in form c)
+TellsDiff form c old (Err (Refused r)) new = (diff_refusal c ≡ Some r) × (new ≡ old)
+TellsDiff form c old (Err (Read file offset)) new = new ≡ old
+TellsDiff form c old (Err Write) new = (diff_refusal c ≡ None) × PrintsFront (diff_text_in form c) old new
+TellsDiff form c old (Err Memory) new = new ≡ old

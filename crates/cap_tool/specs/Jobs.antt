@@ -19,7 +19,7 @@ use Rattle.cap_talks.specs.talks.ReportText.{report_refusal, report_text_in}
 use Rattle.cap_talks.specs.talks.Telling.{Tells}
 use Rattle.cap_tool.specs.BlockText.{block_list, block_list_json, block_refusal}
 use Rattle.cap_tool.specs.Converted.{convert_refusal, convert_text}
-use Rattle.cap_tool.specs.DiffText.{Comparison, comparison_of, diff_refusal, diff_text, is_same}
+use Rattle.cap_tool.specs.DiffText.{Comparison, comparison_of, diff_refusal, diff_text_in, is_same}
 use Rattle.cap_tool.specs.DigestsText.{digests_text}
 use Rattle.cap_tool.specs.JoinText.{join_refusal_in, join_text_in}
 use Rattle.cap_tool.specs.ListText.{list_json, list_refusal, list_text}
@@ -73,9 +73,10 @@ DoesTask tasks.List tail form shown order to files =
     Prints (listed_in form shown tail (only_of files)) (list_refusal tail (only_of files))
 DoesTask tasks.Blocks tail form shown order to files = Prints (blocks_in form tail (only_of files))
     (block_refusal tail (only_of files))
-DoesTask tasks.Diff tail form shown order to files = Tells (diff_text (comparison_in tail files))
+DoesTask tasks.Diff tail form shown order to files = Tells (diff_text_in form (comparison_in tail files))
     (diff_refusal (comparison_in tail files))
-DoesTask tasks.Digest tail form shown order to files = Prints (digests_text form tail files) (first_refusal tail 1 files)
+DoesTask tasks.Digest tail form shown order to files =
+    Prints (digests_text form tail files) (first_refusal tail 1 files)
 DoesTask tasks.Info tail form shown order to files = Tells (info_text_in form tail files) (first_refusal tail 1 files)
 DoesTask tasks.Report tail form shown order to files =
     Tells (report_text_in form (length files) (endings_of_files tail files) (clocked_run tail files))

@@ -1,5 +1,6 @@
 pub mod BlockWalk
 pub mod DiffWalk
+pub mod DiffWords
 pub mod FileText
 pub mod PacketJson
 pub mod RanBack

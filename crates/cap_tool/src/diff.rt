@@ -1,21 +1,23 @@
 //! `capt diff`: whether two captures have the same packets.
-ghost use Rattle.std.specs.Prelude.{◌≡◌, ◌+◌, ◌≤◌, ◌++◌, ◌∷◌, ◌^◌, [], false, length, codes, decimal, None, Some};
+ghost use Rattle.std.specs.Prelude.{◌≡◌, ℕ, ◌+◌, ◌≤◌, ◌++◌, ◌∷◌, ◌^◌, [], false, codes, None, Some};
 ghost use Rattle.std.specs.Prelude.{IsSome, IsTrue};
-ghost use Rattle.std.specs.Prelude.{IfOk, IsOkUnless, is_none, ◌&&◌, if◌then◌else◌};
+ghost use Rattle.std.specs.Prelude.{IfOk, IsOkUnless, is_none, ◌&&◌};
 ghost use Rattle.cap_bytes.specs.Device.{WriterKeeps, writer_of};
 ghost use Rattle.cap_bytes.specs.Printing.{Prints, is_write};
-ghost use Rattle.cap_print.specs.Lines.{room_in, text_in};
+ghost use Rattle.cap_print.specs.Lines.{text_in};
+ghost use Rattle.cap_print.specs.declared.forms.Form.TheVariants.{Text};
 ghost use Rattle.cap_source.specs.Feed.{IsPacket};
 ghost use Rattle.cap_source.specs.ReadFaults.{FailsOf};
 ghost use Rattle.cap_source.specs.Times.{meta_time};
-ghost use Rattle.cap_tool.specs.DiffText.{TellsDiff, comparison_of, diff_text, difference_line, differences_of};
-ghost use Rattle.cap_tool.specs.DiffText.{do_differ, other_packet, side_text};
-ghost use Rattle.cap_tool.specs.DiffText.{compared, is_same, is_same_time, words_of};
+ghost use Rattle.cap_tool.specs.DiffText.{TellsDiff, before_side, compared, comparison_of, diff_text_in};
+ghost use Rattle.cap_tool.specs.DiffText.{difference_line, difference_words, differences_of, do_differ, is_same};
+ghost use Rattle.cap_tool.specs.DiffText.{is_same_time, other_packet, side_in};
 ghost use Rattle.cap_tool.specs.inner.DiffWalk.{FailsOne, KnowsPackets, Parts, are_alike, compared_of, parted};
 
-use crate::lines::write_packet;
+use crate::diff_lines::{before_first, before_second, differ_line, end_line, same_line};
+use crate::lines::{write_packet, write_packet_object};
 use cap_bytes::{Fault, Sink, Source, Tail, put_all};
-use cap_print::Line;
+use cap_print::{Form, Line};
 use cap_source::{Capture, Meta, PacketFeed, next_packet};
 use cap_time::Stamp;
 use std::alloc::Global;
@@ -67,52 +69,6 @@ fn do_differ(it: Differences) -> bool
     ensures { result ≡ do_differ it }
 {
     it.link || it.time || it.captured || it.original || it.bytes
-}
-
-// Puts a word if that is so.
-fn prepend_if(line: &mut Line, is_so: bool, word: &[u8])
-    requires { length word.now ≤ room_in line.old }
-    ensures text { text_in line.new ≡ (if is_so then word.now else []) ++ text_in line.old }
-    ensures room { room_in line.old ≤ room_in line.new + length word.now }
-{
-    if is_so {
-        line.prepend_text(word);
-    }
-}
-
-// `differ packet N WORDS`
-fn differ_line(n: u64, it: Differences) -> Line
-    ensures { text_in result ≡ codes "differ packet " ++ decimal n ++ words_of it ++ codes "\n" }
-{
-    let mut line = Line::new();
-    line.prepend_text(b"\n");
-    prepend_if(&mut line, it.bytes, b" data");
-    prepend_if(&mut line, it.original, b" original");
-    prepend_if(&mut line, it.captured, b" captured");
-    prepend_if(&mut line, it.time, b" time");
-    prepend_if(&mut line, it.link, b" link");
-    line.prepend_field(b"differ packet ", n);
-    line
-}
-
-// `differ packet N end`
-fn end_line(n: u64) -> Line
-    ensures { text_in result ≡ codes "differ packet " ++ decimal n ++ codes " end" ++ codes "\n" }
-{
-    let mut line = Line::new();
-    line.prepend_text(b" end\n");
-    line.prepend_field(b"differ packet ", n);
-    line
-}
-
-// `same packets N`
-fn same_line(n: u64) -> Line
-    ensures { text_in result ≡ codes "same packets " ++ decimal n ++ codes "\n" }
-{
-    let mut line = Line::new();
-    line.prepend_text(b"\n");
-    line.prepend_field(b"same packets ", n);
-    line
 }
 
 // Where two feeds are no longer the same: after how many packets, and which packet each of them has there.
@@ -167,17 +123,39 @@ fn part<F: PacketFeed>(first: &mut F, second: &mut F) -> Result<Parting, Fault>
     }
 }
 
-// The line of a packet that comes next as `list` prints it, or that there is none.
-fn side_line<F: PacketFeed>(n: u64, packet: Option<Meta>, feed: &F) -> Line
-    requires packet { IsSome packet → IsPacket (F.feed feed.now).known }
-    ensures { text_in result ≡ side_text n (compared_of packet (F.feed feed.now).frame) }
+// The line of a packet with these bytes in a form.
+fn packet_line(form: Form, n: u64, meta: &Meta, frame: &[u8]) -> Line
+    ensures { text_in result ≡ side_in form n (Some (record { meta = meta.now; frame = frame.now })) }
 {
     let mut line = Line::new();
-    match packet {
-        None => line.prepend_text(b"end\n"),
-        Some(meta) => write_packet(&mut line, n, &meta, feed.frame()),
+    match form {
+        Form::Text => write_packet(&mut line, n, meta, frame),
+        Form::Json => write_packet_object(&mut line, n, meta, frame),
     }
     line
+}
+
+// The line in a form that there is no packet.
+fn no_packet_line(form: Form) -> Line
+    ensures { (n : ℕ) → text_in result ≡ side_in form n None }
+{
+    let mut line = Line::new();
+    line.prepend_text(match form {
+        Form::Text => b"end\n",
+        Form::Json => b"null}\n",
+    });
+    line
+}
+
+// The line of a packet that comes next in a form, or that there is none.
+fn side_line<F: PacketFeed>(form: Form, n: u64, packet: Option<Meta>, feed: &F) -> Line
+    requires packet { IsSome packet → IsPacket (F.feed feed.now).known }
+    ensures { text_in result ≡ side_in form n (compared_of packet (F.feed feed.now).frame) }
+{
+    match packet {
+        None => no_packet_line(form),
+        Some(meta) => packet_line(form, n, &meta, feed.frame()),
+    }
 }
 
 // Writes a line.
@@ -190,29 +168,32 @@ fn put_line<W: Sink>(writer: &mut W, line: &Line) -> Result<(), Fault>
     put_all(writer, line.as_slice())
 }
 
-// Writes one side of a difference: a sign, and the line of the packet that comes next, or that there is none.
+// Writes one side of a difference in a form: what stands before it, and the packet that comes next, or that there is
+// none.
 fn put_side<F: PacketFeed, W: Sink>(
     writer: &mut W,
-    sign: &[u8],
+    form: Form,
+    before: &[u8],
     n: u64,
     packet: Option<Meta>,
     feed: &F,
 ) -> Result<(), Fault>
     requires packet { IsSome packet → IsPacket (F.feed feed.now).known }
     ensures text { IsTrue (W.tells_held writer.old)
-        → Prints (sign.now ++ side_text n (compared_of packet (F.feed feed.now).frame)) None (W.held writer.old) result
-        (W.held writer.new) }
+        → Prints (before.now ++ side_in form n (compared_of packet (F.feed feed.now).frame)) None (W.held writer.old)
+        result (W.held writer.new) }
     ensures writer { WriterKeeps (writer_of W.Sink writer.old) (is_write result) (writer_of W.Sink writer.new) }
     ensures fault { IsOkUnless result Fault.Write }
 {
-    put_all(writer, sign)?;
-    let line = side_line(n, packet, feed);
+    put_all(writer, before)?;
+    let line = side_line(form, n, packet, feed);
     put_line(writer, &line)
 }
 
-// Writes both sides.
+// Writes both sides in a form.
 fn put_sides<F: PacketFeed, W: Sink>(
     writer: &mut W,
+    form: Form,
     n: u64,
     parting: &Parting,
     first: &F,
@@ -220,53 +201,57 @@ fn put_sides<F: PacketFeed, W: Sink>(
 ) -> Result<(), Fault>
     requires known { KnowsPackets parting.now (F.feed first.now) (F.feed second.now) }
     ensures text { IsTrue (W.tells_held writer.old)
-        → Prints ((codes "- " ++ side_text n (compared_of parting.now.first (F.feed first.now).frame))
-        ++ (codes "+ " ++ side_text n (compared_of parting.now.second (F.feed second.now).frame))) None
-        (W.held writer.old) result (W.held writer.new) }
-    ensures writer { WriterKeeps (writer_of W.Sink writer.old) (is_write result) (writer_of W.Sink writer.new) }
-    ensures fault { IsOkUnless result Fault.Write }
-{
-    put_side(writer, b"- ", n, parting.first, first)?;
-    put_side(writer, b"+ ", n, parting.second, second)
-}
-
-// The first line of a difference.
-fn head_line<F: PacketFeed>(n: u64, parting: &Parting, first: &F, second: &F) -> Line
-    requires known { KnowsPackets parting.now (F.feed first.now) (F.feed second.now) }
-    ensures { text_in result ≡ difference_line n (compared_of parting.now.first (F.feed first.now).frame)
-        (compared_of parting.now.second (F.feed second.now).frame) }
-{
-    match parting.first {
-        None => end_line(n),
-        Some(one) => match parting.second {
-            None => end_line(n),
-            Some(other) => differ_line(
-                n,
-                differences_of(&one, first.frame(), &other, second.frame()),
-            ),
-        },
-    }
-}
-
-// Writes what is printed of two packets that aren't the same, or of one whose counterpart is missing.
-fn put_difference<F: PacketFeed, W: Sink>(
-    writer: &mut W,
-    n: u64,
-    parting: &Parting,
-    first: &F,
-    second: &F,
-) -> Result<(), Fault>
-    requires known { KnowsPackets parting.now (F.feed first.now) (F.feed second.now) }
-    ensures text { IsTrue (W.tells_held writer.old)
-        → Prints (diff_text (other_packet n (compared_of parting.now.first (F.feed first.now).frame)
+        → Prints ((before_side form (codes "-") ++ side_in form n
+        (compared_of parting.now.first (F.feed first.now).frame))
+        ++ (before_side form (codes "+") ++ side_in form n
         (compared_of parting.now.second (F.feed second.now).frame))) None (W.held writer.old) result
         (W.held writer.new) }
     ensures writer { WriterKeeps (writer_of W.Sink writer.old) (is_write result) (writer_of W.Sink writer.new) }
     ensures fault { IsOkUnless result Fault.Write }
 {
-    let line = head_line(n, parting, first, second);
+    put_side(writer, form, before_first(form), n, parting.first, first)?;
+    put_side(writer, form, before_second(form), n, parting.second, second)
+}
+
+// The first line of a difference in a form.
+fn head_line<F: PacketFeed>(form: Form, n: u64, parting: &Parting, first: &F, second: &F) -> Line
+    requires known { KnowsPackets parting.now (F.feed first.now) (F.feed second.now) }
+    ensures { text_in result ≡ difference_line form n
+        (difference_words (compared_of parting.now.first (F.feed first.now).frame)
+        (compared_of parting.now.second (F.feed second.now).frame)) }
+{
+    match parting.first {
+        None => end_line(form, n),
+        Some(one) => match parting.second {
+            None => end_line(form, n),
+            Some(other) => {
+                let it = differences_of(&one, first.frame(), &other, second.frame());
+                differ_line(form, n, it)
+            }
+        },
+    }
+}
+
+// Writes what is printed in a form of two packets that aren't the same, or of one whose counterpart is missing.
+fn put_difference<F: PacketFeed, W: Sink>(
+    writer: &mut W,
+    form: Form,
+    n: u64,
+    parting: &Parting,
+    first: &F,
+    second: &F,
+) -> Result<(), Fault>
+    requires known { KnowsPackets parting.now (F.feed first.now) (F.feed second.now) }
+    ensures text { IsTrue (W.tells_held writer.old)
+        → Prints (diff_text_in form (other_packet n (compared_of parting.now.first (F.feed first.now).frame)
+        (compared_of parting.now.second (F.feed second.now).frame))) None (W.held writer.old) result
+        (W.held writer.new) }
+    ensures writer { WriterKeeps (writer_of W.Sink writer.old) (is_write result) (writer_of W.Sink writer.new) }
+    ensures fault { IsOkUnless result Fault.Write }
+{
+    let line = head_line(form, n, parting, first, second);
     put_all(writer, line.as_slice())?;
-    put_sides(writer, n, parting, first, second)
+    put_sides(writer, form, n, parting, first, second)
 }
 
 // Whether both have ended.
@@ -276,9 +261,10 @@ fn is_end(parting: &Parting) -> bool
     parting.first.is_none() && parting.second.is_none()
 }
 
-// Writes what is printed where two feeds part, and returns whether they are the same.
+// Writes what is printed in a form where two feeds part, and returns whether they are the same.
 fn put_parting<F: PacketFeed, W: Sink>(
     writer: &mut W,
+    form: Form,
     parting: &Parting,
     first: &F,
     second: &F,
@@ -286,34 +272,36 @@ fn put_parting<F: PacketFeed, W: Sink>(
     requires known { KnowsPackets parting.now (F.feed first.now) (F.feed second.now) }
     requires few { parting.now.passed ≤ 2 ^ 40 }
     ensures text { IsTrue (W.tells_held writer.old)
-        → TellsDiff (parted parting.now.passed (compared_of parting.now.first (F.feed first.now).frame)
+        → TellsDiff form (parted parting.now.passed (compared_of parting.now.first (F.feed first.now).frame)
         (compared_of parting.now.second (F.feed second.now).frame)) (W.held writer.old) result (W.held writer.new) }
     ensures same { IfOk result (λ so. so ≡ (is_none parting.now.first && is_none parting.now.second)) }
     ensures writer { WriterKeeps (writer_of W.Sink writer.old) (is_write result) (writer_of W.Sink writer.new) }
     ensures fault { IsOkUnless result Fault.Write }
 {
     if is_end(parting) {
-        put_line(writer, &same_line(parting.passed))?;
+        put_line(writer, &same_line(form, parting.passed))?;
         return Ok(true);
     }
-    put_difference(writer, parting.passed + 1, parting, first, second)?;
+    put_difference(writer, form, parting.passed + 1, parting, first, second)?;
     Ok(false)
 }
 
-/// Prints whether two capture files, each of either format, have the same packets, in link type, exact time, captured
-/// and original length and captured bytes: `same packets N`, and returns `true`; or, and returns `false`, the number
-/// and the differences of the first packet that isn't the same in both, and its line in each, as `list_to` prints it.
-/// Nothing is printed if a file is refused before that, `Read` or `Memory` returned: `Read` if a read fails, `Memory`
-/// if a growth is refused. After `Write` a prefix is printed.
-pub fn diff_to<R: Source, W: Sink>(
+/// Prints in a form whether two capture files, each of either format, have the same packets, in link type, exact time,
+/// captured and original length and captured bytes: `same packets N`, and returns `true`; or, and returns `false`, the
+/// number and the differences of the first packet that isn't the same in both, and its line in each, as `list_to` prints
+/// it; in JSON three objects, of which the second and the third hold the object that `list_json_to` prints with 16
+/// bytes, or `null`. Nothing is printed if a file is refused before that, `Read` or `Memory` returned: `Read` if a read
+/// fails, `Memory` if a growth is refused. After `Write` a prefix is printed.
+pub fn diff_in<R: Source, W: Sink>(
     alloc: Global,
     first: R,
     second: R,
     tail: Tail,
+    form: Form,
     writer: &mut W,
 ) -> Result<bool, Fault>
     ensures text { IsTrue (R.tells_coming first) → IsTrue (R.tells_coming second) → IsTrue (W.tells_held writer.old)
-        → TellsDiff (comparison_of tail (R.coming first) (R.coming second)) (W.held writer.old) result
+        → TellsDiff form (comparison_of tail (R.coming first) (R.coming second)) (W.held writer.old) result
         (W.held writer.new) }
     ensures same { IsTrue (R.tells_coming first) → IsTrue (R.tells_coming second)
         → IfOk result (λ so. so ≡ is_same (comparison_of tail (R.coming first) (R.coming second))) }
@@ -323,5 +311,24 @@ pub fn diff_to<R: Source, W: Sink>(
     let mut first = Capture::new(alloc, first, 1, tail);
     let mut second = Capture::new(alloc, second, 2, tail);
     let parting = part(&mut first, &mut second)?;
-    put_parting(writer, &parting, &first, &second)
+    put_parting(writer, form, &parting, &first, &second)
+}
+
+/// Does what `diff_in` does, in text.
+pub fn diff_to<R: Source, W: Sink>(
+    alloc: Global,
+    first: R,
+    second: R,
+    tail: Tail,
+    writer: &mut W,
+) -> Result<bool, Fault>
+    ensures text { IsTrue (R.tells_coming first) → IsTrue (R.tells_coming second) → IsTrue (W.tells_held writer.old)
+        → TellsDiff Text (comparison_of tail (R.coming first) (R.coming second)) (W.held writer.old) result
+        (W.held writer.new) }
+    ensures same { IsTrue (R.tells_coming first) → IsTrue (R.tells_coming second)
+        → IfOk result (λ so. so ≡ is_same (comparison_of tail (R.coming first) (R.coming second))) }
+    ensures writer { WriterKeeps (writer_of W.Sink writer.old) (is_write result) (writer_of W.Sink writer.new) }
+    ensures read { FailsOf (R.can_fail first ∷ R.can_fail second ∷ []) result }
+{
+    diff_in(alloc, first, second, tail, Form::Text, writer)
 }

@@ -3,7 +3,7 @@ ghost use Rattle.std.specs.Prelude.{◌≡◌, ◌∷◌, [], IfOk, IsTrue, OnEr
 ghost use Rattle.std.specs.List.{list_all};
 ghost use Rattle.cap_line.specs.Jobs.{IsWholeJob};
 ghost use Rattle.cap_talks.specs.talks.Telling.{Tells};
-ghost use Rattle.cap_tool.specs.DiffText.{comparison_of, diff_refusal, diff_text, is_same};
+ghost use Rattle.cap_tool.specs.DiffText.{comparison_of, diff_refusal, diff_text_in, is_same};
 ghost use Rattle.cap_tool.specs.Jobs.{Does, blocks_in, done_of, finding_by, form_by, format_in, job_finding, listed_in};
 ghost use Rattle.cap_tool.specs.Jobs.{shown_by, tail_of};
 ghost use Rattle.cap_tool.specs.BlockText.{block_refusal};
@@ -16,7 +16,7 @@ ghost use Rattle.cap_source.specs.ReadFaults.{FailsOf};
 
 use crate::blocks::{blocks_json_to, blocks_to};
 use crate::counting::{NOTHING_LEFT, Target, convert_and_count, join_with, merge_with};
-use crate::diff::diff_to;
+use crate::diff::diff_in;
 use crate::digests::digests_to;
 use crate::left::Left;
 use crate::list::{list_json_to, list_to};
@@ -123,17 +123,18 @@ fn finding_of(is_same: bool) -> Finding
     }
 }
 
-// `diff`, and what it finds.
+// `diff` in a form, and what it finds.
 fn compare<R: Source, W: Sink>(
     alloc: Global,
     sources: (R, R),
     tail: Tail,
+    form: Form,
     writer: &mut W,
     finding: &mut Finding,
 ) -> Result<(), Fault>
     ensures text { IsTrue (R.tells_coming sources.0) → IsTrue (R.tells_coming sources.1)
         → IsTrue (W.tells_held writer.old)
-        → Tells (diff_text (comparison_of tail (R.coming sources.0) (R.coming sources.1)))
+        → Tells (diff_text_in form (comparison_of tail (R.coming sources.0) (R.coming sources.1)))
         (diff_refusal (comparison_of tail (R.coming sources.0) (R.coming sources.1))) (W.held writer.old) result
         (W.held writer.new) }
     ensures finding { OnOk result (IsTrue (R.tells_coming sources.0) → IsTrue (R.tells_coming sources.1)
@@ -142,7 +143,7 @@ fn compare<R: Source, W: Sink>(
     ensures read { FailsOf (R.can_fail sources.0 ∷ R.can_fail sources.1 ∷ []) result }
 {
     let (first, second) = sources;
-    match diff_to(alloc, first, second, tail, writer) {
+    match diff_in(alloc, first, second, tail, form, writer) {
         Ok(is_same) => {
             *finding = finding_of(is_same);
             Ok(())
@@ -195,7 +196,7 @@ fn job_with<R: Source, W: Sink>(
             list_in(alloc, only(sources), tail, form, shown, writer)
         }
         Task::Blocks => blocks_in(alloc, only(sources), tail, form, writer),
-        Task::Diff => compare(alloc, pair(sources), tail, writer, finding),
+        Task::Diff => compare(alloc, pair(sources), tail, form, writer, finding),
         Task::Digest => digests_to(alloc, sources, tail, form, writer),
         Task::Info => file_lines_in(alloc, sources, tail, form, writer),
         Task::Report => report_in(alloc, sources, tail, form, writer),

@@ -1,11 +1,12 @@
 //! The lines of packets and blocks.
-ghost use Rattle.std.specs.Prelude.{◌≡◌, ◌+◌, ◌≤◌, ◌++◌, length, option_map, take};
-ghost use Rattle.cap_print.specs.Facts.{bytes_text};
+ghost use Rattle.std.specs.Prelude.{◌≡◌, ◌+◌, ◌≤◌, ◌++◌, codes, length, option_map, take};
+ghost use Rattle.cap_print.specs.Facts.{bytes_text, fields_json};
 ghost use Rattle.cap_print.specs.Lines.{room_in, text_in};
 ghost use Rattle.cap_tool.specs.BlockText.{block_json, block_text, kind_text, order_text};
 ghost use Rattle.cap_tool.specs.inner.PacketJson.{packet_head};
 ghost use Rattle.cap_time.specs.Stamp.{printed_of};
-ghost use Rattle.cap_tool.specs.ListText.{packet_text, printed_in};
+ghost use Rattle.cap_tool.specs.DiffText.{packet_object};
+ghost use Rattle.cap_tool.specs.ListText.{packet_fields, packet_text, printed_in};
 
 use cap_blocks::Block;
 use cap_bytes::Order;
@@ -53,6 +54,20 @@ pub(crate) fn write_packet(line: &mut Line, n: u64, meta: &Meta, bytes: &[u8])
     line.prepend_field(b"packet ", n);
 }
 
+// Puts the packet number n, from 1, in JSON, without its bytes and its end:
+// `{"type":"packet","n":N,"offset":O,"time":T,"captured":C,"original":G,"link":L`.
+fn prepend_packet_fields(line: &mut Line, n: u64, meta: &Meta)
+    requires { 260 ≤ room_in line.old }
+    ensures { text_in line.new ≡ codes "{\"type\":\"packet\"" ++ fields_json (packet_fields n meta.now) (text_in line.old) }
+{
+    line.prepend_field(b",\"link\":", u64::from(meta.interface.link));
+    line.prepend_field(b",\"original\":", u64::from(meta.original));
+    line.prepend_field(b",\"captured\":", u64::from(meta.captured));
+    line.prepend_time_array(b",\"time\":", stamp_of(meta));
+    line.prepend_field(b",\"offset\":", meta.offset);
+    line.prepend_field(b"{\"type\":\"packet\",\"n\":", n);
+}
+
 /// Makes a line the packet number n, from 1, in JSON, up to the digits of its bytes:
 /// `{"type":"packet","n":N,"offset":O,"time":T,"captured":C,"original":G,"link":L,"data":"`.
 pub(crate) fn write_packet_head(line: &mut Line, n: u64, meta: &Meta)
@@ -60,12 +75,20 @@ pub(crate) fn write_packet_head(line: &mut Line, n: u64, meta: &Meta)
 {
     line.clear();
     line.prepend_text(b",\"data\":\"");
-    line.prepend_field(b",\"link\":", u64::from(meta.interface.link));
-    line.prepend_field(b",\"original\":", u64::from(meta.original));
-    line.prepend_field(b",\"captured\":", u64::from(meta.captured));
-    line.prepend_time_array(b",\"time\":", stamp_of(meta));
-    line.prepend_field(b",\"offset\":", meta.offset);
-    line.prepend_field(b"{\"type\":\"packet\",\"n\":", n);
+    prepend_packet_fields(line, n, meta);
+}
+
+/// Makes a line the packet number n, from 1, in JSON, with at most 16 of its bytes, and the end of the object that it
+/// stands in: `{"type":"packet","n":N,"offset":O,"time":T,"captured":C,"original":G,"link":L,"data":"X"}}`.
+pub(crate) fn write_packet_object(line: &mut Line, n: u64, meta: &Meta, bytes: &[u8])
+    ensures { text_in line.new
+        ≡ packet_object n (record { meta = meta.now; frame = bytes.now }) (codes "}\n") }
+{
+    line.clear();
+    line.prepend_text(b"}}\n");
+    let (front, _) = bytes.split_at(min(bytes.len(), 16));
+    line.prepend_hex_string(b",\"data\":", front);
+    prepend_packet_fields(line, n, meta);
 }
 
 // Puts a label and the order of a block's numbers.

@@ -5,11 +5,14 @@ use Rattle.std.specs.Coded.{Coded-set, coded_ℕ, coded_list, coded_option, code
 use Rattle.cap_bytes.specs.contracts.faults.Refusal as refusal
 use Rattle.cap_merge.specs.declared.lanes.Lane.{Lane}
 use Rattle.cap_source.specs.Feed.{Feed}
-use Rattle.cap_merge.specs.Parts.{Part, parts, AreNumberedFeeds, LanesAgree, HasReached, AreBounded, OthersKnown, IsFound}
+use Rattle.cap_merge.specs.Parts.{Part, parts, AreNumberedFeeds, LanesAgree, HasReached, AreBounded, OthersKnown}
+use Rattle.cap_merge.specs.Parts.{IsFound}
 
--- Feeds, of files that are numbered from 1, with a lane for each, which says what it knows to come next and the clock
--- that it has reached; and the place of the one that came first, if that was looked for.
-pub record IsMergeState {F : Type 0} (feed : F → Feed) (lanes : List Lane) (feeds : List F) (front : Option ℕ) : Type 0 where
+-- What a merge always keeps. Its feeds are of files that are numbered from 1, each with a lane that says what it knows
+-- to come next and which clock it has reached. If there is a place, it is that of the feed whose item came first when
+-- that was looked for: only there may it be unknown what comes next.
+pub record IsMergeState {F : Type 0} (feed : F → Feed) (lanes : List Lane) (feeds : List F) (front : Option ℕ)
+    : Type 0 where
   pub alike : length lanes ≡ length feeds
   pub some : 1 ≤ length feeds
   pub most : length feeds ≤ 32

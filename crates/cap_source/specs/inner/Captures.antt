@@ -9,36 +9,41 @@ use Rattle.cap_bytes.specs.declared.faults.Fault.{Fault}
 use Rattle.cap_source.specs.Feed.{Feed}
 use Rattle.cap_source.specs.declared.feeds.Head.{Head}
 use Rattle.cap_source.specs.declared.feeds.Head.TheVariants as heads
-use Rattle.cap_source.specs.inner.FileState.{file_feed, first_by}
+use Rattle.cap_source.specs.inner.FileState.{FileState, file_feed, first_by}
 use Rattle.cap_source.specs.inner.Reached.{progress_of}
 use Rattle.cap_source.specs.inner.Readers.{reader_file_state}
 use Rattle.cap_source.specs.declared.captures.Capture.{Capture}
 
+-- the file, as its reader still gives it
+abbrev pub capture_file : {R : Type 0} {source : Source.Ghosts R} {device : Device.Ghosts R} → Capture R source device
+    → FileState
+capture_file capture = reader_file_state capture.reader (progress_of capture.reached)
+
 -- the file as a feed
 abbrev pub capture_feed : {R : Type 0} {source : Source.Ghosts R} {device : Device.Ghosts R} → Capture R source device
     → Feed
-capture_feed capture = file_feed (reader_file_state capture.reader (progress_of capture.reached)) capture.next
+capture_feed capture = file_feed (capture_file capture) capture.next
 
 -- its first interface, if it stands before what comes next or the end: of instance 0
 abbrev pub capture_first : {R : Type 0} {source : Source.Ghosts R} {device : Device.Ghosts R} → Capture R source device
     → Option Interface
-capture_first capture = first_by capture.next (reader_file_state capture.reader (progress_of capture.reached))
+capture_first capture = first_by capture.next (capture_file capture)
 
 -- its number, which is the one of the feed's files
 abbrev pub capture_number : {R : Type 0} {source : Source.Ghosts R} {device : Device.Ghosts R}
     → Capture R source device → ℕ
-capture_number capture = (reader_file_state capture.reader (progress_of capture.reached)).file
+capture_number capture = (capture_file capture).file
 
 -- how far it was read
 abbrev pub position_of : {R : Type 0} {source : Source.Ghosts R} {device : Device.Ghosts R}
     → Capture R source device → Position
 position_of capture =
     record {
-      offset = (reader_file_state capture.reader (progress_of capture.reached)).offset;
-      read = (reader_file_state capture.reader (progress_of capture.reached)).read;
-      most = (reader_file_state capture.reader (progress_of capture.reached)).most;
-      told = (reader_file_state capture.reader (progress_of capture.reached)).told;
-      broken = (reader_file_state capture.reader (progress_of capture.reached)).broken;
+      offset = (capture_file capture).offset;
+      read = (capture_file capture).read;
+      most = (capture_file capture).most;
+      told = (capture_file capture).told;
+      broken = (capture_file capture).broken;
     }
 
 -- of which nothing was read

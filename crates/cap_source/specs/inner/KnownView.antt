@@ -1,19 +1,16 @@
 -- What the fields of a `Known` say comes next of a file.
-use Rattle.std.specs.Prelude.{ℕ, Option, Some, None}
-use Rattle.cap_bytes.specs.declared.faults.Refusal.{Refusal}
-use Rattle.cap_source.specs.declared.feeds.FileEnd.{FileEnd}
+use Rattle.std.specs.Prelude.{◌≡◌, ℕ, Bool, true, false, Option, Some, None}
 use Rattle.cap_source.specs.declared.packets.Meta.{Meta}
-use Rattle.cap_source.specs.declared.known.Kind.{Kind}
-use Rattle.cap_source.specs.declared.known.Kind.TheVariants as kinds
-use Rattle.cap_source.specs.declared.known.Known.TheInside.{Inside}
 use Rattle.cap_source.specs.declared.readers.Next.{Next}
 use Rattle.cap_source.specs.declared.readers.Next.TheVariants as nexts
+use Rattle.cap_source.specs.inner.FileState.{is_packet}
 
-abbrev pub known_by : Kind → ℕ → Meta → Refusal → FileEnd → Option Next
-known_by kinds.Unknown place meta refusal ending = None
-known_by kinds.Packet place meta refusal ending = Some (nexts.Packet meta place)
-known_by kinds.Refused place meta refusal ending = Some (nexts.Refused refusal ending)
-known_by kinds.End place meta refusal ending = Some (nexts.End ending)
+-- a packet, by its own fields, or what is kept of a refusal or the end
+abbrev pub known_by : Bool → ℕ → Meta → Option Next → Option Next
+known_by true place meta last = Some (nexts.Packet meta place)
+known_by false place meta last = last
 
-abbrev pub known_view : Inside → Option Next
-known_view k = known_by k.kind k.place k.meta k.refusal k.ending
+-- Nothing else comes next than a packet that does, and no packet is kept but by its own fields.
+abbrev pub IsKeptNext : Bool → Option Next → Type 0
+IsKeptNext true last = last ≡ None
+IsKeptNext false last = is_packet last ≡ false

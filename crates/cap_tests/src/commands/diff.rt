@@ -5,7 +5,8 @@ use crate::checks::same;
 use crate::files::{reader_of, room_of};
 use crate::hex_vectors::{CARRY_PCAP, CARRY_PCAPNG, CUT_PCAP, ETHERNET, File};
 use cap_bytes::{Fault, Refusal, Rule, Tail};
-use cap_tool::diff_to;
+use cap_print::Form;
+use cap_tool::{diff_in, diff_to};
 use std::alloc::Global;
 use std::process::Abort;
 
@@ -77,6 +78,71 @@ const COMPARED: [Row; 11] = [
     (CARRY_PCAP, CUT_PCAP, "", Err((2, 24, Rule::Cut))),
     (CUT_PCAP, CUT_PCAP, "", Err((1, 24, Rule::Cut))),
 ];
+
+// Two files, and what is printed of them in JSON.
+const OBJECTS: [(File, File, &str, bool); 5] = [
+    (
+        CARRY_PCAP,
+        CARRY_PCAPNG,
+        "{\"type\":\"same\",\"packets\":1}\n",
+        true,
+    ),
+    (
+        CARRY_PCAP,
+        LATER,
+        "{\"type\":\"differ\",\"packet\":1,\"differs\":[\"time\"]}\n\
+        {\"type\":\"side\",\"side\":\"-\",\"packet\":{\"type\":\"packet\",\"n\":1,\"offset\":24,\
+        \"time\":[2,500000,1000000],\"captured\":4,\"original\":4,\"link\":1,\"data\":\"01020304\"}}\n\
+        {\"type\":\"side\",\"side\":\"+\",\"packet\":{\"type\":\"packet\",\"n\":1,\"offset\":24,\
+        \"time\":[2,500001,1000000],\"captured\":4,\"original\":4,\"link\":1,\"data\":\"01020304\"}}\n",
+        false,
+    ),
+    (
+        LONGER,
+        CARRY_PCAP,
+        "{\"type\":\"differ\",\"packet\":1,\"differs\":[\"captured\",\"original\",\"data\"]}\n\
+        {\"type\":\"side\",\"side\":\"-\",\"packet\":{\"type\":\"packet\",\"n\":1,\"offset\":24,\
+        \"time\":[2,500000,1000000],\"captured\":5,\"original\":6,\"link\":1,\"data\":\"0102030405\"}}\n\
+        {\"type\":\"side\",\"side\":\"+\",\"packet\":{\"type\":\"packet\",\"n\":1,\"offset\":24,\
+        \"time\":[2,500000,1000000],\"captured\":4,\"original\":4,\"link\":1,\"data\":\"01020304\"}}\n",
+        false,
+    ),
+    (
+        TWICE,
+        CARRY_PCAPNG,
+        "{\"type\":\"differ\",\"packet\":2,\"differs\":[\"end\"]}\n\
+        {\"type\":\"side\",\"side\":\"-\",\"packet\":{\"type\":\"packet\",\"n\":2,\"offset\":44,\
+        \"time\":[2,500000,1000000],\"captured\":4,\"original\":4,\"link\":1,\"data\":\"01020304\"}}\n\
+        {\"type\":\"side\",\"side\":\"+\",\"packet\":null}\n",
+        false,
+    ),
+    (
+        &[ETHERNET],
+        CARRY_PCAP,
+        "{\"type\":\"differ\",\"packet\":1,\"differs\":[\"end\"]}\n\
+        {\"type\":\"side\",\"side\":\"-\",\"packet\":null}\n\
+        {\"type\":\"side\",\"side\":\"+\",\"packet\":{\"type\":\"packet\",\"n\":1,\"offset\":24,\
+        \"time\":[2,500000,1000000],\"captured\":4,\"original\":4,\"link\":1,\"data\":\"01020304\"}}\n",
+        false,
+    ),
+];
+
+// What is printed in JSON and returned of two files.
+fn is_object(rt: &impl Abort, alloc: Global, row: &(File, File, &str, bool)) {
+    let (first, second, text, is_same) = *row;
+    let mut writer = room_of(rt, alloc, 1024);
+    let one = reader_of(rt, alloc, first, 4096);
+    let other = reader_of(rt, alloc, second, 4096);
+    let answer = diff_in(alloc, one, other, Tail::Refuse, Form::Json, &mut writer);
+    same!(rt; (answer, writer.bytes()), (Ok(is_same), text.as_bytes()));
+}
+
+#[test]
+fn always_memory_captures_are_compared_in_json(rt: HostRuntime) {
+    for row in &OBJECTS {
+        is_object(&rt, rt.alloc(), row);
+    }
+}
 
 fn answer_of(wanted: Result<bool, (u32, u64, Rule)>) -> Result<bool, Fault> {
     match wanted {

@@ -21,6 +21,9 @@ const ENDED: &str = "differ packet 1 end\n\
     - packet 1 offset 24 time 2+500000/1000000 captured 4 original 4 link 1 data 01020304\n\
     + end\n";
 
+const DIGEST: &str = "digest 1 sha256 \
+    ae7312267c797be18247384507fd1956f2af9397397bd84f72a62298f1352b4e packets 1\n";
+
 const INFO: &str = "files 1\n\
     file 1 pcap packets 1 bytes 4 truncated 0 skipped 0 first 2+500000/1000000 last 2+500000/1000000\n";
 
@@ -34,7 +37,7 @@ const REPORT: &str = "files 1\n\
 // A task, whether a cut end is dropped, the capture, in hex, and what is printed.
 type Printed = (Task, bool, &'static str, &'static str);
 
-const PRINTED: [Printed; 5] = [
+const PRINTED: [Printed; 6] = [
     (Task::List, false, CARRY_PCAP, LINE),
     (Task::List, true, CUT_PCAP, ""),
     (
@@ -43,6 +46,7 @@ const PRINTED: [Printed; 5] = [
         SECTION,
         "block 1 offset 0 order little kind 0a0d0d0a total 28\n",
     ),
+    (Task::Digest, false, CARRY_PCAP, DIGEST),
     (Task::Info, false, CARRY_PCAP, INFO),
     (Task::Report, false, CARRY_PCAP, REPORT),
 ];
@@ -245,6 +249,7 @@ fn leaves(rt: &impl Abort, alloc: Global, task: Task, skipped: u128) {
 #[test]
 fn always_memory_a_job_counts_what_it_leaves(rt: HostRuntime) {
     for (task, skipped) in [
+        (Task::Digest, 0),
         (Task::Info, 0),
         (Task::Report, 0),
         (Task::Merge, 2),

@@ -50,18 +50,6 @@ pub returns-in-Err-Refused-clause-keeps : goal.returns-in-Err-Refused-clause-kee
 returns-in-Err-Refused-clause-keeps g c =
     λ p. pcap_keeps c.args.reader.now c.next_record.new.self p c.in-Err-Refused.ensures.keeps
 
-pub returns-in-Err-Read-clause-keeps : goal.returns-in-Err-Read-clause-keeps
-returns-in-Err-Read-clause-keeps g c =
-    λ p. pcap_keeps c.args.reader.now c.next_record.new.self p c.in-Err-Read.ensures.keeps
-
-pub returns-in-Err-Write-clause-keeps : goal.returns-in-Err-Write-clause-keeps
-returns-in-Err-Write-clause-keeps g c =
-    λ p. pcap_keeps c.args.reader.now c.next_record.new.self p c.in-Err-Write.ensures.keeps
-
-pub returns-in-Err-Memory-clause-keeps : goal.returns-in-Err-Memory-clause-keeps
-returns-in-Err-Memory-clause-keeps g c =
-    λ p. pcap_keeps c.args.reader.now c.next_record.new.self p c.in-Err-Memory.ensures.keeps
-
 pub returns-in-Ok-Some-clause-reaches : goal.returns-in-Ok-Some-clause-reaches
 returns-in-Ok-Some-clause-reaches g c = λ progress.
     let e = rw c.in-Ok-Some.field-0-is at c.in-Ok-Some.ensures in

@@ -1,4 +1,4 @@
-use Rattle.std.proofs.Common.{◌∙◌, Err, arith, sym, ap, not}
+use Rattle.std.proofs.Common.{arith}
 use Rattle.std.proofs.lemmas.Result.{err_from_is_err_and}
 use Rattle.cap_tool.proofs.Parting.{Matched-none, Matched-next, Parts-first, Parts-second, Parts-parted}
 use Rattle.cap_tool.proofs.Parting.{Fails-first, Fails-second}

@@ -1,4 +1,3 @@
-use Rattle.std.proofs.Common.{◌≡◌}
 use Rattle.cap_tool.proofs.Parting.{Prints-line}
 use Rattle.cap_tool.proofs.diff.put_line.Goals as goal
 

@@ -1,7 +1,7 @@
 use Rattle.std.proofs.Common.{None}
 use Rattle.std.proofs.lemmas.Result.{err_from_is_err_and}
 use Rattle.cap_bytes.proofs.Putting.{Prints-head, Prints-behind}
-use Rattle.cap_tool.specs.DiffText.{side_text}
+use Rattle.cap_tool.specs.DiffText.{side_in}
 use Rattle.cap_tool.specs.inner.DiffWalk.{compared_of}
 use Rattle.cap_tool.proofs.diff.put_side.Goals as goal
 
@@ -14,7 +14,7 @@ returns-in_err-put_all-clause-text g c = λ w.
 
 pub returns-clause-text : goal.returns-clause-text
 returns-clause-text g c = λ w.
-    let side = side_text c.args.n (compared_of c.args.packet (g.F.PacketFeed.feed c.args.feed.now).frame) in
+    let side = side_in c.args.form c.args.n (compared_of c.args.packet (g.F.PacketFeed.feed c.args.feed.now).frame) in
     Prints-behind None (g.W.Sink.held c.args.writer.now) (g.W.Sink.held c.put_all.new.writer)
-    (g.W.Sink.held c.put_line.new.writer) c.args.sign.now side c.put_line.result (c.in_ok-put_all.ensures.bytes w)
+    (g.W.Sink.held c.put_line.new.writer) c.args.before.now side c.put_line.result (c.in_ok-put_all.ensures.bytes w)
     (rw c.side_line-line.ensures at (c.put_line.ensures.text (c.in_ok-put_all.ensures.writer.told w)))

@@ -1,5 +1,4 @@
-use Rattle.std.proofs.Common.{◌≡◌, ◌+◌, ◌<◌, ◌≤◌, ◌^◌, ◌++◌, [], ◌∷◌, length, map, Ok, Err, ap, sym, subst, ◌∙◌, ℕ, arith, rules}
-use Rattle.std.proofs.Common.{length-append}
+use Rattle.std.proofs.Common.{[], ◌∷◌, length, map, Ok, Err, subst, ◌∙◌, ℕ, arith, rules, length-append}
 use Rattle.std.proofs.lemmas.Iterator.Adapters.{YieldsList-from_vec}
 use Rattle.std.proofs.lemmas.Iterator.Consumers.{YieldsList-turn, YieldsList-end}
 use Rattle.std.proofs.lemmas.List.{length-map}
@@ -82,7 +81,8 @@ loop-source-preserved g c =
           rw longer
           (printed-more g.R.Source.coming c.args.form c.args.tail c.args.sources.items (length seen) x _ _ _
           turn.1 turn.0 (i.printed t w)
-          (λ m. subst (λ (file : ℕ). Prints {A = Unit {0}} (digest_text c.args.form c.args.tail file (g.R.Source.coming x))
+          (λ m. subst (λ (file : ℕ). Prints {A = Unit {0}}
+          (digest_text c.args.form c.args.tail file (g.R.Source.coming x))
           (refusal_of (file_items c.args.tail file (g.R.Source.coming x))) (g.W.Sink.held c.loop-source.writer)
           (Ok tt) (g.W.Sink.held c.digest_to.new.writer)) i.number (e.text told m))
           e.writer.told e.writer.cannot (i.told w));

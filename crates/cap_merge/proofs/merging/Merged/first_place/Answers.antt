@@ -1,6 +1,6 @@
 use Rattle.std.proofs.Common.{arith, sym, ap, ◌∙◌, map}
 use Rattle.cap_merge.specs.inner.First.{first_place}
-use Rattle.cap_merge.specs.Parts.{parts}
+use Rattle.cap_merge.specs.inner.View.{parts_of}
 use Rattle.cap_merge.proofs.Keeping.{found-first}
 use Rattle.cap_merge.proofs.Placing.{turns-agree, place_within}
 use Rattle.cap_merge.proofs.merging.Merged.first_place.Goals as goal
@@ -9,7 +9,7 @@ pub returns-in-Some : goal.returns-in-Some
 returns-in-Some g c =
     let m = c.args.self.now in
     let f = g.F.PacketFeed.feed in
-    let first = found-first (parts m.lanes.items (map f m.feeds.items)) c.in-Some.place
+    let first = found-first (parts_of m) c.in-Some.place
     (rw c.in-Some.is at m.kept.found) c.requires in
     record {
       place = sym first;

@@ -1,6 +1,7 @@
 use Rattle.std.proofs.Common.{refl, sym, ◌∙◌, map, None}
 use Rattle.std.proofs.lemmas.List.{length-map}
-use Rattle.cap_merge.specs.Parts.{parts, merged_feed}
+use Rattle.cap_merge.specs.Parts.{merged_feed}
+use Rattle.cap_merge.specs.inner.View.{parts_of}
 use Rattle.cap_merge.proofs.Calls.{asked-known}
 use Rattle.cap_merge.proofs.Keeping.{asked-merge, learned-merge}
 use Rattle.cap_merge.proofs.merging.Merged.look.Goals as goal
@@ -29,7 +30,7 @@ pub coming_at-requires-clause-known : goal.coming_at-requires-clause-known
 coming_at-requires-clause-known g c =
     let m = c.args.self.now in
     rw c.as_slice-2.ensures.value
-    (asked-known (parts m.lanes.items (map g.F.PacketFeed.feed m.feeds.items)) c.ask_all.new.lanes.items
+    (asked-known (parts_of m) c.ask_all.new.lanes.items
     (map g.F.PacketFeed.feed c.ask_all.new.feeds.items)
     c.ask_all.ensures.agrees c.in_ok-ask_all.ensures.asks)
 

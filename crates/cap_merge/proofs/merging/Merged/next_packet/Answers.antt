@@ -1,6 +1,7 @@
 use Rattle.std.proofs.Common.{sym, ◌∙◌, map, subst}
 use Rattle.cap_source.specs.Feed.{IsPacket}
 use Rattle.cap_merge.specs.Parts.{parts, merged_feed}
+use Rattle.cap_merge.specs.inner.View.{parts_of}
 use Rattle.cap_merge.proofs.FirstClock.{first-clock}
 use Rattle.cap_merge.proofs.Firsts.{known-packet, known-there, frame-here, no-packet, packet-next}
 use Rattle.cap_merge.proofs.Placing.{none-placed, place_within}
@@ -9,12 +10,13 @@ use Rattle.cap_merge.proofs.merging.Merged.next_packet.Goals as goal
 pub first_place-requires : goal.first_place-requires
 first_place-requires g c =
     let m = c.args.self.now in
-    known-packet (parts m.lanes.items (map g.F.PacketFeed.feed m.feeds.items)) c.requires
+    known-packet (parts_of m) c.requires
 
 pub clock_at-requires : goal.clock_at-requires
 clock_at-requires g c =
     let m = c.args.self.now in
-    rw c.as_slice.ensures.value (place_within g.F.PacketFeed.feed m.lanes.items m.feeds.items c.in-Some.place m.kept.alike
+    rw c.as_slice.ensures.value
+    (place_within g.F.PacketFeed.feed m.lanes.items m.feeds.items c.in-Some.place m.kept.alike
     (sym c.first_place.ensures.place ∙ c.in-Some.is))
 
 pub packet-requires : goal.packet-requires
@@ -45,7 +47,8 @@ invariant_of-result g c =
     let f = g.F.PacketFeed.feed in
     let at = sym c.first_place.ensures.place ∙ c.in-Some.is in
     let next = packet-next (merged_feed (parts ls (map f fs))).known c.requires in
-    let clock = first-clock f g.met.F.PacketFeed.lawful ls fs c.in-Some.place m.kept.some m.kept.alike at next m.kept.bounded m.kept.reached
+    let clock = first-clock f g.met.F.PacketFeed.lawful ls fs c.in-Some.place m.kept.some m.kept.alike at next
+    m.kept.bounded m.kept.reached
     c.clock_at.result.now (sym (rw c.as_slice.ensures.value at c.clock_at.ensures)) in
     record { bounded = clock.bounded }
 
@@ -58,7 +61,8 @@ returns g c =
     let place = c.in-Some.place in
     let at = sym c.first_place.ensures.place ∙ c.in-Some.is in
     let next = packet-next (merged_feed (parts ls (map f fs))).known c.requires in
-    let clock = first-clock f g.met.F.PacketFeed.lawful ls fs place m.kept.some m.kept.alike at next m.kept.bounded m.kept.reached
+    let clock = first-clock f g.met.F.PacketFeed.lawful ls fs place m.kept.some m.kept.alike at next m.kept.bounded
+    m.kept.reached
     c.clock_at.result.now (sym (rw c.as_slice.ensures.value at c.clock_at.ensures)) in
     record {
       clock = clock.value;
@@ -74,5 +78,5 @@ returns g c =
 pub unreachable-requires : goal.unreachable-requires
 unreachable-requires g c =
     let m = c.args.self.now in
-    let ps = parts m.lanes.items (map g.F.PacketFeed.feed m.feeds.items) in
+    let ps = parts_of m in
     no-packet ps (none-placed ps (sym c.first_place.ensures.place ∙ c.in-None.is)) c.requires

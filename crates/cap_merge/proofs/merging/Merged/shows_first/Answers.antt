@@ -3,6 +3,7 @@ use Rattle.std.specs.Result.{result_unwrap_or}
 use Rattle.cap_bytes.specs.declared.faults.Refusal.{Refusal}
 use Rattle.std.proofs.lemmas.List.{length-map}
 use Rattle.cap_merge.specs.Parts.{parts}
+use Rattle.cap_merge.specs.inner.View.{parts_of}
 use Rattle.cap_merge.proofs.Calls.{asked-known}
 use Rattle.cap_merge.proofs.Finding.{packet-alone}
 use Rattle.cap_merge.proofs.Keeping.{learned-merge, peeked-merge}
@@ -28,7 +29,7 @@ pub returns-then-not-show_at : goal.returns-then-not-show_at
 returns-then-not-show_at g c =
     let m = c.args.self.now in
     let f = g.F.PacketFeed.feed in
-    let ps = parts m.lanes.items (map f m.feeds.items) in
+    let ps = parts_of m in
     let qs = parts c.show_at.new.lanes.items (map f c.show_at.new.feeds.items) in
     let others = rw c.in-Some.is at m.kept.others in
     let peeks = rw c.if-not-show_at.true at c.show_at.ensures.shows in
@@ -50,7 +51,7 @@ pub returns-then-len-eq1 : goal.returns-then-len-eq1
 returns-then-len-eq1 g c =
     let m = c.args.self.now in
     let f = g.F.PacketFeed.feed in
-    let ps = parts m.lanes.items (map f m.feeds.items) in
+    let ps = parts_of m in
     let ls = c.show_at.new.lanes.items in
     let fs = map f c.show_at.new.feeds.items in
     let learns = rw c.if-not-show_at.false at c.show_at.ensures.shows in
@@ -79,7 +80,7 @@ coming_at-requires-clause-known g c =
     let f = g.F.PacketFeed.feed in
     let learns = rw c.if-not-show_at.false at c.show_at.ensures.shows in
     rw c.as_slice-2.ensures.value
-    (asked-known (parts m.lanes.items (map f m.feeds.items)) c.show_at.new.lanes.items
+    (asked-known (parts_of m) c.show_at.new.lanes.items
     (map f c.show_at.new.feeds.items) c.show_at.ensures.agrees learns)
 
 pub returns : goal.returns
@@ -88,8 +89,9 @@ returns g c =
     let f = g.F.PacketFeed.feed in
     let fs = c.show_at.new.feeds.items in
     let learns = rw c.if-not-show_at.false at c.show_at.ensures.shows in
-    shows-first (parts m.lanes.items (map f m.feeds.items))
+    shows-first (parts_of m)
     (parts c.show_at.new.lanes.items (map f fs)) c.unwrap_or.result learns
     (λ t. (rw c.as_slice-2.ensures.value at c.coming_at.ensures) (map f fs)
     (length-map fs f ∙ c.show_at.ensures.feeds ∙ sym m.kept.alike
-    ∙ sym c.show_at.ensures.lanes) c.show_at.ensures.agrees ∙ packet_only c.coming_at.result c.unwrap_or.result c.unwrap_or.ensures t)
+    ∙ sym c.show_at.ensures.lanes) c.show_at.ensures.agrees ∙ packet_only c.coming_at.result c.unwrap_or.result
+    c.unwrap_or.ensures t)

@@ -10,6 +10,7 @@ returns g c =
     let m = c.args.self.now in
     let items = c.deref-feed-items.ensures.value in
     record {
-      held = held-done g.F.PacketFeed.feed m.lanes.items m.feeds.items c.loop-feed.feed-index c.loop-feed.held m.kept.alike
+      held = held-done g.F.PacketFeed.feed m.lanes.items m.feeds.items c.loop-feed.feed-index c.loop-feed.held
+          m.kept.alike
           (omega (arith, ap length items)) (rw items at c.loop-feed.invariant);
     }

@@ -1,13 +1,13 @@
-use Rattle.std.proofs.Common.{sym, ◌∙◌, subst, map}
+use Rattle.std.proofs.Common.{sym, ◌∙◌, subst}
 use Rattle.cap_source.specs.Feed.{IsPacket}
-use Rattle.cap_merge.specs.Parts.{parts}
+use Rattle.cap_merge.specs.inner.View.{parts_of}
 use Rattle.cap_merge.proofs.Firsts.{known-packet, known-there, frame-here, frame-none}
 use Rattle.cap_merge.proofs.merging.MergedPacketFeed.frame.Goals as goal
 
 pub first_place-requires : goal.first_place-requires
 first_place-requires g c =
     let m = c.args.self.now in
-    known-packet (parts m.lanes.items (map g.F.PacketFeed.feed m.feeds.items)) c.requires.packet
+    known-packet (parts_of m) c.requires.packet
 
 pub frame-requires : goal.frame-requires
 frame-requires g c =

@@ -1,6 +1,6 @@
-use Rattle.std.proofs.Common.{sym, ◌∙◌, map, subst}
+use Rattle.std.proofs.Common.{sym, ◌∙◌, subst}
 use Rattle.cap_source.specs.Feed.{IsPacket}
-use Rattle.cap_merge.specs.Parts.{parts}
+use Rattle.cap_merge.specs.inner.View.{parts_of}
 use Rattle.cap_merge.proofs.Firsts.{known-packet, known-there, no-packet}
 use Rattle.cap_merge.proofs.Placing.{none-placed}
 use Rattle.cap_merge.proofs.merging.MergedPacketFeed.packet.Goals as goal
@@ -8,7 +8,7 @@ use Rattle.cap_merge.proofs.merging.MergedPacketFeed.packet.Goals as goal
 pub first_place-requires : goal.first_place-requires
 first_place-requires g c =
     let m = c.args.self.now in
-    known-packet (parts m.lanes.items (map g.F.PacketFeed.feed m.feeds.items)) c.requires.packet
+    known-packet (parts_of m) c.requires.packet
 
 pub packet-requires : goal.packet-requires
 packet-requires g c =
@@ -32,5 +32,5 @@ returns g c =
 pub unreachable-requires : goal.unreachable-requires
 unreachable-requires g c =
     let m = c.args.self.now in
-    let ps = parts m.lanes.items (map g.F.PacketFeed.feed m.feeds.items) in
+    let ps = parts_of m in
     no-packet ps (none-placed ps (sym c.first_place.ensures.place ∙ c.in-None.is)) c.requires.packet

@@ -1,5 +1,5 @@
-use Rattle.std.proofs.Common.{sym, ◌∙◌, map}
-use Rattle.cap_merge.specs.Parts.{parts}
+use Rattle.std.proofs.Common.{sym, ◌∙◌}
+use Rattle.cap_merge.specs.inner.View.{parts_of}
 use Rattle.cap_merge.proofs.Firsts.{packet-at-first, passed-of, no-packet, known-packet}
 use Rattle.cap_merge.proofs.Keeping.{passed-merge}
 use Rattle.cap_merge.proofs.Placing.{place_within, none-placed}
@@ -8,7 +8,7 @@ use Rattle.cap_merge.proofs.merging.MergedPacketFeed.pass.Goals as goal
 pub first_place-requires : goal.first_place-requires
 first_place-requires g c =
     let m = c.args.self.now in
-    known-packet (parts m.lanes.items (map g.F.PacketFeed.feed m.feeds.items)) c.requires.packet
+    known-packet (parts_of m) c.requires.packet
 
 pub pass_at-requires : goal.pass_at-requires
 pass_at-requires g c =
@@ -45,5 +45,5 @@ returns-in-Some g c =
 pub returns-in-None : goal.returns-in-None
 returns-in-None g c =
     let m = c.args.self.now in
-    let ps = parts m.lanes.items (map g.F.PacketFeed.feed m.feeds.items) in
+    let ps = parts_of m in
     absurd (no-packet ps (none-placed ps (sym c.first_place.ensures.place ∙ c.in-None.is)) c.requires.packet)

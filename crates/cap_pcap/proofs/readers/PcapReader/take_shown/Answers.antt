@@ -1,7 +1,43 @@
-use Rattle.cap_pcap.proofs.Reading.{TakesItem_shown}
+use Rattle.std.proofs.Common.{rules, arith, Some}
+use Rattle.cap_bytes.proofs.Readers.{Stands-passed, Reaches-here}
+use Rattle.cap_pcap.specs.inner.Parsing.{SeesRecord}
+use Rattle.cap_pcap.specs.inner.Reader.{record_size, record_reader_state, shown_record_size, lent_frame}
+use Rattle.cap_pcap.proofs.Reading.{GivesRecord-seen, TakesItem_shown}
 use Rattle.cap_pcap.proofs.readers.PcapReader.take_shown.Goals as goal
 
-pub returns-clause-items : goal.returns-clause-items
-returns-clause-items g c =
-    TakesItem_shown c.args.header c.args.self.now c.read_shown.new.self c.read_shown.result c.requires
-    c.read_shown.ensures.answer c.read_shown.ensures.keeps
+pub invariant_of-self : goal.invariant_of-self
+invariant_of-self g c =
+    let s : SeesRecord c.args.header c.self.inside.tail c.in-Some.record c.take_shown.new.window
+    c.take_shown.new.window = c.in-Some.ensures.sees c.self.inside.tail in
+    search rules
+
+pub returns-in-Some-clause-answer : goal.returns-in-Some-clause-answer
+returns-in-Some-clause-answer g c =
+    let i = c.self.inside in
+    rw (← c.self.view_is)
+    (GivesRecord-seen c.args.header i.window c.take_shown.new.window c.take_shown.new.window i.tail i.header i.captured
+    i.stop c.in-Some.record
+    (grind arith) c.self.invariant.within (rw c.size_given.ensures at c.in-Some.ensures.passes)
+    (c.in-Some.ensures.sees i.tail))
+
+pub returns-in-Some-clause-keeps : goal.returns-in-Some-clause-keeps
+returns-in-Some-clause-keeps g c =
+    let s : SeesRecord c.args.header c.self.inside.tail c.in-Some.record c.take_shown.new.window
+    c.take_shown.new.window = c.in-Some.ensures.sees c.self.inside.tail in
+    search rules
+
+pub returns-in-Some-clause-reaches : goal.returns-in-Some-clause-reaches
+returns-in-Some-clause-reaches g c =
+    let i = c.self.inside in
+    let at = Stands-passed i.window c.take_shown.new.window i.tail i.header (shown_record_size i.captured)
+    (lent_frame i.captured i.window.shown) i.stop
+    (grind arith) c.self.invariant.within (rw c.size_given.ensures at c.in-Some.ensures.passes) in
+    rw (← c.self.view_is)
+    (Reaches-here (record_reader_state i.window i.tail i.header i.captured i.stop) c.take_shown.new.window
+    c.take_shown.new.window
+    at (record_size c.in-Some.record))
+
+pub returns-in-Some-clause-items : goal.returns-in-Some-clause-items
+returns-in-Some-clause-items g c =
+    TakesItem_shown c.args.header c.args.self.now _ (Some c.in-Some.record) c.requires
+    (returns-in-Some-clause-answer g c) (returns-in-Some-clause-keeps g c)
