@@ -148,7 +148,7 @@ impl<R: Source> BlockReader<R> {
     }
 
     /// The next block, if it is an enhanced packet block that the window shows whole already, as it does most of them:
-    /// what `next_block` answers then, at less cost. `None` says nothing of the block, and leaves the reader as it is.
+    /// what `next_block` returns then, at less cost. `None` says nothing of the block, and leaves the reader as it is.
     #[inline(always)]
     pub fn take_packet(&mut self) -> Option<Block>
         ensures kind { IfSome result (λ block. block.kind ≡ enhanced_kind) }

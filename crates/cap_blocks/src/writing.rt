@@ -23,7 +23,7 @@ const END_OPTION: u16 = 0;
 const SMALL: usize = 125;
 
 /// Writes a section header of version 1.0, whose section length is left open and which has no
-/// options: 28 bytes (draft-ietf-opsawg-pcapng, 4.1). Answers `Fault::Write`, and no other fault,
+/// options: 28 bytes (draft-ietf-opsawg-pcapng, 4.1). Returns `Fault::Write`, and no other fault,
 /// if the writer failed: a prefix of the bytes is written then.
 pub fn put_section<W: Sink>(writer: &mut W, order: Order) -> Result<(), Fault>
     ensures bytes { IsTrue (W.tells_held writer.old)
@@ -51,7 +51,7 @@ fn section_header(order: Order) -> BlockBuffer
 
 /// Writes an interface block (draft-ietf-opsawg-pcapng, 4.2) with the resolution as the option
 /// `if_tsresol` and, if it isn't 0, the offset as the option `if_tsoffset`: 32 bytes, or 44 with the
-/// offset. Answers `Fault::Write`, and no other fault, if the writer failed: a prefix of the bytes is
+/// offset. Returns `Fault::Write`, and no other fault, if the writer failed: a prefix of the bytes is
 /// written then.
 pub fn put_interface<W: Sink>(
     writer: &mut W,
@@ -127,7 +127,7 @@ pub struct PacketFields {
 }
 
 /// Writes an enhanced packet block (draft-ietf-opsawg-pcapng, 4.3) without options, with these fields and
-/// `data`, the captured bytes. It takes 32 bytes and the captured bytes, padded to a multiple of 4. Answers
+/// `data`, the captured bytes. It takes 32 bytes and the captured bytes, padded to a multiple of 4. Returns
 /// `Fault::Write`, and no other fault, if the writer failed: a prefix of the bytes is written then.
 pub fn put_packet<W: Sink>(
     writer: &mut W,

@@ -231,7 +231,7 @@ KeepsRun old (Err (Read file offset)) new = ⊤
 KeepsRun old (Err Write) new = ⊥
 KeepsRun old (Err Memory) new = run_of new ≡ run_of old
 
--- The same of a call that answers a refusal as a fault.
+-- The same of a call that returns a refusal as a fault.
 abbrev pub ShowsRun : {A : Type 0} → List Part → Result A Fault → List Part → Type 0
 ShowsRun old (Ok _) new = run_of new ≡ run_of old
 ShowsRun old (Err (Refused refusal)) new = run_of new ≡ run_of old

@@ -32,7 +32,7 @@ fn captures_of<R: Source>(
 
 /// The packets of 1 to 32 capture files, each of either format, in the order of exact time. The readers are
 /// the files, numbered from 1 by their places. Nothing is read yet, so a faulty file header is a refusal
-/// that comes in its turn. `Memory` is answered if no room for the list of files was found.
+/// that comes in its turn. `Memory` is returned if no room for the list of files was found.
 pub fn merge_files<R: Source>(
     alloc: Global,
     sources: Vec<R>,

@@ -37,7 +37,7 @@ pub(crate) fn new_lanes(count: usize) -> ArrayVec<Lane, 32>
 }
 
 impl Lane {
-    // What comes of a fault of the feed: a refusal is what comes next, another fault is answered.
+    // What comes of a fault of the feed: a refusal is what comes next, another fault is returned.
     #[inline(never)]
     fn stop(&mut self, fault: Fault) -> Result<(), Fault>
         ensures { LaneAnswers self.old fault result self.new }

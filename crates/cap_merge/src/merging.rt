@@ -178,7 +178,7 @@ impl<F: PacketFeed> Merged<F> {
         coming_at(self.lanes.as_slice(), first).unwrap_or(false)
     }
 
-    // What `has_packet` answers of a packet that isn't at hand. It isn't inlined, so that what it answers takes no room
+    // What `has_packet` returns of a packet that isn't at hand. It isn't inlined, so that what it returns takes no room
     // where packets are at hand.
     #[inline(never)]
     fn find(&mut self) -> Result<bool, Fault>

@@ -138,7 +138,7 @@ fn header_bytes(header: &PcapHeader) -> [u8; HEADER_SIZE]
 }
 
 /// Writes a file's header: 24 bytes, of version 2.4, with 0 in the reserved fields. Takes no memory.
-/// Answers `Fault::Write`, and no other fault, if the writer failed: a prefix is written then.
+/// Returns `Fault::Write`, and no other fault, if the writer failed: a prefix is written then.
 /// draft-ietf-opsawg-pcap, 4.
 pub fn put_header<W: Sink>(writer: &mut W, header: &PcapHeader) -> Result<(), Fault>
     ensures bytes { IsTrue (W.tells_held writer.old)

@@ -47,7 +47,7 @@ fn size_given(captured: Option<usize>) -> usize
     }
 }
 
-// Answers the refusal that ended the records, if one did.
+// Returns the refusal that ended the records, if one did.
 fn refuse_again(stop: Option<Stop>) -> Result<(), Fault>
     ensures { RefusesAgain stop result }
 {
@@ -83,7 +83,7 @@ impl<R: Source> PcapReader<R> {
         self.header
     }
 
-    /// The file's header. It comes again at each call. `Refused` comes, now and at each later call,
+    /// The file's header. It comes again at each call. Returns `Refused`, now and at each later call,
     /// if the header is cut, has another magic or is of another version; if a header read from
     /// elsewhere than the file's first byte would end past byte 2^40; and if a record was refused.
     /// `Memory` leaves what is to come; `Read` comes again. draft-ietf-opsawg-pcap, 4.
@@ -113,7 +113,7 @@ impl<R: Source> PcapReader<R> {
         }
     }
 
-    /// The next record, if the window shows it whole already, as it does most of them: what `next_record` answers then,
+    /// The next record, if the window shows it whole already, as it does most of them: what `next_record` returns then,
     /// at less cost. `None` says nothing of the record, and leaves the reader as it is. The header is the file's.
     #[inline(always)]
     pub fn take_shown(&mut self, header: PcapHeader) -> Option<Record>
@@ -140,7 +140,7 @@ impl<R: Source> PcapReader<R> {
     }
 
     /// The next record, or `None` at the end of the file, which comes again then. `frame` lends its
-    /// captured bytes. `Refused` comes, now and at each later call, if the rest is cut, if more
+    /// captured bytes. Returns `Refused`, now and at each later call, if the rest is cut, if more
     /// than 262,144 bytes were captured, and if the record would end past byte 2^40; if a cut
     /// tail is accepted, a cut rest is the end instead. `Memory` leaves what is to come; `Read` comes
     /// again. draft-ietf-opsawg-pcap, 5.

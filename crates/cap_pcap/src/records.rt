@@ -208,7 +208,7 @@ fn small_record(order: Order, time: RecordTime, original: u32, frame: &[u8]) -> 
 }
 
 /// Writes a record: 16 bytes and then `frame`, the bytes that were captured of a packet of the `original`
-/// length. Takes no memory. Answers `Fault::Write`, and no other fault, if the writer failed: a prefix is
+/// length. Takes no memory. Returns `Fault::Write`, and no other fault, if the writer failed: a prefix is
 /// written then. draft-ietf-opsawg-pcap, 5.
 pub fn put_record<W: Sink>(
     writer: &mut W,

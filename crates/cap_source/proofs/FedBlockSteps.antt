@@ -1,6 +1,8 @@
 -- What a look at the next bytes of a pcapng file that is fed returns.
-use Rattle.std.proofs.Common.{◌≡◌, ℕ, ◌+◌, ◌-◌, ◌^◌, ◌≤◌, ◌<◌, Bool, true, false, IsTrue, List, [], ◌∷◌, ◌++◌, length, take}
-use Rattle.std.proofs.Common.{drop, Option, Some, None, Ok, Err, refl, sym, ap, ◌∙◌, subst, arith, min, is_some, length-drop}
+use Rattle.std.proofs.Common.{◌≡◌, ℕ, ◌+◌, ◌-◌, ◌^◌, ◌≤◌, ◌<◌, Bool, true, false, IsTrue, List, [], ◌∷◌, ◌++◌, length}
+use Rattle.std.proofs.Common.{take}
+use Rattle.std.proofs.Common.{drop, Option, Some, None, Ok, Err, refl, sym, ap, ◌∙◌, subst, arith, min, is_some}
+use Rattle.std.proofs.Common.{length-drop}
 use Rattle.std.specs.Prelude.{Result}
 use Rattle.std.proofs.lemmas.Bool.Decides.{nat_tests}
 use Rattle.std.proofs.Common.{append-nil, drop-drop, ◌||◌, not}
@@ -24,7 +26,8 @@ use Rattle.cap_bytes.specs.declared.faults.Tail.{Tail}
 use Rattle.cap_bytes.specs.declared.numbers.Order.{Order}
 use Rattle.cap_bytes.specs.declared.stops.Stop.{Stop}
 use Rattle.cap_source.proofs.FedRecords.{format-append}
-use Rattle.cap_source.proofs.FedBlocks.{block-fed, block-some, blocks-stop, given-by, skip-done, skip-entered, skip-facts}
+use Rattle.cap_source.proofs.FedBlocks.{block-fed, block-some, blocks-stop, given-by, skip-done, skip-entered}
+use Rattle.cap_source.proofs.FedBlocks.{skip-facts}
 use Rattle.cap_source.proofs.FedBlocks.{skip-other, skip-passed, skip-short}
 use Rattle.cap_source.proofs.FedStops.{broken, broken-by, stop_by-short, stopped-as}
 use Rattle.cap_source.specs.Contents.{content_in}
@@ -40,7 +43,8 @@ use Rattle.cap_source.specs.declared.fed.FedStep.TheVariants as steps
 use Rattle.cap_source.specs.declared.fed.Stage.{Stage}
 use Rattle.cap_source.specs.declared.fed.Stage.TheVariants.{Start, Blocks, Skipping, Stopped}
 use Rattle.cap_source.specs.declared.packets.Meta.{Meta}
-use Rattle.cap_source.specs.inner.FedSteps.{AreShort, BreaksBy, BreaksOff, IsNoPacket, IsSoundCourse, StepsFed, TakesBlockFed}
+use Rattle.cap_source.specs.inner.FedSteps.{AreShort, BreaksBy, BreaksOff, IsNoPacket, IsSoundCourse, StepsFed}
+use Rattle.cap_source.specs.inner.FedSteps.{TakesBlockFed}
 use Rattle.cap_source.specs.inner.FedSteps.{IsSoundStage, StopsFed, TakesFed, behind_block}
 
 -- a packet's bytes in its block
@@ -122,8 +126,13 @@ module _ (old : CourseState) (section : Option Order) (b : List ℕ) (at : old.s
       some : 0 < block.total
       some =
           let f = FieldsFit-from_header section old.offset b p.0 in
-          omega (arith, total-least (kind_at (block_order_at section b) b) (total_at (block_order_at section b) b)
-          f.allowed, ap (λ (k : Block). k.total) p.1, total-at section old.offset b)
+          omega (
+            arith,
+            total-least (kind_at (block_order_at section b) b) (total_at (block_order_at section b) b)
+                f.allowed,
+            ap (λ (k : Block). k.total) p.1,
+            total-at section old.offset b,
+          )
 
       taken-by : (result : Result FedStep Fault) (new : CourseState) → TakesFed old block said result new
           → StepsFed old b result new
@@ -131,8 +140,7 @@ module _ (old : CourseState) (section : Option Order) (b : List ℕ) (at : old.s
           let pk = h.0 in
           let captured : meta.captured ≡ pk.captured = ap (λ (m : Meta). m.captured) h.2 in
           let frame : frame_in pk (body_in block.total b) ≡ take meta.captured (drop place b) =
-          frame-at pk block.total b h.5 ∙ (λ i. take (sym captured i) (drop (sym h.3 i) b)) in
-          (
+          frame-at pk block.total b h.5 ∙ (λ i. take (sym captured i) (drop (sym h.3 i) b)) in (
             omega (arith, some, h.4),
             omega (arith, whole, h.4),
             omega (arith, captured, h.3, h.4, h.5),
@@ -174,8 +182,7 @@ module _ (old : CourseState) (section : Option Order) (b : List ℕ) (at : old.s
       pub skip-begins : (n : ℕ) (new : CourseState) → n ≡ min (block.total - 4) (length b)
           → new ≡ record old { stage = Skipping block (block.total - 4 - n) } → StepsFed old b (Ok (steps.Passed n)) new
       skip-begins n new is same =
-          let s = skip-some n is in
-          (
+          let s = skip-some n is in (
             s.0,
             s.2,
             λ later may.
@@ -202,8 +209,7 @@ module _ (old : CourseState) (block : Block) (left : ℕ) (b : List ℕ) (at : o
       → new ≡ record old { stage = Skipping block (left - n) } → StepsFed old b (Ok (steps.Passed n)) new
   skip-on n new some is same =
       let within : n ≤ left = grind (arith, nat_tests) in
-      let here : n ≤ length b = grind (arith, nat_tests) in
-      (
+      let here : n ≤ length b = grind (arith, nat_tests) in (
         some,
         here,
         λ later may.
@@ -254,8 +260,7 @@ module _ (old : CourseState) (block : Block) (left : ℕ) (b : List ℕ) (at : o
         }
         → StepsFed old b (Ok (steps.Passed 4)) new
     skip-passes new four is same =
-        let zero : left ≡ 0 = grind (arith, nat_tests) in
-        (
+        let zero : left ≡ 0 = grind (arith, nat_tests) in (
           omega arith,
           four,
           λ later may.
@@ -306,7 +311,8 @@ begun old mid b (Ok (steps.Packet meta place size)) new same ended h = (
 )
 begun old mid b (Ok steps.Short) new same ended h = (
   sym ended ∙ h.0,
-  subst AreShort (ap (items_after mid) (sym (append-nil b)) ∙ (sym (same []) ∙ ap (items_after old) (append-nil b))) h.1,
+  subst AreShort (ap (items_after mid) (sym (append-nil b)) ∙ (sym (same [])
+      ∙ ap (items_after old) (append-nil b))) h.1,
   λ later. same later ∙ h.2 later,
 )
 begun old mid b (Ok steps.Ends) new same ended h =
@@ -344,8 +350,7 @@ header-facts section offset b block p =
     let order = block_order_at section b in
     let total : block.total ≡ total_at order b = ap (λ (k : Block). k.total) p.1 in
     let kind : block.kind ≡ kind_at order b = ap (λ (k : Block). k.kind) p.1 in
-    let placed : block.offset ≡ offset = ap (λ (k : Block). k.offset) p.1 in
-    (
+    let placed : block.offset ≡ offset = ap (λ (k : Block). k.offset) p.1 in (
       placed,
       omega (arith, f.limit, total, placed),
       (λ i. is_total (kind i) (total i)) ∙ f.allowed,

@@ -1,6 +1,8 @@
 -- What comes next of a pcapng file that is fed, whatever is fed later.
-use Rattle.std.proofs.Common.{◌≡◌, ℕ, ◌+◌, ◌-◌, ◌^◌, ◌≤◌, ◌<◌, ◌==◌, ◌&&◌, not, Bool, true, false, IsTrue, List, [], ◌∷◌, ◌++◌}
-use Rattle.std.proofs.Common.{length, take, drop, Option, Some, None, Ok, Err, refl, sym, ap, ◌∙◌, subst, arith, is_some}
+use Rattle.std.proofs.Common.{◌≡◌, ℕ, ◌+◌, ◌-◌, ◌^◌, ◌≤◌, ◌<◌, ◌==◌, ◌&&◌, not, Bool, true, false, IsTrue, List, []}
+use Rattle.std.proofs.Common.{◌∷◌, ◌++◌}
+use Rattle.std.proofs.Common.{length, take, drop, Option, Some, None, Ok, Err, refl, sym, ap, ◌∙◌, subst, arith}
+use Rattle.std.proofs.Common.{is_some}
 use Rattle.std.proofs.Common.{length-append, length-drop, drop-drop, nat_lt, if◌then◌else◌, min}
 use Rattle.std.proofs.Common.{◌⊎◌, inl, inr}
 use Rattle.std.specs.Prelude.{Result}
@@ -79,7 +81,8 @@ module _ (file : ℕ) (progress : Progress) (section : Option Order) (tail : Tai
   unfolding said
   block-fed b later block p whole none =
       let f = FieldsFit-from_header section offset b p.0 in
-      let order : block.order ≡ block_order_at section b = ap (λ (k : Block). k.order) p.1 ∙ order-at section offset b in
+      let order : block.order ≡ block_order_at section b = ap (λ (k : Block). k.order) p.1
+      ∙ order-at section offset b in
       let total : block.total ≡ total_at (block_order_at section b) b =
       ap (λ (k : Block). k.total) p.1 ∙ total-at section offset b in
       let whole_at : total_at (block_order_at section b) b ≤ length b = omega (arith, whole, total) in
@@ -135,9 +138,12 @@ module _ (file : ℕ) (progress : Progress) (section : Option Order) (tail : Tai
     least : 12 ≤ block.total
     least =
         let f = there in
-        omega (arith, total-is,
-        total-least (kind_at block.order w) (total_at block.order w)
-        (subst (λ (o : Order). is_total (kind_at o w) (total_at o w) ≡ true) (sym order-is) f.allowed))
+        omega (
+          arith,
+          total-is,
+          total-least (kind_at block.order w) (total_at block.order w)
+              (subst (λ (o : Order). is_total (kind_at o w) (total_at o w) ≡ true) (sym order-is) f.allowed),
+        )
 
     offset-is : block.offset ≡ offset
     unfolding block_at
@@ -190,7 +196,8 @@ module _ (file : ℕ) (progress : Progress) (section : Option Order) (tail : Tai
     skip-whole whole same =
         let l = least in
         let long : nat_lt (length w) ((block.total - 4) + 4) ≡ false = grind (arith, nat_tests) in
-        let equal : (number block.order 4 (drop (block.total - 4) w) == block.total) ≡ true = grind (arith, nat_tests) in
+        let equal : (number block.order 4 (drop (block.total - 4) w) == block.total)
+        ≡ true = grind (arith, nat_tests) in
         let four : (block.total - 4) + 4 ≡ block.total = omega (arith, l) in
         let body : body_fault block.order w ≡ None =
         body_fault-whole block.order w (omega (arith, whole, total-is))
@@ -233,7 +240,8 @@ module _ (file : ℕ) (progress : Progress) (section : Option Order) (tail : Tai
     skip-entered = by-length (side (length w) block.total)
 
     pub skip-facts : (12 ≤ block.total) × (block.offset ≡ offset) × (offset + block.total ≤ 2 ^ 40)
-    skip-facts = let f = there in (least, offset-is, omega (arith, f.limit, total-is, ap (λ (o : Order). total_at o w) order-is))
+    skip-facts = let f = there in (least, offset-is, omega (arith, f.limit, total-is, ap (λ
+    (o : Order). total_at o w) order-is))
 
 -- ---- on the way through a block that is skipped
 
@@ -281,7 +289,8 @@ module _ (file : ℕ) (tail : Tail) (progress : Progress) (block : Block) where
   unfolding skipped_items
   skip-other b later four differs =
       let long : nat_lt (length (b ++ later)) 4 ≡ false = grind (arith, nat_tests, length-append b later) in
-      let same : number block.order 4 (b ++ later) ≡ number block.order 4 b = number-append block.order 4 b later four in
+      let same : number block.order 4 (b ++ later) ≡ number block.order 4 b = number-append block.order 4 b later four
+      in
       let unequal : (number block.order 4 (b ++ later) == block.total) ≡ false = grind (arith, nat_tests) in
       rw (long, unequal) (grind arith)
 
@@ -293,7 +302,8 @@ module _ (file : ℕ) (tail : Tail) (progress : Progress) (block : Block) where
   unfolding skipped_items
   skip-done b later four is =
       let long : nat_lt (length (b ++ later)) 4 ≡ false = grind (arith, nat_tests, length-append b later) in
-      let same : number block.order 4 (b ++ later) ≡ number block.order 4 b = number-append block.order 4 b later four in
+      let same : number block.order 4 (b ++ later) ≡ number block.order 4 b = number-append block.order 4 b later four
+      in
       let equal : (number block.order 4 (b ++ later) == block.total) ≡ true = grind (arith, nat_tests) in
       let rest : drop 4 (b ++ later) ≡ drop 4 b ++ later = drop-append-le 4 b later four in
       rw (long, equal, rest) refl

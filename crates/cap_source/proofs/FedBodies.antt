@@ -1,5 +1,6 @@
 -- The body of a block, and what it says.
-use Rattle.std.proofs.Common.{◌≡◌, ℕ, ◌+◌, ◌-◌, ◌≤◌, List, length, take, drop, Ok, Err, Some, sym, ap, ◌∙◌, subst, arith}
+use Rattle.std.proofs.Common.{◌≡◌, ℕ, ◌+◌, ◌-◌, ◌≤◌, List, length, take, drop, Ok, Err, Some, sym, ap, ◌∙◌, subst}
+use Rattle.std.proofs.Common.{arith}
 use Rattle.std.proofs.Common.{length-drop}
 use Rattle.std.specs.Prelude.{Result}
 use Rattle.std.proofs.lemmas.List.{drop-take, length-take-le}
@@ -25,7 +26,8 @@ pub body-size : (total : ℕ) (b : List ℕ) → 12 ≤ total → total ≤ leng
 body-size total b least whole =
     omega (arith, least, length-take-le (total - 12) (drop 8 b) (omega (arith, whole, least, length-drop 8 b)))
 
-pub says-within : (few : ℕ) (block : Block) (body : List ℕ) (said : Result Content Rule) → length body + 12 ≡ block.total
+pub says-within : (few : ℕ) (block : Block) (body : List ℕ) (said : Result Content Rule)
+    → length body + 12 ≡ block.total
     → IsFit few body said → SaysWithin block said
 says-within few block body (Ok contents.Section) size fit = tt
 says-within few block body (Ok (contents.Interface described)) size fit = tt

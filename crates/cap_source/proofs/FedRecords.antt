@@ -1,5 +1,6 @@
 -- What comes next of a pcap file that is fed, whatever is fed later.
-use Rattle.std.proofs.Common.{◌≡◌, ℕ, ◌+◌, ◌^◌, ◌≤◌, ◌<◌, Bool, true, false, List, [], ◌∷◌, ◌++◌, length, take, drop, Option}
+use Rattle.std.proofs.Common.{◌≡◌, ℕ, ◌+◌, ◌^◌, ◌≤◌, ◌<◌, Bool, true, false, List, [], ◌∷◌, ◌++◌, length, take, drop}
+use Rattle.std.proofs.Common.{Option}
 use Rattle.std.proofs.Common.{Some, None, Ok, Err, refl, sym, ap, ◌∙◌, subst, arith, length-append, if◌then◌else◌}
 use Rattle.std.specs.Prelude.{Result}
 use Rattle.std.proofs.lemmas.Bool.Decides.{nat_tests}
@@ -67,7 +68,8 @@ module _ (file : ℕ) (header : PcapHeader) (tail : Tail) (offset : ℕ) where
       given-record (b ++ later) (Fits-append header.order offset b later f)
       ∙ (λ k. packet (meta_of file i (record-same header.order header.unit offset b later f.head k))
       (frame-same header.order offset b later f k)
-      ∷ pcap_items file i (record_items_from header tail file (offset + (16 + size k)) (drop (16 + size k) (b ++ later))))
+      ∷ pcap_items file i (record_items_from header tail file (offset + (16 + size k)) (drop (16 + size k) (b
+      ++ later))))
       ∙ (ap (λ (l : List ℕ). packet (meta_of file i (record_at header.order header.unit offset b))
       (record_frame_at header.order b)
       ∷ pcap_items file i (record_items_from header tail file (offset + (16 + captured_at header.order b)) l))
@@ -87,7 +89,8 @@ pub pcap_rule : ℕ → List ℕ → Option Rule
 pcap_rule offset w = if is_pcapng w then None else pcap_header_fault offset w
 
 module _ (tail : Tail) (file : ℕ) (progress : Progress) (offset : ℕ) where
-  pub header-some : (b : List ℕ) (rule : Rule) → pcap_header_fault offset b ≡ Some rule → (rule ≡ Cut → ⊥) → 4 ≤ length b
+  pub header-some : (b : List ℕ) (rule : Rule) → pcap_header_fault offset b ≡ Some rule → (rule ≡ Cut → ⊥)
+      → 4 ≤ length b
   unfolding pcap_header_fault
   header-some b rule is other = grind (arith, nat_tests)
 
@@ -104,7 +107,8 @@ module _ (tail : Tail) (file : ℕ) (progress : Progress) (offset : ℕ) where
   header-none w other is = rw (other, is) refl
 
   -- what a header is refused by
-  stop-outside : (w : List ℕ) (fault : Option Rule) (stop : Stop) → stop_where false tail file offset w fault ≡ Some stop
+  stop-outside : (w : List ℕ) (fault : Option Rule) (stop : Stop) → stop_where false tail file offset w fault
+      ≡ Some stop
       → (rule : Rule) × (fault ≡ Some rule) × (stop ≡ stop_by false tail file offset rule)
   unfolding stop_where
   stop-outside w (Some rule) stop is = (rule, refl, grind arith)

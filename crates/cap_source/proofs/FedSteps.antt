@@ -39,8 +39,7 @@ module _ (old : CourseState) (header : PcapHeader) (b : List ℕ) (at : old.stag
   record-steps r meta none is named =
       let f = Fits-from_none header.order old.offset b none in
       let size = captured-is r is in
-      let captured : meta.captured ≡ r.captured = ap (λ (m : Meta). m.captured) named in
-      (
+      let captured : meta.captured ≡ r.captured = ap (λ (m : Meta). m.captured) named in (
         omega arith,
         omega (arith, f.whole, size),
         omega (arith, captured),
@@ -78,8 +77,7 @@ module _ (old : CourseState) (b : List ℕ) (at : old.stage ≡ Start) (pcap : i
   pub header-steps : (header : PcapHeader) → pcap_header_fault old.offset b ≡ None → header ≡ header_at b
       → StepsFed old b (Ok (steps.Passed 24)) (record old { offset = old.offset + 24; stage = Records header })
   header-steps header none is =
-      let long = (header-there old.offset b [] none).2 in
-      (
+      let long = (header-there old.offset b [] none).2 in (
         omega arith,
         long,
         λ later may.

@@ -1,5 +1,6 @@
 -- A capture that is fed stops where its bytes break a rule, whatever is fed later.
-use Rattle.std.proofs.Common.{◌≡◌, ℕ, ◌<◌, ◌==◌, ◌&&◌, not, Bool, true, false, IsTrue, List, [], ◌∷◌, ◌++◌, length, Option}
+use Rattle.std.proofs.Common.{◌≡◌, ℕ, ◌<◌, ◌==◌, ◌&&◌, not, Bool, true, false, IsTrue, List, [], ◌∷◌, ◌++◌, length}
+use Rattle.std.proofs.Common.{Option}
 use Rattle.std.proofs.Common.{Some, None, Ok, Err, refl, sym, ap, ◌∙◌, subst, arith, append-nil, length-append}
 use Rattle.std.specs.Prelude.{Result}
 use Rattle.std.proofs.lemmas.Bool.Decides.{nat_tests}
@@ -18,7 +19,8 @@ use Rattle.cap_source.specs.inner.FedSteps.{AreShort, BreaksBy, BreaksIf, Breaks
 use Rattle.cap_source.specs.inner.FedSteps.{IsSoundCourse, IsToldStop, StepsFed, StopsFed, is_cut_rule}
 
 -- what is cut short gives no packet
-pub stop_by-short : (inside : Bool) (tail : Tail) (file offset : ℕ) → AreShort (items_of_stop (stop_by inside tail file offset Cut))
+pub stop_by-short : (inside : Bool) (tail : Tail) (file offset : ℕ) → AreShort (items_of_stop
+    (stop_by inside tail file offset Cut))
 stop_by-short inside tail file offset = grind arith
 
 pub stop-none : (inside : Bool) (tail : Tail) (file offset : ℕ) (bytes : List ℕ) (fault : Option Rule)
@@ -50,7 +52,6 @@ module _ (old : CourseState) (b : List ℕ) (rule : Rule) (stop : Stop)
     (here : items_after old b ≡ items_of_stop stop)
     (more : (rule ≡ Cut → ⊥) → (later : List ℕ) → items_after old (b ++ later) ≡ items_of_stop stop)
     (short : rule ≡ Cut → AreShort (items_of_stop stop)) where
-
   every-by : (ended : Bool) → old.ended ≡ ended → (not ended && is_cut_rule rule) ≡ false
       → (later : List ℕ) → MayFollow old later → items_after old (b ++ later) ≡ items_of_stop stop
   every-by true e sure later may =
@@ -63,10 +64,11 @@ module _ (old : CourseState) (b : List ℕ) (rule : Rule) (stop : Stop)
   broken-if : (wanted : Bool) (result : Result FedStep Fault) (new : CourseState)
       → (not old.ended && is_cut_rule rule) ≡ wanted → BreaksIf wanted old stop result new → StepsFed old b result new
   broken-if true result new e h =
-      subst (λ (r : Result FedStep Fault). StepsFed old b r new) (sym h.0)
-      (open_still old.ended (is_cut_rule rule) e,
-      subst AreShort (sym here) (short (cut rule (right old.ended (is_cut_rule rule) e))),
-      λ later. ap (λ (c : CourseState). items_after c (b ++ later)) (sym h.1))
+      subst (λ (r : Result FedStep Fault). StepsFed old b r new) (sym h.0) (
+        open_still old.ended (is_cut_rule rule) e,
+        subst AreShort (sym here) (short (cut rule (right old.ended (is_cut_rule rule) e))),
+        λ later. ap (λ (c : CourseState). items_after c (b ++ later)) (sym h.1),
+      )
     where
       open_still : (x y : Bool) → (not x && y) ≡ true → x ≡ false
       open_still x y e = grind arith
@@ -89,7 +91,6 @@ module _ (old : CourseState) (inside : Bool) (faulty : List ℕ → Option Rule)
     (is : faulty b ≡ Some rule)
     (more : (rule ≡ Cut → ⊥) → (later : List ℕ) → faulty (b ++ later) ≡ Some rule)
     (some : (rule ≡ Cut → ⊥) → 0 < length b) where
-
   stop-at : (stop : Stop) → stop_where inside old.tail old.file old.offset b (Some rule) ≡ Some stop
       → items_after old b ≡ items_of_stop stop
   stop-at stop e = at b stop (ap (stop_where inside old.tail old.file old.offset b) is ∙ e)
@@ -136,7 +137,8 @@ kept-if : (wanted : Bool) (old : CourseState) (stop : Stop) (result : Result Fed
 kept-if true old stop result new h = grind arith
 kept-if false old stop result new h = grind arith
 
-pub broken-by-keeps : (old : CourseState) (rule : Rule) (stop : Stop) (result : Result FedStep Fault) (new : CourseState)
+pub broken-by-keeps : (old : CourseState) (rule : Rule) (stop : Stop) (result : Result FedStep Fault)
+    (new : CourseState)
     → BreaksBy old rule stop result new → CourseKeeps old new
 broken-by-keeps old rule stop result new h = kept-if (not old.ended && is_cut_rule rule) old stop result new h
 

@@ -9,7 +9,8 @@ use Rattle.cap_bytes.specs.declared.faults.Rule.TheVariants.{BlockTrailer, Cut}
 use Rattle.cap_bytes.specs.declared.faults.Tail.{Tail}
 use Rattle.cap_pcap.specs.Split.{record_items_from}
 use Rattle.cap_source.specs.Feed.{Item, packet, refused}
-use Rattle.cap_source.specs.Items.{Progress, after, interface_of, items_from, items_of_blocks, items_of_stop, pcap_items}
+use Rattle.cap_source.specs.Items.{Progress, after, interface_of, items_from, items_of_blocks, items_of_stop}
+use Rattle.cap_source.specs.Items.{pcap_items}
 use Rattle.cap_source.specs.declared.contents.Content.TheVariants as contents
 use Rattle.cap_source.specs.declared.fed.Stage.{Stage}
 use Rattle.cap_source.specs.declared.fed.Stage.TheVariants.{Start, Records, Blocks, Skipping, Stopped}
@@ -50,3 +51,14 @@ items_after c bytes = items_at_stage c.stage c bytes
 -- Some bytes may be fed later: none once all were.
 abbrev pub MayFollow : CourseState → List ℕ → Type 0
 MayFollow c later = IsTrue c.ended → later ≡ []
+
+-- A capture that is fed: how far it was read, the bytes that were fed after that, and the captured ones of the packet
+-- that came last.
+pub record FedState : Type 0 where
+  pub course : CourseState
+  pub rest : List ℕ
+  pub frame : List ℕ
+
+-- the items that still come of it, if these bytes are fed later and no others
+abbrev pub fed_items : FedState → List ℕ → List Item
+fed_items s later = items_after s.course (s.rest ++ later)

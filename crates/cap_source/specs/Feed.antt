@@ -25,7 +25,7 @@ refusal_of (refused refusal ∷ items) = Some refusal
 -- A feed of the packets of the files of those numbers. `items` are those to come, if the devices tell their bytes, and
 -- `endings` says how each file ends, if no refusal comes before. `known` is what comes next, once that was asked for,
 -- and `frame` are the captured bytes of a packet that comes next. `broken` is the fault of a read that failed, once
--- `head` has answered it. No packet to come of a file begins before its place of `places`, and at most `left` packets
+-- `head` has returned it. No packet to come of a file begins before its place of `places`, and at most `left` packets
 -- are to come, whatever the devices do. `can_fail` says of each file whether its device can fail.
 pub record Feed : Type 0 where
   pub files : List ℕ
@@ -102,7 +102,7 @@ pub record FeedWaits (old new : Feed) : Type 0 where
   pub after : new.known ≡ None
   pub goes : FeedGoes old new
 
--- what `head` answers
+-- what `head` returns
 abbrev pub GivesHead : Feed → Result Head Fault → Feed → Type 0
 GivesHead old (Ok head) new = Knows old head new
 GivesHead old (Err (Refused refusal)) new = ⊥
@@ -118,7 +118,7 @@ KeepsItems old (Err (Read file offset)) new = ⊤
 KeepsItems old (Err Write) new = ⊥
 KeepsItems old (Err Memory) new = SameItems old new
 
--- what `has_packet` answers: whether a packet comes next, or a refusal, which is answered as a fault
+-- what `has_packet` returns: whether a packet comes next, or a refusal, which is returned as a fault
 abbrev pub FindsPacket : Feed → Result Bool Fault → Feed → Type 0
 FindsPacket old (Ok true) new = (meta : Meta) × Knows old (heads.Packet meta) new
 FindsPacket old (Ok false) new = Knows old heads.End new
@@ -135,7 +135,7 @@ FindsItem old (Err (Read file offset)) new = ⊤
 FindsItem old (Err Write) new = ⊥
 FindsItem old (Err Memory) new = SameItems old new
 
--- what `shows_packet` answers: whether a packet comes next, and is known. If not, nothing is said of what comes next,
+-- what `shows_packet` returns: whether a packet comes next, and is known. If not, nothing is said of what comes next,
 -- but it may be known now.
 abbrev pub ShowsPacket : Feed → Bool → Feed → Type 0
 ShowsPacket old true new = (meta : Meta) × Knows old (heads.Packet meta) new

@@ -1,4 +1,5 @@
 pub mod Captures
+pub mod FedStates
 pub mod FedSteps
 pub mod Fields
 pub mod FileState

@@ -100,12 +100,7 @@ fn break_by(course: &mut Course, rule: Rule, end: Stop) -> Result<FedStep, Fault
 }
 
 // The same where a header, a record or a block may begin.
-fn break_off(
-    course: &mut Course,
-    inside: bool,
-    bytes: &[u8],
-    rule: Rule,
-) -> Result<FedStep, Fault>
+fn break_off(course: &mut Course, inside: bool, bytes: &[u8], rule: Rule) -> Result<FedStep, Fault>
     ensures { BreaksOff (course_of course.old) inside bytes.now rule result (course_of course.new) }
 {
     let end = stop_of(course, inside, bytes, rule);
@@ -154,7 +149,11 @@ fn passed_of(left: u64, bytes: &[u8]) -> usize
     ensures { result ≡ min left (length bytes.now) }
 {
     let here = bytes.len();
-    if left < here as u64 { left as usize } else { here }
+    if left < here as u64 {
+        left as usize
+    } else {
+        here
+    }
 }
 
 // At the header of a block that is skipped.
@@ -162,7 +161,8 @@ fn begin_skip(course: &mut Course, block: Block, bytes: &[u8]) -> FedStep
     requires { 12 ≤ block.total }
     ensures step { result ≡ FedStep.Passed (min (block.total - 4) (length bytes.now)) }
     ensures stage { course_of course.new ≡ record (course_of course.old) {
-        stage = Stage.Skipping block (block.total - 4 - min (block.total - 4) (length bytes.now)) } }
+      stage = Stage.Skipping block (block.total - 4 - min (block.total - 4) (length bytes.now));
+    } }
 {
     let left = u64::from(block.total) - 4;
     let passed = passed_of(left, bytes);
@@ -288,11 +288,7 @@ fn is_read_whole(section: Option<Order>, block: Block) -> bool
 }
 
 // At a block.
-fn step_block(
-    course: &mut Course,
-    section: Option<Order>,
-    bytes: &[u8],
-) -> Result<FedStep, Fault>
+fn step_block(course: &mut Course, section: Option<Order>, bytes: &[u8]) -> Result<FedStep, Fault>
     requires stage { course.old.stage ≡ Stage.Blocks section }
     requires sound { IsSoundCourse (course_of course.old) }
     ensures step { StepsFed (course_of course.old) bytes.now result (course_of course.new) }
@@ -366,7 +362,8 @@ fn step_first(course: &mut Course, bytes: &[u8]) -> Result<FedStep, Fault>
 impl Course {
     /// Looks at the next bytes of the capture.
     ///
-    /// Returns `Refused` if they break a rule, and then always; `Memory` if a growth was refused, which leaves it as it was.
+    /// Returns `Refused` if they break a rule, and then always; `Memory` if a growth was refused, which leaves it as
+    /// it was.
     pub fn step(&mut self, bytes: &[u8]) -> Result<FedStep, Fault>
         requires sound { IsSoundCourse (course_of self.old) }
         ensures step { StepsFed (course_of self.old) bytes.now result (course_of self.new) }

@@ -54,9 +54,9 @@ pub trait PacketFeed: Drop {
     ghost feed: { Self → Feed };
 
     /// What comes next. It stays until it is passed, and can't fail once it is known; a refusal and the
-    /// end stay for good. The packets to come stay the same, unless `Read` is answered. `Read` comes if
+    /// end stay for good. The packets to come stay the same, unless `Read` is returned. Returns `Read` if
     /// a device failed, with the file's number and the offset in bytes at which the header, the record or the
-    /// block begins that was being read; from then on the same comes, and nothing else. `Memory` comes if
+    /// block begins that was being read; from then on the same comes, and nothing else. Returns `Memory` if
     /// a growth was refused, and no other fault comes.
     fn head(&mut self) -> Result<Head, Fault>
         ensures answer { GivesHead (feed self.old) result (feed self.new) }
@@ -64,8 +64,8 @@ pub trait PacketFeed: Drop {
         ensures items { IsTrue (feed self.old).told
             → KeepsItems (feed self.old) result (feed self.new) };
 
-    /// Whether a packet comes next, which is known then: what `head` answers, without a copy of the packet. A refusal
-    /// is answered as a fault, again and again.
+    /// Whether a packet comes next, which is known then: what `head` returns, without a copy of the packet. A refusal
+    /// is returned as a fault, again and again.
     fn has_packet(&mut self) -> Result<bool, Fault>
         ensures answer { FindsPacket (feed self.old) result (feed self.new) }
         ensures keeps { FeedKeeps (feed self.old) (feed self.new) }

@@ -4,6 +4,7 @@
 mod captures;
 mod contents;
 mod fed;
+mod fed_captures;
 mod feeds;
 mod interfaces;
 mod known;
@@ -18,6 +19,7 @@ mod readers;
 mod walks;
 
 pub use crate::captures::Capture;
+pub use crate::fed_captures::{Fed, FedCapture};
 pub use crate::feeds::{Ending, FeedHeld, Head, PacketFeed};
 pub use crate::listed::Listed;
 pub use crate::packets::{Format, Meta};

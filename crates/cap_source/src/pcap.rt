@@ -76,7 +76,7 @@ pub fn noted_of_pcap<R: Source>(reader: &PcapReader<R>) -> Option<Interface>
 }
 
 /// Puts the packet that comes next of a pcap file into `known`, if the window shows its record already, as it does most
-/// of them. Answers whether it did: if not, nothing has changed.
+/// of them. Returns whether it did: if not, nothing has changed.
 #[inline(always)]
 pub fn take_shown<R: Source>(reader: &mut PcapReader<R>, known: &mut Known) -> bool
     requires unknown { known.old ≡ None }

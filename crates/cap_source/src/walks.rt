@@ -9,7 +9,7 @@ use cap_bytes::Fault;
 
 /// What comes next of a feed: a packet, which stays until it is passed, or none at the end. `Refused`
 /// comes if a refusal comes next, `Read` if a device failed, and `Memory` if a growth was
-/// refused. The packets to come stay the same, unless `Read` is answered.
+/// refused. The packets to come stay the same, unless `Read` is returned.
 #[inline(always)]
 pub fn next_packet<F: PacketFeed>(feed: &mut F) -> Result<Option<Meta>, Fault>
     ensures answer { GivesPacket (F.feed feed.old) result (F.feed feed.new) }

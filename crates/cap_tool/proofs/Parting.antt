@@ -194,7 +194,8 @@ Tells-other form n (Some m) other f g old new h p = (refl, refl, p.1)
 
 pub Tells-other-fault : (form : Form) (n : ℕ) (one other : Option Meta) (f g old new : List ℕ) (fault : Fault)
     → (is_none one && is_none other) ≡ false → fault ≡ Write
-    → Prints {A = Unit {0}} (diff_text_in form (other_packet (n + 1) (compared_of one f) (compared_of other g))) None old
+    → Prints {A = Unit {0}} (diff_text_in form (other_packet (n + 1) (compared_of one f)
+    (compared_of other g))) None old
     (Err fault) new
     → TellsDiff form (parted n (compared_of one f) (compared_of other g)) old (Err fault) new
 Tells-other-fault form n None None f g old new fault h is p = absurd (false≢true (sym h))

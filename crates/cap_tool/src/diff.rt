@@ -286,12 +286,12 @@ fn put_parting<F: PacketFeed, W: Sink>(
     Ok(false)
 }
 
-/// Prints in a form whether two capture files, each of either format, have the same packets, in link type, exact time,
-/// captured and original length and captured bytes: `same packets N`, and returns `true`; or, and returns `false`, the
-/// number and the differences of the first packet that isn't the same in both, and its line in each, as `list_to` prints
-/// it; in JSON three objects, of which the second and the third hold the object that `list_json_to` prints with 16
-/// bytes, or `null`. Nothing is printed if a file is refused before that, `Read` or `Memory` returned: `Read` if a read
-/// fails, `Memory` if a growth is refused. After `Write` a prefix is printed.
+/// Prints in a form whether two capture files, each of either format, have the same packets, in link type, exact
+/// time, captured and original length and captured bytes: `same packets N`, and returns `true`; or, and returns
+/// `false`, the number and the differences of the first packet that isn't the same in both, and its line in each, as
+/// `list_to` prints it; in JSON three objects, of which the second and the third hold the object that `list_json_to`
+/// prints with 16 bytes, or `null`. Nothing is printed if a file is refused before that, `Read` or `Memory` returned:
+/// `Read` if a read fails, `Memory` if a growth is refused. After `Write` a prefix is printed.
 pub fn diff_in<R: Source, W: Sink>(
     alloc: Global,
     first: R,

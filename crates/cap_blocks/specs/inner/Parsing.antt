@@ -60,7 +60,7 @@ pub record SeesBlockHeader (section : Option Order) (block : Block) (old new : W
   pub none : IsTrue old.told → block_header_fault section old.offset (coming old) ≡ None
   pub block_is : IsTrue old.told → block ≡ block_at section old.offset (coming old)
 
--- what a look at the header answers
+-- what a look at the header returns
 abbrev pub LooksAtHeader : Option Order → Tail → WindowState → Result (Result Block Stop) Fault → WindowState → Type 0
 LooksAtHeader section tail old result new =
     LooksFor (λ block. SeesBlockHeader section block old new) (is_some section)
@@ -79,7 +79,7 @@ pub record SeesBody (block : Block) (fault : Option Rule) (old new : WindowState
   pub told_fault : IsTrue old.told → body_fault block.order (coming old) ≡ fault
   pub left : fault ≡ None → LeavesBlock (is_known_kind block.kind) block.total old new
 
--- what a look at the body of a block answers
+-- what a look at the body of a block returns
 abbrev pub LooksAtBody : Block → WindowState → Result (Option Rule) Fault → WindowState → Type 0
 LooksAtBody block old (Ok fault) new = SeesBody block fault old new
 LooksAtBody block old (Err fault) new = FailsBy 524288 ((is_known_kind block.kind ≡ true)
@@ -103,7 +103,7 @@ pub record SeesBlock (section : Option Order) (tail : Tail) (block : Block) (old
   pub none : IsTrue old.told → block_stop_at section tail old.file old.offset (coming old) ≡ None
   pub block_is : IsTrue old.told → block ≡ block_at section old.offset (coming old)
 
--- what a look for a block answers
+-- what a look for a block returns
 abbrev pub LooksForBlock : Option Order → Tail → WindowState → Result (Result Block Stop) Fault → WindowState → Type 0
 LooksForBlock section tail old result new =
     LooksFor (λ block. SeesBlock section tail block old new) (is_some section)

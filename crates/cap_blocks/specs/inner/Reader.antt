@@ -38,7 +38,7 @@ pub record GivesBlock (old : ReaderState Order) (block : Block) (new : ReaderSta
   pub block_is : IsTrue old.told → block ≡ block_at old.known old.offset old.coming
   pub body_is : IsTrue old.told → IfSome new.lent (λ body. body ≡ body_in block.total old.coming)
 
--- what `next_block` answers
+-- what `next_block` returns
 abbrev pub GivesNextBlock : ReaderState Order → Result (Option Block) Fault → ReaderState Order → Type 0
 GivesNextBlock old result new =
     readers.GivesNextPiece (λ block. GivesBlock old block new) (is_some old.known)

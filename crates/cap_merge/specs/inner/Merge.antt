@@ -10,7 +10,7 @@ use Rattle.cap_time.specs.Clock.{later}
 use Rattle.cap_merge.specs.inner.First.{head_coming}
 use Rattle.cap_merge.specs.Parts.{Part, LaneState, head_time, is_bounded, passed_lane, merged_feed}
 
--- What a lane does with a fault of its feed: a refusal is what comes next, another fault is answered.
+-- What a lane does with a fault of its feed: a refusal is what comes next, another fault is returned.
 abbrev pub LaneAnswers : {T : Type 0} → Lane → Fault → Result T Fault → Lane → Type 0
 LaneAnswers old (Refused refusal) result new = (is_ok result ≡ true)
     × (new ≡ record { clock = old.clock; next = Some (Err refusal) })
@@ -66,7 +66,7 @@ abbrev pub AsksAll : {T : Type 0} → List Part → Result T Fault → List Part
 AsksAll ps (Ok x) qs = LearnsAll ps qs
 AsksAll ps (Err fault) qs = StopsAt fault ps qs
 
--- The same of a call that answers a refusal as a fault, once all feeds were asked.
+-- The same of a call that returns a refusal as a fault, once all feeds were asked.
 abbrev pub LooksAll : {T : Type 0} → List Part → Result T Fault → List Part → Type 0
 LooksAll ps (Ok x) qs = LearnsAll ps qs
 LooksAll ps (Err (Refused refusal)) qs = LearnsAll ps qs
@@ -100,7 +100,7 @@ abbrev pub ShowsAt : List Part → ℕ → Bool → List Part → Type 0
 ShowsAt ps place true qs = LearnsAll ps qs
 ShowsAt ps place false qs = PeeksAt ps place qs
 
--- What comes next is what such a call answers, unless a device failed or a growth was refused.
+-- What comes next is what such a call returns, unless a device failed or a growth was refused.
 abbrev pub TellsNext : Option Head → Result Bool Fault → Type 0
 TellsNext head (Ok is_packet) = head_coming head ≡ Some (Ok is_packet)
 TellsNext head (Err (Refused refusal)) = head_coming head ≡ Some (Err refusal)

@@ -40,7 +40,7 @@ pub record SeesPcapHeader (header : PcapHeader) (old new : WindowState) : Type 0
   pub whole : IsTrue old.told → pcap_header_fault old.offset (coming old) ≡ None
   pub header_is : IsTrue old.told → header ≡ header_at (coming old)
 
--- what a look at the header answers
+-- what a look at the header returns
 abbrev pub LooksForHeader : WindowState → Result (Result PcapHeader Refusal) Fault → WindowState → Type 0
 LooksForHeader old (Ok (Ok header)) new = SeesPcapHeader header old new
 LooksForHeader old (Ok (Err refusal)) new =
@@ -58,7 +58,7 @@ pub record SeesRecord (header : PcapHeader) (tail : Tail) (r : Record) (old new 
       (take (16 + r.captured) new.shown)
   pub none : IsTrue old.told → record_stop_at header.order tail old.file old.offset (coming old) ≡ None
 
--- what a look at a record answers
+-- what a look at a record returns
 abbrev pub LooksForRecord : PcapHeader → Tail → WindowState → Result (Result Record Stop) Fault → WindowState → Type 0
 LooksForRecord header tail old result new =
     LooksFor (λ r. SeesRecord header tail r old new) true (record_fault header.order old.offset (coming old))

@@ -53,7 +53,7 @@ pub record HasHeader (header : PcapHeader) (old new : ReaderState PcapHeader) : 
 abbrev pub KeepsHeader : ReaderState PcapHeader → ReaderState PcapHeader → Type 0
 KeepsHeader old new = IfSome old.known (λ header. new.known ≡ Some header)
 
--- What `header` answers. A refusal is the one that came before, or that of the file's header, by the first condition
+-- What `header` returns. A refusal is the one that came before, or that of the file's header, by the first condition
 -- that it meets.
 abbrev pub GivesHeader : ReaderState PcapHeader → Result PcapHeader Fault → ReaderState PcapHeader → Type 0
 GivesHeader old (Ok header) new = HasHeader header old new
@@ -92,7 +92,7 @@ pub record GivesRecord (header : PcapHeader) (old : ReaderState PcapHeader) (r :
   pub spelled : IsTrue old.told → IfSome new.lent (λ frame.
       SpellsRecord header.order header.unit (packet_of r frame) (take (16 + r.captured) old.coming))
 
--- what `next_record` answers
+-- what `next_record` returns
 abbrev pub GivesNextRecord : PcapHeader → ReaderState PcapHeader → Result (Option Record) Fault
     → ReaderState PcapHeader → Type 0
 GivesNextRecord header old result new =

@@ -126,7 +126,8 @@ TakesFed old block said (Err Memory) new = new ≡ old
 
 abbrev pub TakesBlockFed : CourseState → Block → List ℕ → Result FedStep Fault → CourseState → Type 0
 TakesBlockFed old block bytes result new =
-    TakesFed old block (content_in old.progress.interfaces block.kind block.order (body_in block.total bytes)) result new
+    TakesFed old block (content_in old.progress.interfaces block.kind block.order
+    (body_in block.total bytes)) result new
 
 -- No packet comes of these bytes if they are all: none, or a refusal by rule 3.
 abbrev pub AreShort : List Item → Type 0
@@ -164,3 +165,26 @@ StepsFed old bytes (Err (Read file offset)) new = ⊥
 StepsFed old bytes (Err Write) new = ⊥
 StepsFed old bytes (Err Memory) new =
     (later : List ℕ) → items_after old (bytes ++ later) ≡ items_after new (bytes ++ later)
+
+-- The same items come of the next bytes, whatever is fed later, as come from another point on of these.
+abbrev pub FollowsFed : CourseState → List ℕ → CourseState → List ℕ → Type 0
+FollowsFed old bytes new rest =
+    (later : List ℕ) → MayFollow old later → items_after old (bytes ++ later) ≡ items_after new (rest ++ later)
+
+-- bytes were passed, and nothing else was found
+abbrev pub is_passed : Result FedStep Fault → Bool
+is_passed (Ok (steps.Passed n)) = true
+is_passed (Ok (steps.Packet meta place size)) = false
+is_passed (Ok steps.Short) = false
+is_passed (Ok steps.Ends) = false
+is_passed (Err fault) = false
+
+-- What looking on at the next bytes returns and leaves: at the point that is reached, `rest` are still to come.
+pub record LooksFed (old : CourseState) (bytes : List ℕ) (result : Result FedStep Fault) (new : CourseState)
+    (rest : List ℕ)
+    : Type 0 where
+  pub reached : CourseState
+  pub keeps : CourseKeeps old reached
+  pub follows : FollowsFed old bytes reached rest
+  pub steps : StepsFed reached rest result new
+  pub ends : is_passed result ≡ false

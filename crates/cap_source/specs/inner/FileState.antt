@@ -350,7 +350,7 @@ pub record FileWaits (old new : FileState) : Type 0 where
   pub failed : new.failed ≡ old.failed
   pub rest : IsTrue old.told → SameRest old new
 
--- what a look at what comes next answers, and what is known of that after it
+-- what a look at what comes next returns, and what is known of that after it
 abbrev pub FileAnswers : {A : Type 0} → FileState → Result A Fault → Option Next → FileState → Type 0
 FileAnswers old (Ok x) after new = (next : Next) × (after ≡ Some next) × FileLearns old next new
 FileAnswers old (Err (Refused refusal)) after new = ⊥
@@ -358,7 +358,7 @@ FileAnswers old (Err (Read file offset)) after new = (after ≡ None) × FileFai
 FileAnswers old (Err Write) after new = ⊥
 FileAnswers old (Err Memory) after new = (after ≡ None) × FileWaits old new × (old.broken ≡ None)
 
--- what a look at what is shown already answers: whether it was enough
+-- what a look at what is shown already returns: whether it was enough
 abbrev pub TakesShown : FileState → Bool → Option Next → FileState → Type 0
 TakesShown old true after new = (next : Next) × (after ≡ Some next) × FileLearns old next new
 TakesShown old false after new = ⊤
@@ -403,7 +403,7 @@ abbrev pub LearnsOr : FileState → Option Next → Next → FileState → Type 
 LearnsOr old None next new = FileLearns old next new
 LearnsOr old (Some known) next new = (next ≡ known) × (new ≡ old)
 
--- what asking for what comes next answers
+-- what asking for what comes next returns
 abbrev pub LearnsNext : {A : Type 0} → FileState → Option Next → Result A Fault → FileState → Option Next → Type 0
 LearnsNext old known (Ok x) new after = (next : Next) × (after ≡ Some next) × LearnsOr old known next new
 LearnsNext old known (Err (Refused refusal)) new after = ⊥
@@ -412,14 +412,14 @@ LearnsNext old known (Err (Read file offset)) new after = (known ≡ None) × (a
 LearnsNext old known (Err Write) new after = ⊥
 LearnsNext old known (Err Memory) new after = (known ≡ None) × (after ≡ None) × FileWaits old new × (old.broken ≡ None)
 
--- what asking whether a packet is shown answers
+-- what asking whether a packet is shown returns
 abbrev pub ShowsNext : FileState → Option Next → Bool → FileState → Option Next → Type 0
 ShowsNext old known true new after = (meta : Meta) × (place : ℕ) × (after ≡ Some (nexts.Packet meta place))
     × LearnsOr old known (nexts.Packet meta place) new
 ShowsNext old known false new after = ((new ≡ old) × (after ≡ known))
     ⊎ ((next : Next) × (after ≡ Some next) × LearnsOr old known next new)
 
--- what asking for the first interface answers, of the file as a feed
+-- what asking for the first interface returns, of the file as a feed
 abbrev pub GivesFirst : Feed → Option Interface → Result (Option Interface) Fault → Feed → Type 0
 GivesFirst old first (Ok given) new = (head : Head) × Knows old head new × (IsTrue old.told → given ≡ first)
 GivesFirst old first (Err fault) new = GivesHead old (Err fault) new

@@ -1,4 +1,4 @@
--- Where a call that goes through a feed answers that a growth was refused, so that it isn't answered in place of a
+-- Where a call that goes through a feed returns that a growth was refused, so that it isn't returned in place of a
 -- refusal or at the end.
 use Rattle.std.specs.Prelude.{Option, Some, None, Result, Ok, Err, ⊤}
 use Rattle.cap_bytes.specs.declared.faults.Fault.{Fault}
@@ -13,7 +13,7 @@ OfMemory (Read file offset) P = ⊤
 OfMemory Write P = ⊤
 OfMemory Memory P = P
 
--- If the answer is `Memory`, that holds.
+-- If it returns `Memory`, that holds.
 abbrev pub IfMemory : {A : Type 0} → Result A Fault → Type 0 → Type 0
 IfMemory (Ok _) P = ⊤
 IfMemory (Err fault) P = OfMemory fault P

@@ -49,7 +49,7 @@ abbrev pub has_format : Format → List ℕ → Type 0
 has_format Pcap bytes = is_pcapng bytes ≡ false
 has_format Pcapng bytes = is_pcapng bytes ≡ true
 
--- what a look at the first four bytes answers
+-- what a look at the first four bytes returns
 abbrev pub LooksAtWindow : WindowState → Result Format Fault → WindowState → Type 0
 LooksAtWindow old (Ok format) new = WindowShows old new × (IsTrue old.told → has_format format (coming old))
 LooksAtWindow old (Err (Read file offset)) new = WindowBreaks old file offset new × (new.offset ≡ old.offset)
@@ -86,7 +86,7 @@ reader_room (readers.Pcap reader) reached = true
 reader_room (readers.Pcapng reader) reached = has_room reader.broken reached
 reader_room readers.Moved reached = true
 
--- what making the reader answers, of the file before and after that
+-- what making the reader returns, of the file before and after that
 abbrev pub OpensReader : {A : Type 0} → FileState → Result A Fault → FileState → Type 0
 OpensReader old (Ok _) new = FileWaits old new
 OpensReader old (Err (Read file offset)) new = FileFails old file offset new

@@ -1,4 +1,4 @@
--- What a call for the next packet of a feed answers, and a call that goes through all of them.
+-- What a call for the next packet of a feed returns, and a call that goes through all of them.
 use Rattle.std.specs.Prelude.{◌≡◌, ℕ, [], ◌∷◌, drop, IsTrue, Option, Some, None, IfSome, Result, Ok, Err, ⊤}
 use Rattle.cap_bytes.specs.declared.faults.Fault.{Fault}
 use Rattle.cap_bytes.specs.declared.faults.Fault.TheVariants.{Refused, Read, Write, Memory}
@@ -6,7 +6,7 @@ use Rattle.cap_source.specs.Feed.{Feed, Knows, FeedBreaks, FeedWaits, FeedGoes, 
 use Rattle.cap_source.specs.declared.feeds.Head.TheVariants as heads
 use Rattle.cap_source.specs.declared.packets.Meta.{Meta}
 
--- A packet comes next, or the end, or a refusal, which is answered as a fault.
+-- A packet comes next, or the end, or a refusal, which is returned as a fault.
 abbrev pub GivesPacket : Feed → Result (Option Meta) Fault → Feed → Type 0
 GivesPacket old (Ok (Some meta)) new = Knows old (heads.Packet meta) new
 GivesPacket old (Ok None) new = Knows old heads.End new
@@ -44,8 +44,8 @@ pub record WalkFails (old : Feed) (file offset : ℕ) (new : Feed) : Type 0 wher
   pub failed : IsTrue new.held.failed
   pub can_fail : IsTrue (old.can_fail file)
 
--- A call goes through a feed, to the end if it answers no fault. A failed read is answered as such, and no other fault
--- is answered for it.
+-- A call goes through a feed, to the end if it returns no fault. A failed read is returned as such, and no other fault
+-- is returned for it.
 abbrev pub Walks : {A : Type 0} → Feed → Result A Fault → Feed → Type 0
 Walks old (Ok _) new = (new.known ≡ Some heads.End) × FeedGoes old new
 Walks old (Err (Refused refusal)) new = FeedGoes old new

@@ -17,6 +17,6 @@ returns c =
   where
     some : (c.args.inside && (length c.args.bytes.now == 0)) ≡ false
     some = elim c.else-inside.branch [
-      else-inside-via-then-inside+else-is_empty w ↦ grind (arith, nat_tests)
+      | else-inside-via-then-inside+else-is_empty w ↦ grind (arith, nat_tests)
       | else-inside-via-else-inside w ↦ grind (arith, nat_tests)
     ]

@@ -1,0 +1,169 @@
+//! The packets of a capture whose bytes are fed piece by piece.
+ghost use Rattle.std.specs.Prelude.{◌≡◌, ◌≤◌, [], ◌++◌, ℕ, List, drop, false, length, true, vec_len};
+ghost use Rattle.cap_source.specs.Fed.{fed_items};
+ghost use Rattle.cap_source.specs.Items.{file_items};
+ghost use Rattle.cap_source.specs.inner.FedSteps.{CourseKeeps, IsSoundCourse, LooksFed, course_of};
+ghost use Rattle.cap_source.specs.inner.FedStates.{FeedsBytes, GivesFed};
+
+use crate::fed::{Course, FedStep, Stage};
+use crate::packets::Meta;
+use crate::reached::nothing_reached;
+use cap_bytes::{Fault, Tail};
+use std::alloc::Global;
+use std::marker::Model;
+
+/// What comes next of a capture that is fed.
+#[derive(Clone, Copy)]
+pub enum Fed {
+    /// A packet, which is passed.
+    Packet(Meta),
+    /// More bytes are wanted to tell.
+    More,
+    /// Nothing: the capture ends.
+    End,
+}
+
+/// The packets of a capture of either format whose bytes are fed piece by piece, cut anywhere. It keeps the bytes of the
+/// record or block that comes next, as far as they were fed, and none of a block that is skipped; besides what was fed
+/// after them, and the interfaces of the section that is being read.
+#[derive(Drop)]
+pub struct FedCapture {
+    course: Course,
+    bytes: Vec<u8>,
+    // how many of these were passed
+    passed: usize,
+    // where the captured bytes of the packet that came last begin and end
+    start: usize,
+    end: usize,
+}
+
+impl Model for FedCapture {
+    ghost use Rattle.std.specs.Prelude.{drop, slice_range, vec_len};
+    ghost use Rattle.cap_source.specs.Fed.{FedState};
+    ghost use Rattle.cap_source.specs.inner.FedSteps.{course_of};
+    ghost use Rattle.cap_source.specs.inner.FedStates.{IsSoundFed};
+
+    ghost Value = { FedState };
+
+    ghost view = { λ f. record {
+      course = course_of f.course;
+      rest = drop f.passed f.bytes.items;
+      frame = slice_range f.bytes.items f.start f.end;
+    } };
+
+    ghost invariant = { λ f. IsSoundFed (course_of f.course) f.start f.end f.passed (vec_len f.bytes) };
+}
+
+// Drops the first n bytes.
+fn drop_front(bytes: &mut Vec<u8>, n: usize)
+    requires { n ≤ vec_len bytes.old }
+    ensures { bytes.new.items ≡ drop n bytes.old.items }
+{
+    if n > 0 {
+        let end = bytes.len();
+        bytes.copy_within(n..end, 0);
+        bytes.truncate(end - n);
+    }
+}
+
+// Looks on, from byte `at` of those on, until a packet comes, more bytes are wanted or the capture ends.
+fn look_on(course: &mut Course, bytes: &[u8], at: &mut usize) -> Result<FedStep, Fault>
+    requires sound { IsSoundCourse (course_of course.old) }
+    requires within { at.old ≤ length bytes.now }
+    ensures looks { LooksFed (course_of course.old) (drop at.old bytes.now) result (course_of course.new)
+        (drop at.new bytes.now) }
+    ensures keeps { CourseKeeps (course_of course.old) (course_of course.new) }
+    ensures sound { IsSoundCourse (course_of course.new) }
+    ensures further { at.old ≤ at.new }
+    ensures within { at.new ≤ length bytes.now }
+{
+    loop {
+        let step = course.step(bytes.split_at(*at).1)?;
+        match step {
+            FedStep::Passed(n) => *at += n,
+            _ => return Ok(step),
+        }
+    }
+}
+
+impl FedCapture {
+    /// The capture of that number, of which nothing was fed yet. `tail` says what becomes of a cut end.
+    pub fn new(alloc: Global, file: u32, tail: Tail) -> FedCapture
+        ensures items { (later : List ℕ) → fed_items result later ≡ file_items tail file later }
+        ensures open { result.course.ended ≡ false }
+        ensures frame { result.frame ≡ [] }
+    {
+        FedCapture {
+            course: Course {
+                file,
+                tail,
+                ended: false,
+                offset: 0,
+                stage: Stage::Start,
+                reached: nothing_reached(alloc),
+            },
+            bytes: Vec::new(alloc),
+            passed: 0,
+            start: 0,
+            end: 0,
+        }
+    }
+
+    /// Feeds the next bytes of the capture. The captured bytes of the last packet are let go.
+    ///
+    /// Returns `Memory` if a growth was refused: then nothing was fed.
+    pub fn feed(&mut self, bytes: &[u8]) -> Result<(), Fault>
+        requires open { self.old.course.ended ≡ false }
+        ensures { FeedsBytes self.old bytes.now result self.new }
+    {
+        drop_front(&mut self.bytes, self.passed);
+        self.passed = 0;
+        self.start = 0;
+        self.end = 0;
+        self.bytes.extend_from_slice(bytes)?;
+        Ok(())
+    }
+
+    /// No more bytes come.
+    pub fn end(&mut self)
+        ensures course { self.new.course ≡ record self.old.course { ended = true } }
+        ensures rest { self.new.rest ≡ self.old.rest }
+        ensures frame { self.new.frame ≡ self.old.frame }
+    {
+        self.course.ended = true;
+    }
+
+    /// Whether that was said.
+    pub fn has_ended(&self) -> bool
+        ensures { result ≡ self.now.course.ended }
+    {
+        self.course.ended
+    }
+
+    /// The next packet, which is passed, as far as the bytes tell that were fed.
+    ///
+    /// Returns `Refused` if they break a rule, and then always: a cut one only once all were fed. Returns `Memory` if a growth
+    /// was refused, and leaves the packets to come.
+    pub fn next(&mut self) -> Result<Fed, Fault>
+        ensures { GivesFed self.old result self.new }
+    {
+        match look_on(&mut self.course, &self.bytes, &mut self.passed)? {
+            FedStep::Packet(meta, place, size) => {
+                self.start = self.passed + place;
+                self.end = self.start + meta.captured as usize;
+                self.passed += size;
+                Ok(Fed::Packet(meta))
+            }
+            FedStep::Ends => Ok(Fed::End),
+            FedStep::Short => Ok(Fed::More),
+            FedStep::Passed(_) => unreachable!(),
+        }
+    }
+
+    /// The captured bytes of the packet that came last, until more are fed.
+    pub fn frame(&self) -> &[u8]
+        ensures { result.now ≡ self.now.frame }
+    {
+        &self.bytes[self.start..self.end]
+    }
+}
