@@ -240,8 +240,9 @@ module _ (file : ℕ) (progress : Progress) (section : Option Order) (tail : Tai
     skip-entered = by-length (side (length w) block.total)
 
     pub skip-facts : (12 ≤ block.total) × (block.offset ≡ offset) × (offset + block.total ≤ 2 ^ 40)
-    skip-facts = let f = there in (least, offset-is, omega (arith, f.limit, total-is, ap (λ
-    (o : Order). total_at o w) order-is))
+    skip-facts =
+        let f = there in
+        (least, offset-is, omega (arith, f.limit, total-is, ap (λ (o : Order). total_at o w) order-is))
 
 -- ---- on the way through a block that is skipped
 
