@@ -86,8 +86,8 @@ pub fn diff_same()
 {}
 
 /// `diff` says of a capture, of either format and whatever bytes it holds, and of what `convert` writes of it, in
-/// either format and byte order, that both have the same packets, as many as the capture has, if nothing is refused
-/// and at most 2^40 bytes are written.
+/// either format and byte order, that both have the same packets, as many as the capture has, if nothing is refused and
+/// at most 2^40 bytes are written.
 pub fn diff_converted()
     ensures { SameAsConverted }
 {
