@@ -23,7 +23,7 @@
 # of count.c, and what it prints of a file to what info.c counts. A row has the processor seconds of capt (user and system,
 # the best of several runs), its peak of resident memory, and its processor seconds as a ratio to those of each other
 # program in the same run, whose runs come in turn. Aims, as ratios: report at most 1.5 of count.c (2 on many), info 1.5 of
-# info.c, convert and merge 2 of `cat FILE > OUT` on mixed sizes, a third of editcap and half of mergecap on small ones.
+# info.c, diff 1.5 of info of both files, convert and merge 2 of `cat FILE > OUT` on mixed sizes, a third of editcap and half of mergecap on small ones.
 #
 # Use: bench/all.sh [PROGRAM] [PERCENT OF THE SIZES] [RUNS]
 set -eu
@@ -126,6 +126,9 @@ for words in (["list", "small.pcap"], ["list", "small.pcapng"], ["blocks", "smal
 for command, file in (("list", "small.pcap"), ("blocks", "small.pcapng"), ("info", "small.pcap"), ("report", "many.pcap")):
     row(f"{command} --json {file}", [program, command, "--json", file], {"as text": [program, command, file]})
 os.remove("text")
+for first, second in (("mixed.pcap", "mixed.pcapng"), ("small.pcap", "small.pcapng"), ("small.pcap", "small.pcap")):
+    row(f"diff {first} {second}", [program, "diff", first, second],
+        {"info of both": [program, "info", first, second], "cmp": ["cmp", first, first]})
 for source, target in (("mixed.pcap", "pcapng"), ("small.pcap", "pcapng"), ("mixed.pcapng", "pcap"), ("small.pcapng", "pcap")):
     row(f"convert {source}", [program, "convert", "--to", target, "-o", "out", source],
         {"cat > OUT": copy(source), "editcap": ["editcap", "-F", target, source, "out"]})

@@ -169,4 +169,5 @@ class Bench:
 def wanted_of(task, contents, allow_cut=False, order="<"):
     """The status, what is written, and standard error, as the model has them."""
     text, refusal = model.answer(task, contents, allow_cut, order)
-    return 1 if refusal else 0, text if isinstance(text, bytes) else text.encode(), model.told(refusal).encode() if refusal else b""
+    written = text if isinstance(text, bytes) else text.encode()
+    return model.status_of(task, text, refusal), written, model.told(refusal).encode() if refusal else b""

@@ -15,7 +15,7 @@ from concurrent.futures import ThreadPoolExecutor
 from captures import PROGRAM, TOP, WRITING, Bench, Count, make_shim, wanted_of
 
 FOLDER = os.path.join(TOP, "checks", "corpus")
-TASKS = ("list", "blocks", "info", "report", "pcap", "pcapng", "merge", "join")
+TASKS = ("list", "blocks", "info", "report", "digest", "pcap", "pcapng", "merge", "join")
 MOST_BYTES = 300 * 1024
 ANSWERED = re.compile(r"^\$ (capt .*)\n((?:(?!\$ |# ).+\n)*)", re.M)      # a command line of answers.txt, and what follows it
 
@@ -93,6 +93,9 @@ def main():
                     order = "<>"[(number + place) % 2]
                     differs = bench.differs(task, [content], allow_cut, order, out, by(number + place // 2))
                     count.check(f"{task} of {name}{', --allow-cut' if allow_cut else ''}", not differs, differs)
+            for contents in ([content, content], [content, read(names[number - 1])]):
+                differs = bench.differs("diff", contents, number % 2 == 0, faults=by(number))
+                count.check(f"diff of {name}", not differs, differs)
 
         with ThreadPoolExecutor(2 * (os.cpu_count() or 2)) as pool:
             list(pool.map(answers, enumerate(Case(*found) for found in ANSWERED.findall(text))))

@@ -52,6 +52,8 @@ ROWS = {
     "options": [vector("OPTIONS_PCAPNG")],
     "cut": [vector("TAGGED_FRAMES")[:-1]],
     "longest": [pcap_header(1) + record(1, bytes(262_144)) + record(2, b"\1")],
+    "longest, twice": [pcap_header(1) + record(1, bytes(262_144)) + record(2, b"\1")] * 2,
+    "carried": [vector("CARRY_PCAP"), vector("CARRY_PCAPNG")],
     "conversations": [pcap_header(101) + b"".join(record(n, datagram(udp((n, 9)))) for n in range(3_000))],
     "groups": [pcap_header(101) + b"".join(record(1, datagram(bytes(8), 8, True, n)) for n in range(1_026))],
     "interfaces": [SECTION + interface(6) * 300 + b"".join(packet(n, n, WHOLE) for n in range(300))],
@@ -68,6 +70,7 @@ GROWTHS = {
     "pcapng": ["carry-pcap", "interfaces"],
     "pcap": ["carry-pcapng", "longest"],
     "list": ["options", "carry-pcap", "longest"],
+    "diff": ["runs-back", "carried", "longest, twice"],
     "blocks": ["options", "interfaces"],
 }
 DEVICES = {
@@ -81,6 +84,7 @@ DEVICES = {
     "pcapng": ["carry-pcap", "carry-pcapng", "options"],
     "pcap": ["carry-pcap", "carry-pcapng"],
     "list": ["options", "tagged-frames"],
+    "diff": ["runs-back", "carried"],
     "blocks": ["options"],
 }
 # How many packets of two files a merge writes before a read fails, by the file and the place that are told: of a file nothing is read before the first
@@ -103,13 +107,13 @@ def told_as(task, seen, wanted, fault):
     """Whether a run that met a fault told it, has given all memory back, and has written nothing, or a prefix of what was
     wanted."""
     status, text, error, _, _, blocks = seen
-    return (status, error, blocks) == (1, fault, 0) and (text == b"" if task in ("report", "info") else wanted[1].startswith(text))
+    return (status, error, blocks) == (1, fault, 0) and (text == b"" if task in ("diff", "report", "info") else wanted[1].startswith(text))
 
 
 def growths_before_files(bench, shim, out, task):
     """Refuses each growth of a run whose file is missing: those of the command line. The first number that meets none, and
     what was wrong."""
-    words = words_of(task, [os.path.join(bench.folder, "missing")], out=out)
+    words = words_of(task, [os.path.join(bench.folder, "missing")] * (2 if task == "diff" else 1), out=out)
     for n in range(1, 10_000):
         seen = run(words, bench.program, (shim, {"GROWTHS": f"{n}-{n + 1}"}))
         if seen[3] == 0:
@@ -194,6 +198,8 @@ def reads_of(count, bench, shim, out, task, row):
             seen = bench.run(task, contents, out=out, faults=(shim, {"READ": f"{number + 2}-{call}", "PIECE": 1}))
             offset = max(place for place in places if place <= call - 1)
             is_so = told_as(task, seen, wanted, f"fault: read file {number} offset {offset}\n".encode()) and seen[3] == 1
+            if task == "diff" and seen[3] == 0:        # it ended before that read
+                is_so = seen[:3] == wanted and seen[5] == 0
             if task in ("list", "blocks"):
                 is_so = is_so and seen[1] == wanted_of(task, [content[:offset]])[1]
             if task == "digest":

@@ -17,7 +17,7 @@ import model
 from captures import PROGRAM, VECTORS, Bench, Count, block, make_shim, vector
 
 ONE = ["list", "blocks", "info", "report", "digest", "pcapng", "pcap", "merge", "join", "merge-pcap", "join-pcap"]
-MANY = ["info", "report", "digest", "merge", "join", "merge-pcap", "join-pcap"]
+MANY = ["diff", "info", "report", "digest", "merge", "join", "merge-pcap", "join-pcap"]
 
 # The lengths at which `list` accepts a worked file that is cut; at every other it is refused by rule 3, at the greatest of
 # these and 0 that isn't above the length.
@@ -92,6 +92,7 @@ def all_runs():
         for n, (label, content) in enumerate(lies):
             yield label, ONE[n % len(ONE)], [content], n % 3 == 0
             yield label, "report", [content], n % 2 == 0
+            yield label, "diff", [content, whole] if n % 2 else [whole, content], n % 3 == 0
 
 
 def begin(folder, program, of_faults):

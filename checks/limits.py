@@ -56,6 +56,7 @@ class Edges:
         """Every command refuses a file; `list` prints a text before."""
         out = os.path.join(self.folder, "out")
         self.refuses(f"list of {name}", ["list", file], told, out=text or b"")
+        self.refuses(f"diff of {name}", ["diff", file, file], told)
         for words in (["info"], ["report"], ["merge", "-o", out], ["join", "-o", out], ["convert", "--to", "pcap", "-o", out],
                       ["convert", "--to", "pcapng", "-o", out]):
             self.refuses(f"{words[0]} of {name}", [*words, file], told)

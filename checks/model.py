@@ -6,6 +6,7 @@ not from capt's code. The scripts of this folder hold the built program to it.
 import hashlib, struct
 from collections import namedtuple
 from fractions import Fraction
+from itertools import zip_longest
 
 RULES = {1: "magic", 2: "version", 3: "cut", 4: "packet-long", 5: "block-length", 6: "block-trailer", 7: "order-magic",
          8: "captured", 9: "interface-unknown", 10: "option-end", 11: "option-length", 12: "resolution", 13: "interface-limit",
@@ -415,10 +416,46 @@ def report(files):
     return "".join(lines), None
 
 
+def packet_line(n, p):
+    return (f"packet {n} offset {p.offset} time {printed(p)} captured {p.captured} original {p.original} "
+            f"link {p.interface.link} data {p.data[:16].hex() or '-'}\n")
+
+
 def list_(files):
-    lines = [f"packet {n} offset {p.offset} time {printed(p)} captured {p.captured} original {p.original} "
-             f"link {p.interface.link} data {p.data[:16].hex() or '-'}\n" for n, p in enumerate(files[0].packets, 1)]
-    return "".join(lines), files[0].refusal
+    return "".join(packet_line(n, p) for n, p in enumerate(files[0].packets, 1)), files[0].refusal
+
+
+def differences(a, b):
+    """In what two packets differ; `end` if there is one of them."""
+    if a is None or b is None:
+        return ["end"]
+    pairs = [("link", a.interface.link, b.interface.link), ("time", time_of(a), time_of(b)), ("captured", a.captured, b.captured),
+             ("original", a.original, b.original), ("data", a.data, b.data)]
+    return [name for name, of_a, of_b in pairs if of_a != of_b]
+
+
+def first_difference(files):
+    """The number of the first packet that isn't the same in two files, in what it differs, and both packets; or the number of packets; or
+    the refusal before that."""
+    items = [file.packets + ([file.refusal] if file.refusal else []) for file in files]
+    for n, (a, b) in enumerate(zip_longest(*items), 1):
+        refused = [item for item in (a, b) if isinstance(item, Refusal)]
+        if refused:
+            return None, refused[0]
+        if differences(a, b):
+            return (n, differences(a, b), a, b), None
+    return (len(items[0]), [], None, None), None
+
+
+def diff(files):
+    found, refusal = first_difference(files)
+    if refusal:
+        return "", refusal
+    n, words, *packets = found
+    if not words:
+        return f"same packets {n}\n", None
+    sides = [f"{sign} {packet_line(n, packet) if packet else 'end' + chr(10)}" for sign, packet in zip("-+", packets)]
+    return f"differ packet {n} {' '.join(words)}\n{''.join(sides)}", None
 
 
 def blocks(files):
@@ -535,4 +572,9 @@ def answer(task, contents, allow_cut=False, order="<"):
         return to_pcap(order, files[0])
     if task in ("join", "join-pcap"):
         return join(to, order, files)
-    return {"list": list_, "blocks": blocks, "info": info, "report": report, "digest": digest}[task](files)
+    return {"list": list_, "blocks": blocks, "diff": diff, "info": info, "report": report, "digest": digest}[task](files)
+
+
+def status_of(task, text, refusal):
+    """The status after such an answer."""
+    return 1 if refusal else 3 if task == "diff" and text.startswith("differ") else 0

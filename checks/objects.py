@@ -1,5 +1,5 @@
 #!/usr/bin/env python3
-"""JSON Lines: what `list`, `blocks`, `info`, `report` and `digest` print with --json is, object for object and byte for byte, what the text lines of the
+"""JSON Lines: what `list`, `blocks`, `diff`, `info`, `report` and `digest` print with --json is, object for object and byte for byte, what the text lines of the
 model say of the same files, and Python's json reads each line as those values. Over the files of checks/corpus/, the examples, the worked captures,
 and captures made at random, some of them damaged; `list` also with --data. A refusal and a fault are an object too, with the file's path.
 
@@ -14,7 +14,7 @@ from concurrent.futures import ThreadPoolExecutor
 
 import model
 from captures import PROGRAM, TOP, VECTORS, Bench, Count, make_shim, run, vector, wanted_of
-from soak import mutated, some_capture
+from soak import mutated, some_capture, some_pair
 
 TASKS = ("list", "blocks", "info", "report", "digest")
 PROTOCOLS = {"udp": 17, "tcp": 6}
@@ -55,6 +55,10 @@ def object_of(line):
         return {"type": kind, "protocol": PROTOCOLS.get(name) or int(name[1:]), "a": end_of(a), "b": end_of(b),
                 "forward": {"packets": int(out), "bytes": int(out_bytes)}, "backward": {"packets": int(back), "bytes": int(back_bytes)},
                 "first": time_of(first), "last": time_of(last)}
+    if kind == "differ":
+        return {"type": kind, "packet": int(words[1]), "differs": words[2:]}
+    if kind in "-+":
+        return {"type": "side", "side": kind, "packet": None if words == ["end"] else object_of(" ".join(words))}
     if kind == "digest":
         number, _, digits, _, packets = words
         return {"type": kind, "file": int(number), "sha256": digits, "packets": int(packets)}
@@ -85,7 +89,7 @@ def wanted_objects(task, contents, paths, allow_cut, data=None):
     if data is not None:
         packets = model.File(1, contents[0], allow_cut).packets
         out = "".join(spelled({**json.loads(line), "data": packet.data[:data].hex()}) for line, packet in zip(out.splitlines(), packets))
-    return 1 if refusal else 0, out.encode(), refused_object(refusal, paths[refusal.file - 1]).encode() if refusal else b""
+    return model.status_of(task, text, refusal), out.encode(), refused_object(refusal, paths[refusal.file - 1]).encode() if refusal else b""
 
 
 def main():
@@ -113,6 +117,8 @@ def main():
             for task in TASKS:
                 for allow_cut in (False, True):
                     holds(bench, task, [content], allow_cut, faults=(shim, {"PIECE": 1}) if allow_cut else None)
+            for other in (content, vector("CARRY_PCAPNG")):
+                holds(bench, "diff", [content, other], False)
             for data in (0, 3, 199, 200, 201, 400, 262_144):
                 holds(bench, "list", [content], False, data)
 
@@ -125,6 +131,7 @@ def main():
             task, allow_cut = rng.choice(("info", "report", "digest", "blocks")), rng.random() < 0.5
             holds(bench, task, contents[:1] if task == "blocks" else contents, allow_cut)
             holds(bench, "list", contents[:1], allow_cut, rng.choice((None, None, 0, 20, 262_144)))
+            holds(bench, "diff", some_pair(rng, contents), allow_cut)
             for name in os.listdir(bench.folder):
                 os.remove(os.path.join(bench.folder, name))
 

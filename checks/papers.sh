@@ -46,6 +46,10 @@ def text_of(name):
 def kept_in(folder):
     return os.listdir(folder) if os.path.isdir(folder) else []
 
+def status_after(text):
+    refused = text.startswith(("refused: ", '{"type":"refused"'))
+    return 1 if refused else 3 if text.startswith(("differ ", '{"type":"differ"')) else 0
+
 # A command goes on in the lines after it that begin with two spaces.
 for page in ("README.md", "docs/GUIDE.md", "docs/RECIPES.md"):
     place = tempfile.mkdtemp(dir=os.path.dirname(folder))
@@ -56,7 +60,7 @@ for page in ("README.md", "docs/GUIDE.md", "docs/RECIPES.md"):
                 print(f"{page}: a recipe is left out, since jq isn't installed")
                 continue
             ran = subprocess.run(["bash", "-c", line], cwd=place, capture_output=True, text=True, timeout=60)
-            is_so = ran.stdout + ran.stderr == wanted and ran.returncode == wanted.startswith(("refused: ", '{"type":"refused"'))
+            is_so = ran.stdout + ran.stderr == wanted and ran.returncode == status_after(wanted)
             judged(line, is_so, f"status {ran.returncode}, printed:\n{ran.stdout}{ran.stderr}")
 
 kept = text_of("crates/cap_bytes/src/faults.rt")
@@ -71,11 +75,11 @@ told = {(int(number), name) for number, name in re.findall(r"^\.TP\n\.B (\d+) ([
 judged("man/capt.1, rules", told == rules, f"other rules: {sorted(told ^ rules)}")
 # the lines that the helps show are lines of the manual page, letter by letter
 lines = set(re.sub(r"^\.B |\\f.", "", page, flags=re.M).replace("\\-", "-").split("\n"))
-shown = set(re.findall(r"^  ((?:files?|total|frames|joined|talks?|packet|block|digest) .*)$", text_of("checks/says.txt"), re.M))
-judged("man/capt.1, lines", len(shown) == 10 and shown <= lines, f"lacks {sorted(shown - lines)}")
+shown = set(re.findall(r"^  ((?:files?|total|frames|joined|talks?|packet|block|same|differ|digest) .*)$", text_of("checks/says.txt"), re.M))
+judged("man/capt.1, lines", len(shown) == 12 and shown <= lines, f"lacks {sorted(shown - lines)}")
 
 # a pipe into or out of capt fails if any of its programs does
-TASK = "(?:report|info|list|blocks|digest|convert|merge|join)"
+TASK = "(?:report|info|list|blocks|diff|digest|convert|merge|join)"
 for page in ("README.md", "docs/GUIDE.md", "docs/RULES.md", "docs/RECIPES.md", "man/capt.1", "checks/says.txt"):
     lines = text_of(page).split("\n")
     pipes = [n for n, line in enumerate(lines) if re.search(rf"\| capt {TASK} |\bcapt {TASK} [^|`]*\|(?!\|)", line)]

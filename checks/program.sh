@@ -76,6 +76,19 @@ run convert --to pcap -o /dev/full "$work/cut.pcap"; check 'a refusal on a full 
 run convert --to pcap -o /dev/full "$work/section"; check 'a refusal with nothing to write, on a full disk' 1 '' 'refused: file 1 offset 0 rule 21 no-interface'
 run convert --to pcap "$one"; check 'no output' 2 '' '*'
 run convert -o "$work/none" "$one"; check 'no format' 2 '' '*'; absent 'no format' "$work/none"
+# diff: the status is 3 if two captures differ, and 1 if that can't be written
+difference="differ packet 1 end
+- $line
++ end"
+run diff "$one" "$work/want.pcapng"; check 'diff' 0 'same packets 1' ''
+input=$one; run diff - "$work/want.pcap"; check 'diff of standard input' 0 'same packets 1' ''; input=
+run diff "$one" "$work/section"; check 'diff of captures that differ' 3 "$difference" ''
+run diff --explain "$one" "$work/section"; check 'diff, explained' 3 "$difference" ''
+run diff "$one" "$work/cut.pcap"; check 'diff of a cut file' 1 '' 'refused: file 2 offset 24 rule 3 cut'
+run diff "$one" "$work/missing"; check 'diff of a missing file' 1 '' 'fault: open file 2'
+run diff "$work/folder" "$one"; check 'diff of a folder' 1 '' 'fault: read file 1 offset 0'
+run diff - -; check 'diff of standard input twice' 2 '' 'fault: input'
+"$program" diff "$one" "$work/section" > /dev/full 2> "$work/err"; status=$?; : > "$work/out"; check 'a difference on a full disk' 1 '' 'fault: write'
 # report: a frame of 4 bytes, short for Ethernet; nothing is written where a file is refused, or a read fails
 report='files 1
 file 1 pcap packets 1 bytes 4 truncated 0 skipped 0 first 2+500000/1000000 last 2+500000/1000000
@@ -384,6 +397,8 @@ completed merge capt help m
 completed '--explain' capt list --e
 completed '--output' capt merge --ou
 completed '--json' capt info --j
+completed '--json' capt diff --j
+completed diff capt help d
 completed '--json' capt digest --j
 completed '--data' capt list --da
 completed '' capt list --json --data 1

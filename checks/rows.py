@@ -7,10 +7,11 @@ import sys
 
 sys.dont_write_bytecode = True
 
-import hashlib, itertools, os, struct, tempfile
+import hashlib, itertools, json, os, re, struct, tempfile
 
 from captures import (CARRIED as PACKET, INTERFACE, MICRO_LITTLE, PROGRAM, SECTION, Bench, Count, datagram, make_shim, packet, pcap_header,
                       record, run, vector)
+from objects import object_of
 
 ETHERNET = f"{MICRO_LITTLE} 01000000"
 SECTION_BIG = "0a0d0d0a 0000001c 1a2b3c4d 0001 0000 ffffffffffffffff 0000001c"
@@ -458,6 +459,42 @@ JOINED_AS_PCAP = [
     ([of_link(101, at(1, FRAGMENTS[0])) + "00"], "", "file 1 offset 68 rule 3 cut"),
 ]
 
+# Two captures, whether a cut end is accepted, and what `diff` prints, or how it is refused: the packet of CARRIED in other forms, with one thing
+# changed, and beside others.
+SAME = "same packets 1\n"
+NANO_RECORD = "02000000 0065cd1d 04000000 04000000 01020304"
+NANO = f"4d3cb2a1 02000400 00000000 00000000 00000400 01000000 {NANO_RECORD}"
+# 5 halves of a second; 3,500,000 microseconds after the second before 1970; and the 4 bytes in a simple packet, without a time
+HALVES = f"{SECTION} {interface('0900 0100 81000000')} {enhanced(0).replace('a0252600', '05000000')}"
+EARLIER = f"{SECTION} {interface('0e00 0800 ffffffffffffffff')} {enhanced(0).replace('a0252600', 'e0673500')}"
+UNTIMED = f"{SECTION} {PLAIN} 03000000 14000000 04000000 01020304 14000000"
+SKIPPING = f"{SECTION} 01000040 10000000 00000000 10000000 {PLAIN} {enhanced(0)} {SECTION_BIG}"
+RECORD = CARRIED.removeprefix(ETHERNET)
+LATER = f"{ETHERNET} 02000000 21a10700 04000000 04000000 01020304"
+OTHER = f"{MICRO_LITTLE} 65000000 03000000 00000000 03000000 06000000 0102ff"
+OTHER_LINE = "packet {} offset 24 time 3+0/1000000 captured 3 original 6 link 101 data 0102ff\n"
+COMPARED = [
+    *((CARRIED, other, False, SAME) for other in (CARRIED, CARRIED_BIG, vector("CARRY_PCAPNG").hex(), CARRY_BIG, NANO, HALVES, EARLIER, SKIPPING)),
+    (HALVES, NANO, False, SAME), (UNTIMED, UNTIMED, False, SAME), (ETHERNET, SECTION, False, "same packets 0\n"),
+    (CARRIED + RECORD, NANO + NANO_RECORD, False, "same packets 2\n"),
+    (CARRIED, LATER, False, f"differ packet 1 time\n- {listed(1, 24)}+ {listed(1, 24, '2+500001/1000000')}"),
+    (UNTIMED, CARRIED, False, f"differ packet 1 time\n- {listed(1, 48, '-')}+ {listed(1, 24)}"),
+    (CARRIED, CARRIED[:-1] + "5", False, f"differ packet 1 data\n- {listed(1, 24)}+ {listed(1, 24)[:-3]}05\n"),
+    (CARRIED, CARRIED.replace("04000000 01020304", "05000000 01020304"), False,
+     f"differ packet 1 original\n- {listed(1, 24)}+ {listed(1, 24, original=5)}"),
+    (CARRIED.replace(ETHERNET, f"{MICRO_LITTLE} 65000000"), NANO, False,
+     f"differ packet 1 link\n- {listed(1, 24, link=101)}+ {listed(1, 24, '2+500000000/1000000000')}"),
+    (OTHER, CARRIED, False, f"differ packet 1 link time captured original data\n- {OTHER_LINE.format(1)}+ {listed(1, 24)}"),
+    (CARRIED + RECORD, CARRIED, False, f"differ packet 2 end\n- {listed(2, 44)}+ end\n"),
+    (SECTION, CARRIED, False, f"differ packet 1 end\n- end\n+ {listed(1, 24)}"),
+    # cut: refused where both come to it, the first file before the second, and not if they differ before
+    (CARRIED, CARRIED[:-2], False, "file 2 offset 24 rule 3 cut"), (CARRIED[:-2], CARRIED[:-2], False, "file 1 offset 24 rule 3 cut"),
+    (ETHERNET, CARRIED[:-2], False, "file 2 offset 24 rule 3 cut"), (CARRIED + RECORD[:-2], CARRIED, False, "file 1 offset 44 rule 3 cut"),
+    (CARRIED + RECORD[:-2], LATER, False, f"differ packet 1 time\n- {listed(1, 24)}+ {listed(1, 24, '2+500001/1000000')}"),
+    (CARRIED + RECORD[:-2], CARRIED, True, SAME), (CARRIED, CARRIED[:-2], True, f"differ packet 1 end\n- {listed(1, 24)}+ end\n"),
+    (CARRIED, "", True, "file 2 offset 0 rule 3 cut"), ("00000000", CARRIED, False, "file 1 offset 0 rule 1 magic"),
+]
+
 BLOCKS = ("block 1 offset 0 order little kind 0a0d0d0a total 28\nblock 2 offset 28 order little kind 00000001 total 32\n"
           "block 3 offset 60 order little kind 00000006 total 36\n")
 TOLD_CUT = "files 1\nfile 1 pcapng packets 0 bytes 0 truncated 0 skipped 0 first - last - cut\n"
@@ -470,6 +507,11 @@ VERSION = "capt 1.0.0 (rattle-kit-13b or 13f, logic dac8208d650f15bf)\n"
 
 def prints(text):
     return 0, text.encode(), b"", None
+
+
+def differs(text):
+    """Prints a difference of two captures."""
+    return 3, text.encode(), b"", None
 
 
 def writes(content):
@@ -485,6 +527,11 @@ def gives(content):
 LISTED_JSON = '{"type":"packet","n":1,"offset":60,"time":[2,500000,1000000],"captured":4,"original":4,"link":1,"data":"%s"}\n'
 INFO_JSON = ('{"type":"files","files":1}\n{"type":"file","file":1,"format":"pcapng","packets":0,"bytes":0,"truncated":0,"skipped":0,'
              '"first":null,"last":null,"cut":true}\n')
+SIDE_JSON = '{"type":"side","side":"%s","packet":%s}\n'
+ENDED_JSON = ('{"type":"differ","packet":1,"differs":["end"]}\n' + SIDE_JSON % ("-", (LISTED_JSON % "01020304").strip())
+              + SIDE_JSON % ("+", "null"))
+LATER_JSON = ('{"type":"differ","packet":1,"differs":["time","data"]}\n' + SIDE_JSON % ("-", (LISTED_JSON % "01020304").strip())
+              + SIDE_JSON % ("+", (LISTED_JSON % "01020305").strip().replace("60", "24").replace("500000", "500001", 1)))
 DIGEST_JSON = f'{{"type":"digest","file":%d,"sha256":"{hashlib.sha256(bytes.fromhex(CARRIED_TEXT)).hexdigest()}","packets":1}}\n'
 BLOCKS_JSON = ('{"type":"block","n":1,"offset":0,"order":"little","kind":"0a0d0d0a","total":28}\n'
                '{"type":"block","n":2,"offset":28,"order":"little","kind":"00000001","total":32}\n'
@@ -497,6 +544,13 @@ LINES = [
     ("list cut", (1, b"", b"refused: file 1 offset 60 rule 3 cut\n", None)),
     ("list --allow-cut cut", prints("")), ("list cut --allow-cut", prints("")),
     ("blocks a", prints(BLOCKS)), ("blocks --allow-cut - < cut", prints(BLOCKS[:BLOCKS.index("block 3")])),
+    ("diff a b", prints(SAME)), ("diff a carried", prints(SAME)), ("diff carried - < b", prints(SAME)), ("diff --explain a b", prints(SAME)),
+    ("diff - --allow-cut cut", differs(f"differ packet 1 end\n- {listed(1, 60)}+ end\n")), ("diff - -", INPUT),
+    ("diff a cut", (1, b"", b"refused: file 2 offset 60 rule 3 cut\n", None)), ("diff none a", (1, b"", b"fault: open file 1\n", None)),
+    ("diff a later", differs(f"differ packet 1 time data\n- {listed(1, 60)}+ {listed(1, 24, '2+500001/1000000')[:-3]}05\n")),
+    ("diff --json a carried", prints('{"type":"same","packets":1}\n')), ("diff a --json later", differs(LATER_JSON)),
+    ("diff --json --allow-cut a cut", differs(ENDED_JSON)),
+    ("diff --json a cut", (1, b"", b'{"type":"refused","file":2,"offset":60,"rule":3,"name":"cut","path":"cut"}\n', None)),
     ("info a b", prints(TWO)), ("info --allow-cut - < cut", prints(TOLD_CUT)), ("info - a -", INPUT),
     ("digest a b", prints(digests([CARRIED_TEXT] * 2, [1, 1]))), ("digest -", prints(digests([CARRIED_TEXT], [1]))), ("digest - -", INPUT),
     ("digest --allow-cut - < cut", prints(digests([""], [0]))),
@@ -525,6 +579,8 @@ LINES = [
         "help merge")),
     *((words, FAULTY) for words in (
         "", "help frobnicate", "frobnicate a", "--allow-cut list a", "list", "list a b", "list --version", "list --allow-cut --allow-cut a",
+        "diff", "diff a", "diff a b a", "diff a --order big b", "diff -o c a b", "diff --to pcap a b", "diff --whole a b", "diff --data 4 a b",
+        "diff --json --data 4 a b", "diff --json --json a b",
         "list --allow-cut=yes a", "list --order big a", "list -x a", "blocks", "blocks a b", "digest", "digest -o c a", "info", "info -o c a",
         "report", "report -o c a",
         "convert -o c a", "convert --to pcap a", "convert --to pcap -o c", "convert --to tar -o c a", "convert --to pcap -o c a b",
@@ -537,6 +593,22 @@ LINES = [
         "report --json --data 4 a",
         "convert --json --to pcap -o c a", "merge --json -o c a", "join --json -o c a")),
 ]
+
+
+def is_json(count, bench, contents):
+    """Holds what is printed of captures as JSON Lines, as Python reads it, to their text lines."""
+    rows = [(task, [content]) for content in contents for task in ("list", "blocks")] + [(task, contents) for task in ("info", "report")]
+    for task, files in rows + [("diff", files) for files in (contents, [contents[0]] * 2) if len(files) == 2]:
+        names = [bench.name(content) for content in files]
+        for allow_cut in ([], ["--allow-cut"]):
+            status, text, error = run([task, *allow_cut, *names], bench.program)
+            seen = run([task, "--json", *allow_cut, *names], bench.program)
+            wanted = [object_of(line) for line in text.decode().splitlines()]
+            found = re.fullmatch(r"refused: file (\d+) offset (\d+) rule (\d+) (\S+)\n", error.decode())
+            refused = [{"type": "refused", **dict(zip(("file", "offset", "rule"), map(int, found.groups()[:3]))), "name": found[4],
+                        "path": names[int(found[1]) - 1]}] if found else []
+            lines = [[json.loads(line) for line in part.splitlines()] for part in seen[1:]]
+            count.check(f"{task} --json of {names}", (seen[0], *lines) == (status, wanted, refused), seen)
 
 
 def seen_of(folder, program, words):
@@ -557,9 +629,10 @@ def main():
     count = Count()
     program = sys.argv[1] if len(sys.argv) > 1 else PROGRAM
     with tempfile.TemporaryDirectory() as folder:
-        bench, shim = Bench(folder, program), make_shim(folder)
+        bench, shim, captures = Bench(folder, program), make_shim(folder), {}
 
         def holds(name, task, contents, allow_cut, wanted):
+            captures[tuple(contents)] = None
             for by_bytes in (None, (shim, {"PIECE": 1})):
                 contents_in_bytes = [bytes.fromhex(content) for content in contents]
                 seen = bench.run(task, contents_in_bytes, allow_cut, out=os.path.join(folder, "out"), faults=by_bytes)[:3]
@@ -582,6 +655,10 @@ def main():
         for task, contents, allow_cut, told in NOT_PRINTED:
             error = f"refused: {told}\n".encode()
             holds(contents, task, contents, allow_cut, lambda *seen: seen == (1, b"", error))
+        for first, second, allow_cut, text in COMPARED:
+            told = f"refused: {text}\n" if text.startswith("file ") else ""
+            ended = (1, b"", told.encode()) if told else (0 if text.startswith("same ") else 3, text.encode(), b"")
+            holds(f"{first[:200]} and {second[:200]}", "diff", [first, second], allow_cut, lambda *seen: seen == ended)
         for content, text in TOLD_OF:
             holds(content, "info", [content], False, lambda *seen: seen == (0, f"files 1\n{text}".encode(), b""))
         for contents, texts, packets in DIGESTED:
@@ -601,7 +678,10 @@ def main():
             holds(content[:200], "report", [content], False,
                   lambda status, out, error: (status, error) == (0, b"") and out.endswith(text.encode()))
 
+        for contents in captures:
+            is_json(count, bench, [bytes.fromhex(content) for content in contents])
         for content, written, text in JOINED:
+            is_json(count, bench, [content])
             for by_bytes in (None, (shim, {"PIECE": 1})):
                 seen = bench.run("join", [content], out=os.path.join(folder, "joined"), faults=by_bytes)[:3]
                 count.check("join of 8,189 fragments", seen == (0, written, b""), seen[0], seen[2])
@@ -611,9 +691,10 @@ def main():
         work = os.path.join(folder, "work")
         os.mkdir(work)
         carried = vector("CARRY_PCAPNG")
-        for name in ("a", "b", "--allow-cut", "cut"):
+        kept = {"cut": carried[:-1], "carried": bytes.fromhex(CARRIED), "later": bytes.fromhex(LATER)[:-1] + b"\5"}
+        for name in ("a", "b", "--allow-cut", *kept):
             with open(os.path.join(work, name), "wb") as file:
-                file.write(carried[:-1] if name == "cut" else carried)
+                file.write(kept.get(name, carried))
         for words, wanted in LINES:
             seen = seen_of(work, program, words)
             is_so = all(bool(found) if want is ... else found == want for found, want in zip(seen, wanted))

@@ -10,7 +10,7 @@ from concurrent.futures import ProcessPoolExecutor
 import model
 from captures import PROGRAM, VECTORS, WRITING, Bench, datagram, make_shim, run, udp, vector, wanted_of, words_of
 
-TASKS = ["list", "blocks", "info", "report", "digest", "merge", "join", "pcap", "pcapng", "merge-pcap", "join-pcap"]
+TASKS = ["list", "blocks", "diff", "info", "report", "digest", "merge", "join", "pcap", "pcapng", "merge-pcap", "join-pcap"]
 MANY = ("info", "report", "digest", "merge", "join", "merge-pcap", "join-pcap")
 NUMBERS = [0, 1, 2, 3, 4, 28, 32, 262_144, 262_145, 524_288, 524_292, 2**31, 2**32 - 4, 2**32 - 1]
 LINE = re.compile(rb"refused: file \d+ offset \d+ rule \d+ [a-z-]+\n|fault: (read file \d+ offset \d+|write|memory|open file \d+|create output)\n|")
@@ -167,7 +167,7 @@ def some_faults(rng):
 def complaint(task, seen, wanted, faults):
     """What is wrong with a run, or None."""
     status, text, error, told, memory, blocks = seen
-    if status not in (0, 1) or not LINE.fullmatch(error) or (status == 0) != (error == b""):
+    if status not in (0, 1, 3) or not LINE.fullmatch(error) or (status != 1) != (error == b""):
         return "no defined end"
     if memory > MOST_MEMORY or memory == 0:
         return f"{memory} KiB of memory"
@@ -179,9 +179,18 @@ def complaint(task, seen, wanted, faults):
         return None
     if not error.startswith({"GROWTHS": b"fault: memory", "READ": b"fault: read", "WRITE": b"fault: write"}[next(iter(faults))]):
         return "another fault than was made"
-    if task in ("report", "info") and text and "WRITE" not in faults:
+    if task in ("diff", "report", "info") and text and "WRITE" not in faults:
         return "something was written"
     return None if wanted[1].startswith(text) else "no prefix was written"
+
+
+def some_pair(rng, captures):
+    """Two captures to be compared: often the same packets in another form, or with one change."""
+    kind, first = rng.random(), captures[0]
+    if kind < 0.4:
+        written, _ = model.answer(rng.choice(("pcap", "pcapng")), [first], order=rng.choice("<>"))
+        return [first, written] if kind < 0.3 else [mutated(rng, written, first), first]
+    return [first, mutated(rng, first, rng.choice(captures)) if kind < 0.7 else rng.choice(captures)]
 
 
 def case(rng, bench, shim, out, counts):
@@ -191,7 +200,7 @@ def case(rng, bench, shim, out, counts):
         for _ in range(rng.choice([0, 0, 0, 1, 1, 2, 3])):
             captures[place] = mutated(rng, captures[place], rng.choice(captures))
     for task in TASKS:
-        contents = captures if task in MANY else captures[:1]
+        contents = captures if task in MANY else some_pair(rng, captures) if task == "diff" else captures[:1]
         allow_cut, order = rng.random() < 0.5, rng.choice("<>")
         faults = some_faults(rng) if rng.random() < 0.25 else {}
         variables = faults or ({"PIECE": 1} if rng.random() < 0.2 else {})

@@ -20,6 +20,7 @@ PRINTS, TELLS = "cap_bytes.Printing.Prints", "cap_talks.talks.Telling.Tells"
 ROOTS = {
     "list": ["cap_tool.ListText.list_text", "cap_tool.ListText.list_json", "cap_tool.ListText.list_refusal", PRINTS],
     "blocks": ["cap_tool.BlockText.block_list", "cap_tool.BlockText.block_list_json", "cap_tool.BlockText.block_refusal", PRINTS],
+    "diff": ["cap_tool.DiffText.comparison_of", "cap_tool.DiffText.diff_text_in", "cap_tool.DiffText.diff_refusal", "cap_tool.DiffText.is_same", TELLS],
     "info": ["cap_talks.talks.InfoText.info_text_in", "cap_talks.talks.InfoText.first_refusal", TELLS],
     "report": [
         "cap_laws.InOrder.text_by_places_in", "cap_laws.InOrder.refusal_by_places", "cap_merge.Files.clocked_run",
