@@ -57,7 +57,7 @@ class Edges:
         out = os.path.join(self.folder, "out")
         self.refuses(f"list of {name}", ["list", file], told, out=text or b"")
         self.refuses(f"diff of {name}", ["diff", file, file], told)
-        for words in (["info"], ["report"], ["merge", "-o", out], ["join", "-o", out], ["convert", "--to", "pcap", "-o", out],
+        for words in (["info"], ["report"], ["digest"], ["merge", "-o", out], ["join", "-o", out], ["convert", "--to", "pcap", "-o", out],
                       ["convert", "--to", "pcapng", "-o", out]):
             self.refuses(f"{words[0]} of {name}", [*words, file], told)
 
@@ -208,7 +208,7 @@ def files(edges):
     edges.accepts("32 files, join", ["join", "-o", out, *[file] * 32])
     longest = edges.file("longest", SECTION, INTERFACE, packet(0, 1, b"\1", struct.pack("<HH", 1, 0) * ((524_288 - 36) // 4)))
     edges.takes("32 files with a block of 524,288 bytes", ["report", *[longest] * 32], 24)
-    for words in (["info"], ["report"], ["merge", "-o", out], ["join", "-o", out]):
+    for words in (["info"], ["report"], ["digest"], ["merge", "-o", out], ["join", "-o", out]):
         edges.refuses(f"33 files, {words[0]}", [*words, *[file] * 33], "fault: files", 2)
 
 

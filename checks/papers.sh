@@ -75,7 +75,7 @@ told = {(int(number), name) for number, name in re.findall(r"^\.TP\n\.B (\d+) ([
 judged("man/capt.1, rules", told == rules, f"other rules: {sorted(told ^ rules)}")
 # the lines that the helps show are lines of the manual page, letter by letter
 lines = set(re.sub(r"^\.B |\\f.", "", page, flags=re.M).replace("\\-", "-").split("\n"))
-shown = set(re.findall(r"^  ((?:files?|total|frames|joined|talks?|packet|block|same|differ|digest) .*)$", text_of("checks/says.txt"), re.M))
+shown = set(re.findall(r"^  ((?:files?|total|frames|joined|talks?|packet|block|same|differ|digest) \S.*)$", text_of("checks/says.txt"), re.M))
 judged("man/capt.1, lines", len(shown) == 12 and shown <= lines, f"lacks {sorted(shown - lines)}")
 
 # a pipe into or out of capt fails if any of its programs does

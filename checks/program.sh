@@ -363,7 +363,8 @@ says() {
     done
 }
 says > "$work/said"; same 'what is said' "$work/said" "$top/checks/says.txt"; diff "$top/checks/says.txt" "$work/said" | head -20
-if grep -q '^[^$!].\{80\}\|^! .\{81\}' "$work/said"; then failed=$((failed + 1)); echo 'what is said: a long line'; else passed=$((passed + 1)); fi
+# but for clap's list of the subcommands, which is one line
+if grep -v '^!   \[subcommands: ' "$work/said" | grep -q '^[^$!].\{80\}\|^! .\{81\}'; then failed=$((failed + 1)); echo 'what is said: a long line'; else passed=$((passed + 1)); fi
 run --help; check 'help' 0 '*' ''; "$program" --help > /dev/full 2> "$work/err"; status=$?; : > "$work/out"; check 'help on a full disk' 1 '' 'fault: write'
 run list $'\xff\xfe'; check 'words that are not UTF-8' 2 '' "error: a word of the command line isn't UTF-8
 
@@ -398,7 +399,7 @@ completed '--explain' capt list --e
 completed '--output' capt merge --ou
 completed '--json' capt info --j
 completed '--json' capt diff --j
-completed diff capt help d
+completed 'diff digest' capt help d
 completed '--json' capt digest --j
 completed '--data' capt list --da
 completed '' capt list --json --data 1

@@ -8,6 +8,9 @@ returns-in-List-clause-text c = search rules
 pub returns-in-Blocks-clause-text : goal.returns-in-Blocks-clause-text
 returns-in-Blocks-clause-text c = search rules
 
+pub returns-in-Digest-clause-text : goal.returns-in-Digest-clause-text
+returns-in-Digest-clause-text c = search rules
+
 pub returns-in-Info-clause-text : goal.returns-in-Info-clause-text
 returns-in-Info-clause-text c = search rules
 
