@@ -124,7 +124,7 @@ impl Lane {
     fn comes_before(&self, first: &Lane) -> bool
         ensures { result ≡ comes_before (lane_turn self.now) (lane_turn first.now) }
     {
-        self.has_item() && self.clock < first.clock
+        self.clock < first.clock && self.has_item()
     }
 }
 

@@ -16,10 +16,11 @@ use std::marker::Model;
 /// own. So it is forgotten by one mark, where an `Option<Next>` would be set to zero as a whole.
 #[derive(Drop)]
 pub struct Known {
-    is_packet: bool,
+    // whether a packet comes next, if anything is known
+    is_packet: Option<bool>,
     place: u32,
     meta: Meta,
-    // the refusal or the end that comes next, which stays for good
+    // else the refusal or the end that comes next
     last: Option<Next>,
 }
 
@@ -43,7 +44,7 @@ impl Known {
     {
         // the packet isn't read before it was put
         Known {
-            is_packet: false,
+            is_packet: None,
             place: 0,
             meta: Meta {
                 file: 0,
@@ -70,7 +71,7 @@ impl Known {
     pub fn is_some(&self) -> bool
         ensures { result ≡ is_some self.now }
     {
-        self.is_packet || self.last.is_some()
+        self.is_packet.is_some()
     }
 
     /// Whether a packet is known to come next.
@@ -78,7 +79,7 @@ impl Known {
     pub fn is_packet(&self) -> bool
         ensures { result ≡ is_packet self.now }
     {
-        self.is_packet
+        self.is_packet.unwrap_or(false)
     }
 
     /// That packet, without its bytes.
@@ -103,20 +104,19 @@ impl Known {
     pub fn get(&self) -> Option<Next>
         ensures { result ≡ self.now }
     {
-        if self.is_packet {
-            Some(Next::Packet(self.meta, self.place))
-        } else {
-            self.last
+        match self.is_packet {
+            None => None,
+            Some(true) => Some(Next::Packet(self.meta, self.place)),
+            Some(false) => self.last,
         }
     }
 
-    /// A packet comes next, of which nothing was known.
+    /// A packet comes next.
     #[inline(always)]
     pub fn set_packet(&mut self, meta: Meta, place: u32)
-        requires { self.old ≡ None }
         ensures { self.new ≡ Some (Packet meta place) }
     {
-        self.is_packet = true;
+        self.is_packet = Some(true);
         self.place = place;
         self.meta = meta;
     }
@@ -125,7 +125,7 @@ impl Known {
     pub fn set_refused(&mut self, refusal: Refusal, ending: FileEnd)
         ensures { self.new ≡ Some (Refused refusal ending) }
     {
-        self.is_packet = false;
+        self.is_packet = Some(false);
         self.last = Some(Next::Refused(refusal, ending));
     }
 
@@ -133,16 +133,15 @@ impl Known {
     pub fn set_end(&mut self, ending: FileEnd)
         ensures { self.new ≡ Some (End ending) }
     {
-        self.is_packet = false;
+        self.is_packet = Some(false);
         self.last = Some(Next::End(ending));
     }
 
-    /// The packet that came next is passed: nothing is known.
+    /// What came next is passed: nothing is known.
     #[inline(always)]
     pub fn forget(&mut self)
-        requires { IsPacket (next_head self.old) }
         ensures { self.new ≡ None }
     {
-        self.is_packet = false;
+        self.is_packet = None;
     }
 }

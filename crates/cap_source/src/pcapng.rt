@@ -136,8 +136,7 @@ fn set_packet(
     said: Result<Packet, Rule>,
     known: &mut Known,
 )
-    requires base { reached.now.base < 2 ^ 63 }
-    requires unknown { known.old ≡ None }
+    requires { reached.now.base < 2 ^ 63 }
     ensures { known.new ≡ next_at file (progress_of reached.now) block (of_body Content.Packet said) }
 {
     match said {

@@ -17,11 +17,8 @@ pass-requires g c =
 
 pub returns-clause-passes : goal.returns-clause-passes
 returns-clause-passes g c =
-    let m : Lane = record {
-      clock =
-          (get_or c.deref_mut.result.now c.args.place c.index-deref_mut-place.result).clock;
-      next = None;
-    } in
+    let there = get_or c.deref_mut.result.now c.args.place c.index-deref_mut-place.result in
+    let m : Lane = record { clock = there.clock; next = None } in
     passes-at g.F.PacketFeed.feed c.args.lanes.now.items c.deref_mut.result.now c.args.feeds.now.items c.args.place
     c.index-deref_mut-place.result m c.index_mut.result.now c.pass.new.self c.deref_mut.ensures.value
     c.index_mut.ensures.value c.requires.place c.requires.alike
