@@ -23,9 +23,9 @@ pub enum Fed {
     End,
 }
 
-/// The packets of a capture of either format whose bytes are fed piece by piece, cut anywhere. It keeps the bytes of the
-/// record or block that comes next, as far as they were fed, and none of a block that is skipped; besides what was fed
-/// after them, and the interfaces of the section that is being read.
+/// The packets of a capture of either format whose bytes are fed piece by piece, cut anywhere. It keeps the bytes of
+/// the record or block that comes next, as far as they were fed, and none of a block that is skipped; besides what
+/// was fed after them, and the interfaces of the section that is being read.
 #[derive(Drop)]
 pub struct FedCapture {
     course: Course,
@@ -142,8 +142,8 @@ impl FedCapture {
 
     /// The next packet, which is passed, as far as the bytes tell that were fed.
     ///
-    /// Returns `Refused` if they break a rule, and then always: a cut one only once all were fed. Returns `Memory` if a growth
-    /// was refused, and leaves the packets to come.
+    /// Returns `Refused` if they break a rule, and then always: a cut one only once all were fed. Returns `Memory` if
+    /// a growth was refused, and leaves the packets to come.
     pub fn next(&mut self) -> Result<Fed, Fault>
         ensures { GivesFed self.old result self.new }
     {

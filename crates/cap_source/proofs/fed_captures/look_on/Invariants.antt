@@ -6,7 +6,8 @@ abbrev pub invariant-loop-step : goal.invariant-loop-step
 invariant-loop-step l = record {
   sound : IsSoundCourse (course_of l.course);
   keeps : CourseKeeps (course_of l.initial.course) (course_of l.course);
-  follows : FollowsFed (course_of l.initial.course) (drop l.initial.at l.bytes) (course_of l.course) (drop l.at l.bytes);
+  follows : FollowsFed (course_of l.initial.course) (drop l.initial.at l.bytes) (course_of l.course)
+      (drop l.at l.bytes);
   further : l.initial.at ≤ l.at;
   within : l.at ≤ length l.bytes;
 }
