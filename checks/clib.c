@@ -1,5 +1,5 @@
 /* A C program over libcapt, for clib.py. It prints what `capt list` prints of a file, by capt_next (`next`), by capt_next_many
- * (`many`), or of standard input (`stdin`), what `capt report` prints, step by step (`table`), and misuses the library in each way that the header names (`misuse`). */
+ * (`many`), of standard input (`stdin`), or of bytes that are fed, N at a time (`fed N`), what `capt report` prints, step by step (`table`), and misuses the library in each way that the header names (`misuse`). */
 #include <capt.h>
 #include <inttypes.h>
 #include <stdio.h>
@@ -84,6 +84,48 @@ static int list(capt_reader *reader, size_t room) {
     return next(reader, packets, room, &count, &again) == CAPT_MISUSE && capt_end(reader, &ending) == CAPT_MISUSE ? code : 8;
 }
 
+/* What comes next of a reader that is fed: feeds `size` bytes more as long as more are wanted. */
+static uint32_t next_fed(capt_reader *reader, capt_bytes *rest, size_t size, capt_packet *packet, capt_place *place) {
+    uint32_t status;
+    while ((status = capt_next(reader, packet, place)) == CAPT_MORE) {
+        if (place->offset || place->file || place->rule) exit(10);
+        size_t len = rest->len < size ? rest->len : size;
+        /* a piece of its own, so that bytes which the library keeps without a copy are seen by valgrind */
+        uint8_t *piece = malloc(len ? len : 1);
+        if (!piece) exit(3);
+        memcpy(piece, rest->at, len);
+        uint32_t fed = len ? capt_feed(reader, piece, len) : capt_feed_end(reader);
+        free(piece);
+        if (fed != CAPT_DONE) return fed;
+        rest->at += len;
+        rest->len -= len;
+    }
+    return status;
+}
+
+static int list_fed(capt_bytes rest, size_t size, bool allow_cut) {
+    capt_reader reader = {0};
+    capt_packet packet;
+    capt_place place = {0, 0, 0}, again;
+    capt_ending ending;
+    size_t count;
+    uint64_t number = 0;
+    uint32_t status = capt_open_fed(&reader, allow_cut);
+    if (status != CAPT_DONE) return told(status, place);
+    while ((status = next_fed(&reader, &rest, size, &packet, &place)) == CAPT_PACKET) print_packet(++number, &packet);
+    int code = told(status, place);
+    if (status == CAPT_MEMORY) return capt_close(&reader), code;
+    /* the end and a refusal come again; no other call knows such a reader */
+    if (capt_next(&reader, &packet, &again) != status || memcmp(&place, &again, sizeof place)) return 6;
+    if (capt_end(&reader, &ending) != CAPT_MISUSE || capt_next_many(&reader, &packet, 1, &count, &place) != CAPT_MISUSE) return 7;
+    if (capt_table_step(&reader, &place) != CAPT_MISUSE) return 7;
+    if (capt_feed_end(&reader) != CAPT_DONE || capt_feed(&reader, (const uint8_t *)"", 0) != CAPT_MISUSE) return 11;
+    capt_close(&reader);
+    capt_close(&reader);
+    bool closed = capt_feed(&reader, (const uint8_t *)"", 0) == CAPT_MISUSE && capt_feed_end(&reader) == CAPT_MISUSE;
+    return closed && capt_next(&reader, &packet, &again) == CAPT_MISUSE ? code : 8;
+}
+
 /* The report of a file, step by step, with one after each step that can be written. */
 static int report(capt_bytes file, bool allow_cut) {
     capt_table table = {0};
@@ -143,6 +185,7 @@ static int misuse(const char *name) {
     /* room for no packet, and a reader that is opened again and again */
     if (capt_open(&reader, files[0].at, files[0].len, false) != CAPT_DONE) return 10;
     if (capt_next_many(&reader, &packet, 0, &count, &place) != CAPT_MISUSE) return 11;
+    if (capt_feed(&reader, files[0].at, 1) != CAPT_MISUSE || capt_feed_end(&reader) != CAPT_MISUSE) return 22;
     for (int i = 0; i < 10000; i++) {
         if (capt_open(&reader, files[0].at, files[0].len, false) != CAPT_DONE) return 12;
         if (capt_next(&reader, &packet, &place) != CAPT_PACKET || packet.offset != 24) return 13;
@@ -166,6 +209,11 @@ int main(int count, char **words) {
         return status == CAPT_DONE ? list(&reader, 1) : told(status, (capt_place){0, 0, 0});
     }
     capt_bytes bytes = bytes_of(words[count - 1]);
+    if (strcmp(words[1], "fed") == 0 && count > 3) {
+        int code = list_fed(bytes, strtoul(words[2], NULL, 10), count > 4);
+        free((void *)bytes.at);
+        return code;
+    }
     if (strcmp(words[1], "table") == 0) {
         int code = report(bytes, allow_cut);
         free((void *)bytes.at);

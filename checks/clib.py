@@ -1,6 +1,6 @@
 #!/usr/bin/env python3
 """libcapt, as C and Python call it: over the examples and the corpus each call gives what the built program prints and writes, in
-memory and from standard input, also if that comes by one byte a read; a failed read and refused growths are told; each misuse that
+memory, from standard input, also if that comes by one byte a read, and fed in pieces of any size, whole and cut off anywhere; a failed read and refused growths are told; each misuse that
 the header names is told; only names that begin with capt_ are seen; and where valgrind is, it sees no error and no leak.
 
 Use: checks/clib.py [PROGRAM [FOLDER]]     (FOLDER as crates/capt_c/link.sh leaves it; without it the library is built, with proofs, over
@@ -87,6 +87,20 @@ def walked(capt, content, allow_cut):
         return lines, capture.ending
 
 
+def fed(capt, content, size, allow_cut):
+    """The same of a capture that is fed in pieces of a size."""
+    lines = []
+    with capt.Fed(allow_cut) as it:
+        try:
+            for place in range(0, len(content) + size, size):
+                it.feed(content[place:place + size]) if place < len(content) else it.end()
+                for packet in it:
+                    lines.append((packet.offset, packet.time, packet.captured, packet.original, packet.link, packet.data[:16].hex() or "-"))
+        except capt.Refused as refused:
+            return lines, str(refused)
+        return lines, None
+
+
 def listed(text):
     """The packets of what `list` printed."""
     packets = []
@@ -108,6 +122,8 @@ def check_python(count, capt, bench, name, content):
         status, text, error = bench.run("list", [content], allow_cut)[:3]
         lines, ending = walked(capt, content, allow_cut)
         count.check(f"python: packets of {name}", lines == listed(text))
+        for size in 1, 100:
+            count.check(f"python: {name} fed by {size}", fed(capt, content, size, allow_cut) == (lines, ending if status else None))
         if status:
             count.check(f"python: refusal of {name}", f"{ending}\n".encode() == error)
         else:
@@ -127,11 +143,22 @@ def check_c(count, checker, shim, bench, name, content):
         want = bench.run("list", [content], bool(words))[:3]
         for how in ("next", "many"):
             count.check(f"c: {how} {name}", run([checker, how, *words, path]) == want)
+        for size in "1", "7", "100000":
+            count.check(f"c: fed by {size} {name}", run([checker, "fed", size, *words, path]) == want)
         report = bench.run("report", [content], bool(words))[:3]
         count.check(f"c: table {name}", run([checker, "table", *words, path]) == report)
         for piece in ({}, {"LD_PRELOAD": shim, "FAULT_PIECE": "1"}):
             with open(path, "rb") as file:
                 count.check(f"c: stdin {name}", run([checker, "stdin", *words], stdin=file, env={**os.environ, **piece}) == want)
+
+
+def check_ends(count, checker, bench, name, content):
+    """Fed by one byte and cut off anywhere, a capture gives what it gives as a file."""
+    for end in range(len(content)):
+        path = bench.name(content[:end])
+        for words in [], ["--allow-cut"]:
+            seen = run([checker, "fed", "1", *words, path])
+            count.check(f"c: fed {end} bytes of {name}", seen == run([checker, "next", *words, path]), seen)
 
 
 def check_faults(count, checker, shim, path, content):
@@ -142,6 +169,8 @@ def check_faults(count, checker, shim, path, content):
         environment = {**os.environ, "LD_PRELOAD": shim, "FAULT_GROWTHS": f"{at}-{at + 1}"}
         status, _, error = run([checker, "table", path], env=environment)
         count.check(f"c: growth of a table {at}", (status, error) in ((0, b""), (1, b"fault: memory\n"), (3, b""), (17, b"fault: memory\n"), (6, b"")))
+        status, text, error = run([checker, "fed", "7", path], env={**os.environ, "LD_PRELOAD": shim, "FAULT_GROWTHS": f"{at}-{at + 1}"})
+        count.check(f"c: growth of a fed reader {at}", (status, error) in ((0, b""), (1, b"fault: memory\n"), (3, b"")))
     offsets = set()
     for at in range(1, len(content), 2):
         with open(path, "rb") as file:
@@ -196,9 +225,10 @@ def check_rust(count, folder, library, bench, contents):
     if command is None:
         return
     for name, content in contents:
-        status, text, error = run([*command, bench.name(content)])
         want = bench.run("list", [content])[:3]
-        count.check(f"rust: {name}", (status, text, error.partition(b"\n")[0]) == (want[0], want[1], want[2].rstrip(b"\n")))
+        status, text, error = run([*command, bench.name(content)])
+        count.check(f"rust: {name}", (status, text, error) == want)
+        count.check(f"rust: {name}, fed", run(command, input=content) == want)
 
 
 def main():
@@ -233,6 +263,8 @@ def main():
         count.check("the names that are seen", seen == declared, seen ^ declared)
         count.check("the version", run([program, "--version"])[1].decode().split()[:2] == ["capt", capt.version()])
         check_faults(count, checker, shim, path, example)
+        for name in "monday.pcap", "tuesday.pcapng":
+            check_ends(count, checker, bench, name, dict(contents)[name])
         many = [example] * 32
         count.check("32 files", capt.report_text(many).encode() == bench.run("report", many)[1])
         talks = capt.report([example]).talks
@@ -250,6 +282,8 @@ def main():
             for name, content in contents[::12]:
                 status = run([*watch, checker, "many", bench.name(content)])[0]
                 count.check(f"valgrind: {name}", status in (0, 1), status)
+                status = run([*watch, checker, "fed", "13", bench.name(content)])[0]
+                count.check(f"valgrind: {name}, fed", status in (0, 1), status)
     count.end()
 
 

@@ -14,10 +14,10 @@ import os
 from collections import namedtuple
 from fractions import Fraction
 
-__all__ = ["Capture", "Packet", "Ending", "Table", "Report", "Talk", "Side", "Error", "Refused", "ReadFailed",
+__all__ = ["Capture", "Fed", "Packet", "Ending", "Table", "Report", "Talk", "Side", "Error", "Refused", "ReadFailed",
            "report", "report_text", "info", "listing", "blocks", "convert", "merge", "join", "rule_name", "version"]
 
-_DONE, _PACKET, _REFUSED, _READ, _MEMORY, _MISUSE = 0, 1, 2, 3, 5, 6
+_DONE, _PACKET, _REFUSED, _READ, _MEMORY, _MISUSE, _MORE = 0, 1, 2, 3, 5, 6, 7
 _ROOM = 256
 
 
@@ -54,6 +54,10 @@ def _load():
     pointer, status, size, flag = ctypes.c_void_p, ctypes.c_uint32, ctypes.c_size_t, ctypes.c_bool
     for name, result, *words in [
         ("capt_open", status, pointer, pointer, size, flag),
+        ("capt_open_fed", status, pointer, flag),
+        ("capt_feed", status, pointer, pointer, size),
+        ("capt_feed_end", status, pointer),
+        ("capt_next", status, pointer, pointer, pointer),
         ("capt_next_many", status, pointer, pointer, size, pointer, pointer),
         ("capt_end", status, pointer, pointer),
         ("capt_close", None, pointer),
@@ -125,7 +129,7 @@ def _check(status: int, place: _Place, text: bytes = b"") -> None:
     if status == _MEMORY:
         raise MemoryError
     if status == _MISUSE:
-        raise ValueError("a closed capture, no file, or more than 32 files")
+        raise ValueError("a closed or ended capture, no file, or more than 32 files")
 
 
 class _Mapped:
@@ -225,6 +229,58 @@ class Capture:
     def close(self):
         _library.capt_close(ctypes.byref(self._reader))
         self._mapped.close()
+
+    def __enter__(self):
+        return self
+
+    def __exit__(self, *_):
+        self.close()
+
+    def __del__(self):
+        if hasattr(self, "_reader"):
+            self.close()
+
+
+class Fed:
+    """The packets of a capture whose bytes come piece by piece, as out of a socket. Close it, or use it as a context.
+
+        with capt.Fed() as fed:
+            for piece in pieces:
+                fed.feed(piece)
+                for packet in fed:
+                    print(packet)
+            fed.end()
+            for packet in fed:
+                print(packet)
+
+    An iteration gives the packets as far as the bytes tell that were fed. A cut end is refused after `end` alone.
+    """
+
+    def __init__(self, allow_cut: bool = False):
+        self._reader, self._place, self._packet = _Reader(), _Place(), _Packet()
+        _check(_library.capt_open_fed(ctypes.byref(self._reader), allow_cut), self._place)
+
+    def feed(self, piece) -> None:
+        """Feeds the next bytes, which are copied."""
+        mapped = _Mapped(memoryview(piece))
+        try:
+            _check(_library.capt_feed(ctypes.byref(self._reader), mapped.at, mapped.len), self._place)
+        finally:
+            mapped.close()
+
+    def end(self) -> None:
+        """No more bytes come."""
+        _check(_library.capt_feed_end(ctypes.byref(self._reader)), self._place)
+
+    def __iter__(self):
+        words = ctypes.byref(self._reader), ctypes.byref(self._packet), ctypes.byref(self._place)
+        while (status := _library.capt_next(*words)) == _PACKET:
+            yield Packet(self._packet)
+        if status != _MORE:
+            _check(status, self._place)
+
+    def close(self):
+        _library.capt_close(ctypes.byref(self._reader))
 
     def __enter__(self):
         return self

@@ -16,6 +16,7 @@ const DONE: u32 = 0;
 const PACKET: u32 = 1;
 const REFUSED: u32 = 2;
 const MEMORY: u32 = 5;
+const MORE: u32 = 7;
 
 #[repr(C)]
 #[derive(Default)]
@@ -71,6 +72,9 @@ struct RawBytes {
 
 extern "C" {
     fn capt_open(reader: *mut RawReader, at: *const u8, len: usize, allow_cut: bool) -> u32;
+    fn capt_open_fed(reader: *mut RawReader, allow_cut: bool) -> u32;
+    fn capt_feed(reader: *mut RawReader, at: *const u8, len: usize) -> u32;
+    fn capt_feed_end(reader: *mut RawReader) -> u32;
     fn capt_next(reader: *mut RawReader, packet: *mut RawPacket, place: *mut RawPlace) -> u32;
     fn capt_end(reader: *mut RawReader, ending: *mut RawEnding) -> u32;
     fn capt_close(reader: *mut RawReader);
@@ -106,6 +110,8 @@ pub enum Error {
     Memory,
     /// There are no files, or more than 32.
     Files,
+    /// Bytes were fed after the end.
+    Ended,
 }
 
 fn text_of(call: impl Fn(*mut u8, usize) -> usize) -> String {
@@ -134,6 +140,7 @@ impl fmt::Display for Error {
             }
             Error::Memory => write!(out, "fault: memory"),
             Error::Files => write!(out, "fault: files"),
+            Error::Ended => write!(out, "fault: fed after the end"),
         }
     }
 }
@@ -182,6 +189,44 @@ pub struct Ending {
     pub was_cut: bool,
 }
 
+/// What comes next of a capture that is fed.
+#[derive(Clone, Copy, Debug, PartialEq, Eq)]
+pub enum Next<'a> {
+    /// A packet.
+    Packet(Packet<'a>),
+    /// More bytes are wanted to tell.
+    More,
+    /// The capture ends.
+    End,
+}
+
+fn next_of(reader: &mut RawReader) -> Result<Next<'_>, Error> {
+    let mut raw = std::mem::MaybeUninit::<RawPacket>::uninit();
+    let mut place = RawPlace::default();
+    // SAFETY: after PACKET the packet is set, and its frame stays until the next call, which wants the reader
+    unsafe {
+        match capt_next(reader, raw.as_mut_ptr(), &mut place) {
+            PACKET => {
+                let raw = raw.assume_init();
+                Ok(Next::Packet(Packet {
+                    offset: raw.offset,
+                    instance: raw.instance,
+                    seconds: i128::from(raw.seconds) + (i128::from(raw.carry) << 64),
+                    numerator: raw.numerator,
+                    denominator: raw.denominator,
+                    original: raw.original,
+                    snaplen: raw.snaplen,
+                    link: raw.link,
+                    data: std::slice::from_raw_parts(raw.frame, raw.captured as usize),
+                }))
+            }
+            MORE => Ok(Next::More),
+            DONE => Ok(Next::End),
+            status => Err(error_of(status, place, Vec::new())),
+        }
+    }
+}
+
 /// The packets of a capture in memory, one by one.
 pub struct Capture<'a> {
     reader: RawReader,
@@ -205,28 +250,9 @@ impl<'a> Capture<'a> {
     /// The next packet, or none at the end. The end and a refusal come again.
     #[allow(clippy::should_implement_trait)]
     pub fn next(&mut self) -> Result<Option<Packet<'_>>, Error> {
-        let mut raw = std::mem::MaybeUninit::<RawPacket>::uninit();
-        let mut place = RawPlace::default();
-        // SAFETY: the reader is open. After PACKET the packet is set, and its frame stays until the next call, which wants `self`.
-        unsafe {
-            match capt_next(&mut self.reader, raw.as_mut_ptr(), &mut place) {
-                PACKET => {
-                    let raw = raw.assume_init();
-                    Ok(Some(Packet {
-                        offset: raw.offset,
-                        instance: raw.instance,
-                        seconds: i128::from(raw.seconds) + (i128::from(raw.carry) << 64),
-                        numerator: raw.numerator,
-                        denominator: raw.denominator,
-                        original: raw.original,
-                        snaplen: raw.snaplen,
-                        link: raw.link,
-                        data: std::slice::from_raw_parts(raw.frame, raw.captured as usize),
-                    }))
-                }
-                DONE => Ok(None),
-                status => Err(error_of(status, place, Vec::new())),
-            }
+        match next_of(&mut self.reader)? {
+            Next::Packet(packet) => Ok(Some(packet)),
+            _ => Ok(None),
         }
     }
 
@@ -242,6 +268,56 @@ impl<'a> Capture<'a> {
 }
 
 impl Drop for Capture<'_> {
+    fn drop(&mut self) {
+        // SAFETY: a reader may be closed at any time
+        unsafe { capt_close(&mut self.reader) }
+    }
+}
+
+/// The packets of a capture whose bytes are fed piece by piece, cut anywhere.
+pub struct Fed {
+    reader: RawReader,
+}
+
+// SAFETY: what a reader holds is its own
+unsafe impl Send for Fed {}
+
+impl Fed {
+    /// A capture of which nothing was fed yet. With `allow_cut` a last record or block that is cut off is dropped.
+    pub fn open(allow_cut: bool) -> Result<Fed, Error> {
+        let mut fed = Fed { reader: CLOSED };
+        // SAFETY: the reader begins as zero
+        match unsafe { capt_open_fed(&mut fed.reader, allow_cut) } {
+            DONE => Ok(fed),
+            _ => Err(Error::Memory),
+        }
+    }
+
+    /// Feeds the next bytes, which are copied; after `end` none can be fed.
+    pub fn feed(&mut self, piece: &[u8]) -> Result<(), Error> {
+        // SAFETY: the bytes are there while the call runs
+        match unsafe { capt_feed(&mut self.reader, piece.as_ptr(), piece.len()) } {
+            DONE => Ok(()),
+            MEMORY => Err(Error::Memory),
+            _ => Err(Error::Ended),
+        }
+    }
+
+    /// No more bytes come.
+    pub fn end(&mut self) {
+        // SAFETY: the reader is open
+        unsafe { capt_feed_end(&mut self.reader) };
+    }
+
+    /// The next packet, as far as the bytes tell that were fed. The end and a refusal come again; a cut end is refused
+    /// after `end` alone.
+    #[allow(clippy::should_implement_trait)]
+    pub fn next(&mut self) -> Result<Next<'_>, Error> {
+        next_of(&mut self.reader)
+    }
+}
+
+impl Drop for Fed {
     fn drop(&mut self) {
         // SAFETY: a reader may be closed at any time
         unsafe { capt_close(&mut self.reader) }

@@ -9,10 +9,11 @@
  * Threads. One call at a time with a handle. Calls with different handles may run at once, also over the same bytes.
  *
  * Pointers. None is NULL, not even to a file of 0 bytes: point to any byte then. Bytes that you give are only read. Those of
- * capt_open and capt_table_open stay where and as they are until capt_close; those of the other calls until the call
- * returns.
+ * capt_open and capt_table_open stay where and as they are until capt_close; those of the other calls, of capt_feed too, until
+ * the call returns.
  *
- * Memory. A reader holds at most 512 KiB and 1,024 interfaces; a table that for each of its files, and besides at most 1,024
+ * Memory. A reader holds at most 512 KiB and 1,024 interfaces; one that is fed the record or block that comes next, of at most
+ * 512 KiB, what was fed after it, and 1,024 interfaces; a table that for each of its files, and besides at most 1,024
  * groups of fragments and 1,048,576 conversations. A call that makes a text holds the whole text.
  *
  * No call is to be made from a signal handler. */
@@ -34,7 +35,8 @@ enum capt_status {
     CAPT_REFUSED = 2, /* a capture breaks a rule: capt_place says which, and where */
     CAPT_READ = 3,    /* a read of standard input failed: capt_place says where */
     CAPT_MEMORY = 5,  /* malloc or realloc returned NULL */
-    CAPT_MISUSE = 6   /* the handle isn't open, there are no files or more than 32, or no room for a packet */
+    CAPT_MISUSE = 6,  /* the handle isn't open, there are no files or more than 32, or no room for a packet */
+    CAPT_MORE = 7     /* of a reader that is fed: more bytes are wanted to tell what comes next */
 };
 
 /* Where a capture is refused, or where a read failed. All are 0 after any other status but CAPT_MISUSE, which leaves it. */
@@ -97,15 +99,28 @@ uint32_t capt_open(capt_reader *reader, const uint8_t *at, size_t len, bool allo
 /* The same of standard input, read by read(2) until capt_close, past any buffer of <stdio.h>. */
 uint32_t capt_open_stdin(capt_reader *reader, bool allow_cut);
 
-/* The next packet. CAPT_PACKET; CAPT_DONE, CAPT_REFUSED or CAPT_READ, each of which every further call returns again; or
- * CAPT_MEMORY, after which the call may be made again. `packet` is changed by CAPT_PACKET alone. */
+/* Opens a capture whose bytes you feed, in pieces cut anywhere, as they come out of a pipe or a socket. CAPT_DONE, or CAPT_MEMORY. */
+uint32_t capt_open_fed(capt_reader *reader, bool allow_cut);
+
+/* Feeds the next bytes of it, which are copied; the frame of the last packet goes. CAPT_DONE; CAPT_MEMORY, after which nothing was fed;
+ * or CAPT_MISUSE after capt_feed_end, or if the reader isn't one of capt_open_fed. Ask for packets until CAPT_MORE before you
+ * feed again, and it holds no more than one record or block and a piece. */
+uint32_t capt_feed(capt_reader *reader, const uint8_t *at, size_t len);
+
+/* Says that all bytes were fed. CAPT_DONE, or CAPT_MISUSE if the reader isn't one of capt_open_fed. */
+uint32_t capt_feed_end(capt_reader *reader);
+
+/* The next packet. CAPT_PACKET; CAPT_DONE, CAPT_REFUSED or CAPT_READ, each of which every further call returns again; CAPT_MORE of a
+ * reader that is fed, until more was fed or capt_feed_end said that no more comes; or CAPT_MEMORY, after which the call may be made
+ * again. `packet` is changed by CAPT_PACKET alone. What was fed in which pieces changes nothing of the packets, nor of a refusal. */
 uint32_t capt_next(capt_reader *reader, capt_packet *packet, capt_place *place);
 
 /* The next packets, up to `room` of them, which is at least 1: one, and those after it that need no further read. `count` says
- * how many came. The rest is as of capt_next; each frame stays until the next call with this reader. */
+ * how many came. The rest is as of capt_next; each frame stays until the next call with this reader. CAPT_MISUSE of a
+ * reader that is fed. */
 uint32_t capt_next_many(capt_reader *reader, capt_packet *packets, size_t room, size_t *count, capt_place *place);
 
-/* How the capture ended, once capt_next or capt_next_many has returned CAPT_DONE; else CAPT_MISUSE. */
+/* How the capture ended, once capt_next or capt_next_many has returned CAPT_DONE; else, and of a reader that is fed, CAPT_MISUSE. */
 uint32_t capt_end(capt_reader *reader, capt_ending *ending);
 
 /* Lets go what the reader, or the table, holds. */

@@ -24,6 +24,7 @@ by_memory (Err Memory) = Err Memory
 abbrev pub Shown : List ℕ → Result Unit Fault → ℕ → ℕ → Place → Option Held → Type 0
 Shown items answer len status place None = (len ≡ 0) × (status ≡ 5) × (place ≡ nowhere)
 Shown items answer len status place (Some (helds.Capture c)) = ⊥
+Shown items answer len status place (Some (helds.Fed f)) = ⊥
 Shown items answer len status place (Some (helds.Table t)) = ⊥
 Shown items answer len status place (Some (helds.Text text)) =
     (text.items ≡ items) × (len ≡ length items)

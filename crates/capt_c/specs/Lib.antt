@@ -2,6 +2,7 @@ pub mod Answers
 pub mod Held
 pub mod Sources
 pub mod Packets
+pub mod Feeding
 pub mod Reading
 pub mod Jobs
 pub mod Tables

@@ -8,6 +8,8 @@ use Rattle.cap_source.specs.declared.captures.Capture.{Capture}
 use Rattle.capt_c.specs.Answers.{status_of, place_of_fault, nowhere}
 use Rattle.capt_c.specs.contracts.sources.InputDevice.TheImpl as device
 use Rattle.capt_c.specs.contracts.sources.InputSource.TheImpl as source
+use Rattle.cap_source.specs.Fed.{FedState}
+use Rattle.capt_c.specs.Feeding.{StepsFedCapture}
 use Rattle.capt_c.specs.Packets.{StepsPacket, StepsMany}
 use Rattle.capt_c.specs.declared.answers.Place.{Place}
 use Rattle.cap_source.specs.declared.feeds.Ending.{Ending}
@@ -41,6 +43,7 @@ abbrev pub OpensCapture : (CaptureReader → Feed) → Tail → Bool → List �
 OpensCapture feed tail told bytes can_fail status None = status ≡ 5
 OpensCapture feed tail told bytes can_fail status (Some (helds.Text text)) = ⊥
 OpensCapture feed tail told bytes can_fail status (Some (helds.Table t)) = ⊥
+OpensCapture feed tail told bytes can_fail status (Some (helds.Fed f)) = ⊥
 OpensCapture feed tail told bytes can_fail status (Some (helds.Capture c)) =
     (status ≡ 0) × ((feed c).known ≡ None) × ((feed c).files ≡ 1 ∷ []) × ((feed c).told ≡ told)
     × ((feed c).items ≡ file_items tail 1 bytes) × ((feed c).can_fail 1 ≡ can_fail)
@@ -50,6 +53,8 @@ abbrev pub Nexts : (CaptureReader → Feed) → Option Held → ℕ → Packet �
 Nexts feed None status p place new = (status ≡ 6) × (new ≡ None)
 Nexts feed (Some (helds.Text text)) status p place new = (status ≡ 6) × (new ≡ Some (helds.Text text))
 Nexts feed (Some (helds.Table t)) status p place new = (status ≡ 6) × (new ≡ Some (helds.Table t))
+Nexts feed (Some (helds.Fed f)) status p place new =
+    (later : FedState) × (new ≡ Some (helds.Fed later)) × StepsFedCapture f status p place later
 Nexts feed (Some (helds.Capture c)) status p place new =
     (answer : Result Bool Fault) × (later : CaptureReader) × (status ≡ status_of_step answer)
     × (place ≡ place_of_step answer)
@@ -60,6 +65,7 @@ abbrev pub NextsMany : (CaptureReader → Feed) → Option Held → ℕ → ℕ 
 NextsMany feed None status count packets place new = (status ≡ 6) × (new ≡ None)
 NextsMany feed (Some (helds.Text text)) status count packets place new = (status ≡ 6) × (new ≡ Some (helds.Text text))
 NextsMany feed (Some (helds.Table t)) status count packets place new = (status ≡ 6) × (new ≡ Some (helds.Table t))
+NextsMany feed (Some (helds.Fed f)) status count packets place new = (status ≡ 6) × (new ≡ Some (helds.Fed f))
 NextsMany feed (Some (helds.Capture c)) status count packets place new =
     (answer : Result Bool Fault) × (later : CaptureReader) × (status ≡ status_of_step answer)
     × (place ≡ place_of_step answer)
@@ -90,6 +96,7 @@ abbrev pub TellsEnd : (CaptureReader → Feed) → Option Held → ℕ → End �
 TellsEnd feed None status end new = (status ≡ 6) × (new ≡ None)
 TellsEnd feed (Some (helds.Text text)) status end new = (status ≡ 6) × (new ≡ Some (helds.Text text))
 TellsEnd feed (Some (helds.Table t)) status end new = (status ≡ 6) × (new ≡ Some (helds.Table t))
+TellsEnd feed (Some (helds.Fed f)) status end new = (status ≡ 6) × (new ≡ Some (helds.Fed f))
 TellsEnd feed (Some (helds.Capture c)) status end new =
     (answer : Result Head Fault) × (later : CaptureReader) × (new ≡ Some (helds.Capture later))
     × GivesHead (feed c) answer (feed later) × EndTold (feed later) answer status end × FeedKeeps (feed c) (feed later)

@@ -25,6 +25,7 @@ reader_of_file file = record { told = true; can_fail = false; bytes = file_bytes
 abbrev pub OpensTable : Tail → List Bytes → ℕ → Option Held → Type 0
 OpensTable tail files status None = status ≡ 5
 OpensTable tail files status (Some (helds.Capture c)) = ⊥
+OpensTable tail files status (Some (helds.Fed f)) = ⊥
 OpensTable tail files status (Some (helds.Text text)) = ⊥
 OpensTable tail files status (Some (helds.Table t)) =
     (status ≡ 0) × IsUnreadRun tail (map reader_of_file files) (table_of t.value).parts
@@ -34,6 +35,7 @@ OpensTable tail files status (Some (helds.Table t)) =
 abbrev pub LeavesTable : Option Held → (TableState → Type 0) → Type 0
 LeavesTable None Holds = ⊥
 LeavesTable (Some (helds.Capture c)) Holds = ⊥
+LeavesTable (Some (helds.Fed f)) Holds = ⊥
 LeavesTable (Some (helds.Text text)) Holds = ⊥
 LeavesTable (Some (helds.Table t)) Holds = Holds (table_of t.value)
 
@@ -50,6 +52,7 @@ place_of_step (Err fault) = place_of_fault fault
 abbrev pub StepsTable : Option Held → ℕ → Place → Option Held → Type 0
 StepsTable None status place new = (status ≡ 6) × (new ≡ None)
 StepsTable (Some (helds.Capture c)) status place new = (status ≡ 6) × (new ≡ Some (helds.Capture c))
+StepsTable (Some (helds.Fed f)) status place new = (status ≡ 6) × (new ≡ Some (helds.Fed f))
 StepsTable (Some (helds.Text text)) status place new = (status ≡ 6) × (new ≡ Some (helds.Text text))
 StepsTable (Some (helds.Table t)) status place new =
     (answer : Result Step Fault) × (status ≡ status_of_step answer) × (place ≡ place_of_step answer)
@@ -59,6 +62,7 @@ StepsTable (Some (helds.Table t)) status place new =
 abbrev pub WritesTable : Option Held → ℕ → ℕ → Place → Option Held → Type 0
 WritesTable None len status place text = status ≡ 6
 WritesTable (Some (helds.Capture c)) len status place text = status ≡ 6
+WritesTable (Some (helds.Fed f)) len status place text = status ≡ 6
 WritesTable (Some (helds.Text t)) len status place text = status ≡ 6
 WritesTable (Some (helds.Table t)) len status place text =
     (xs : List Taken) → TableStands (table_of t.value) xs

@@ -24,6 +24,9 @@ pub const WRITE: u32 = 4;
 /// A growth was refused.
 pub const MEMORY: u32 = 5;
 
+/// Of a capture that is fed: more bytes are wanted.
+pub const MORE: u32 = 7;
+
 /// The call is faulty: a reader that isn't open, no file or more than 32, or an unknown word.
 pub const MISUSE: u32 = 6;
 

@@ -4,18 +4,20 @@ ghost use Rattle.capt_c.specs.declared.handles.Held.{Held};
 
 use crate::loose::Loose;
 use crate::sources::{Input, Slice};
-use cap_source::Capture;
+use cap_source::{Capture, FedCapture};
 use cap_talks::Table;
 use std::alloc::Global;
 use std::marker::Model;
 use std::mem::replace;
 use std::ptr::null_mut;
 
-/// What is kept: a capture that is being read, a table of captures, or a text.
+/// What is kept: a capture that is being read or fed, a table of captures, or a text.
 #[derive(Drop)]
 pub enum Held {
     /// A capture.
     Capture(Capture<Input>),
+    /// A capture that is fed.
+    Fed(FedCapture),
     /// A table, in a box of its own, since it is larger than the others.
     Table(Box<Table<Capture<Slice<'static>>>>),
     /// A text.

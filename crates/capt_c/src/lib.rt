@@ -3,6 +3,7 @@
 
 mod answers;
 mod batches;
+mod feeding;
 mod handles;
 mod jobs;
 mod loose;

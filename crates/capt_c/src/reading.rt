@@ -11,6 +11,7 @@ ghost use Rattle.capt_c.specs.Reading.{place_of_step};
 
 use crate::answers::{DONE, MEMORY, MISUSE, PACKET, Place, nowhere, place_of, status_of, tail_of};
 use crate::batches::step_many;
+use crate::feeding::step_fed;
 use crate::handles::{Handle, Held};
 use crate::packets::{Packet, packet_of};
 use crate::sources::{Input, Slice};
@@ -59,6 +60,7 @@ fn next_of(held: &mut Held, packet: &mut Packet, place: &mut Place) -> u32
 {
     match held {
         Held::Capture(capture) => told(step(capture, packet), place),
+        Held::Fed(fed) => step_fed(fed, packet, place),
         Held::Table(_) | Held::Text(_) => MISUSE,
     }
 }
@@ -156,7 +158,7 @@ fn next_many_of(
 {
     match held {
         Held::Capture(capture) => told(step_many(capture, packets, count), place),
-        Held::Table(_) | Held::Text(_) => MISUSE,
+        Held::Fed(_) | Held::Table(_) | Held::Text(_) => MISUSE,
     }
 }
 
@@ -230,7 +232,7 @@ fn end_of(held: &mut Held, ending: &mut End) -> u32
 {
     match held {
         Held::Capture(capture) => tell_end(capture, ending),
-        Held::Table(_) | Held::Text(_) => MISUSE,
+        Held::Fed(_) | Held::Table(_) | Held::Text(_) => MISUSE,
     }
 }
 

@@ -92,7 +92,7 @@ fn step_of(held: &mut Held, place: &mut Place) -> u32
 {
     match held {
         Held::Table(table) => told(table.step(), place),
-        Held::Capture(_) | Held::Text(_) => MISUSE,
+        Held::Capture(_) | Held::Fed(_) | Held::Text(_) => MISUSE,
     }
 }
 
@@ -122,7 +122,7 @@ fn write_of(alloc: Global, held: &Held, text: &mut Text, place: &mut Place) -> u
             let answer = table.write_so_far(&mut sink);
             show(alloc, text, sink, answer, place)
         }
-        Held::Capture(_) | Held::Text(_) => MISUSE,
+        Held::Capture(_) | Held::Fed(_) | Held::Text(_) => MISUSE,
     }
 }
 

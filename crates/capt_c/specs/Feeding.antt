@@ -1,0 +1,76 @@
+-- What the calls do to a capture whose bytes the caller feeds.
+use Rattle.std.specs.Prelude.{◌≡◌, ◌++◌, ℕ, Bool, true, false, List, [], Option, Some, None, Result, Ok, Err, ⊤, if◌then◌else◌}
+use Rattle.cap_bytes.specs.declared.faults.Fault.{Fault}
+use Rattle.cap_bytes.specs.declared.faults.Tail.{Tail}
+use Rattle.cap_source.specs.Fed.{FedState, fed_items}
+use Rattle.cap_source.specs.Items.{file_items}
+use Rattle.cap_source.specs.declared.fed_captures.Fed.{Fed}
+use Rattle.cap_source.specs.declared.fed_captures.Fed.TheVariants as feds
+use Rattle.cap_source.specs.inner.FedStates.{GivesFed}
+use Rattle.capt_c.specs.Answers.{status_of, place_of_fault, nowhere}
+use Rattle.capt_c.specs.Packets.{ShowsFields}
+use Rattle.capt_c.specs.declared.answers.Place.{Place}
+use Rattle.capt_c.specs.declared.handles.Held.{Held}
+use Rattle.capt_c.specs.declared.handles.Held.TheVariants as helds
+use Rattle.capt_c.specs.declared.packets.Packet.{Packet}
+
+-- A capture is open of which nothing was fed; or no memory was found.
+abbrev pub OpensFed : Tail → ℕ → Option Held → Type 0
+OpensFed tail status None = status ≡ 5
+OpensFed tail status (Some (helds.Text text)) = ⊥
+OpensFed tail status (Some (helds.Table t)) = ⊥
+OpensFed tail status (Some (helds.Capture c)) = ⊥
+OpensFed tail status (Some (helds.Fed f)) =
+    (status ≡ 0) × ((bytes : List ℕ) → fed_items f bytes ≡ file_items tail 1 bytes) × (f.course.ended ≡ false)
+    × (f.frame ≡ [])
+
+-- The next bytes were fed, or no memory was found for them; either lets go the packet that came last. None are taken
+-- once all were fed.
+abbrev pub FeedsIf : Bool → FedState → List ℕ → ℕ → Option Held → Type 0
+FeedsIf true f bytes status new = (status ≡ 6) × (new ≡ Some (helds.Fed f))
+FeedsIf false f bytes status new =
+    (done : Bool) × (status ≡ if done then 0 else 5)
+    × (new ≡ Some (helds.Fed (record {
+      course = f.course;
+      rest = if done then f.rest ++ bytes else f.rest;
+      frame = [];
+    })))
+
+abbrev pub FeedsHeld : Option Held → List ℕ → ℕ → Option Held → Type 0
+FeedsHeld None bytes status new = (status ≡ 6) × (new ≡ None)
+FeedsHeld (Some (helds.Text text)) bytes status new = (status ≡ 6) × (new ≡ Some (helds.Text text))
+FeedsHeld (Some (helds.Table t)) bytes status new = (status ≡ 6) × (new ≡ Some (helds.Table t))
+FeedsHeld (Some (helds.Capture c)) bytes status new = (status ≡ 6) × (new ≡ Some (helds.Capture c))
+FeedsHeld (Some (helds.Fed f)) bytes status new = FeedsIf f.course.ended f bytes status new
+
+-- It is known that no more bytes come.
+abbrev pub EndsHeld : Option Held → ℕ → Option Held → Type 0
+EndsHeld None status new = (status ≡ 6) × (new ≡ None)
+EndsHeld (Some (helds.Text text)) status new = (status ≡ 6) × (new ≡ Some (helds.Text text))
+EndsHeld (Some (helds.Table t)) status new = (status ≡ 6) × (new ≡ Some (helds.Table t))
+EndsHeld (Some (helds.Capture c)) status new = (status ≡ 6) × (new ≡ Some (helds.Capture c))
+EndsHeld (Some (helds.Fed f)) status new =
+    (status ≡ 0) × (new ≡ Some (helds.Fed (record f { course = record f.course { ended = true } })))
+
+abbrev pub status_of_fed : Result Fed Fault → ℕ
+status_of_fed (Ok (feds.Packet meta)) = 1
+status_of_fed (Ok feds.More) = 7
+status_of_fed (Ok feds.End) = 0
+status_of_fed (Err fault) = status_of fault
+
+abbrev pub place_of_fed : Result Fed Fault → Place
+place_of_fed (Ok fed) = nowhere
+place_of_fed (Err fault) = place_of_fault fault
+
+-- a packet that comes is told
+abbrev pub FedTold : Result Fed Fault → Packet → Type 0
+FedTold (Ok (feds.Packet meta)) p = ShowsFields meta p
+FedTold (Ok feds.More) p = ⊤
+FedTold (Ok feds.End) p = ⊤
+FedTold (Err fault) p = ⊤
+
+-- What a call for the next packet of a capture that is fed returns and leaves.
+abbrev pub StepsFedCapture : FedState → ℕ → Packet → Place → FedState → Type 0
+StepsFedCapture old status p place new =
+    (answer : Result Fed Fault) × (status ≡ status_of_fed answer) × (place ≡ place_of_fed answer)
+    × GivesFed old answer new × FedTold answer p
