@@ -189,7 +189,7 @@ def check_pages(count, folder, library):
     example = os.path.join(TOP, "examples", "monday.pcap")
     environment = {**os.environ, "PYTHONPATH": os.path.join(TOP, "bindings", "python"), "CAPT_LIB_DIR": os.path.abspath(library),
                    "PYTHONDONTWRITEBYTECODE": "1"}
-    count.check("pages: a program in each language", [kind for kind, _ in blocks] == ["c", "text", "python", "text", "rust", "text"])
+    count.check("pages: a program in each language", [kind for kind, _ in blocks] == ["c", "text", "python", "text", "rust", "text", "python", "text"])
     for (kind, program), (_, text) in zip(blocks[::2], blocks[1::2]):
         command = [os.path.join(folder, f"page-{kind}")]
         if kind == "c":

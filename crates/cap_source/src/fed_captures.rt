@@ -13,7 +13,7 @@ use std::alloc::Global;
 use std::marker::Model;
 
 /// What comes next of a capture that is fed.
-#[derive(Clone, Copy)]
+#[derive(Clone, Copy, Debug, PartialEq, Eq)]
 pub enum Fed {
     /// A packet, which is passed.
     Packet(Meta),
@@ -130,7 +130,8 @@ impl FedCapture {
         ensures rest { self.new.rest ≡ self.old.rest }
         ensures frame { self.new.frame ≡ self.old.frame }
     {
-        self.course.ended = true;
+        let course = &mut self.course;
+        course.ended = true;
     }
 
     /// Whether that was said.

@@ -3,8 +3,8 @@
 use crate::checks::{holds, same};
 use crate::vectors::{CARRY_PCAPNG, OPTIONS_PCAPNG, refused};
 use cap_blocks::{
-    Block, BlockReader, Options, PacketFields, is_known, is_section, put_interface, put_packet,
-    put_section,
+    Block, BlockReader, Options, PacketFields, body_rule, find_block_header, is_known, is_section,
+    put_interface, put_packet, put_section,
 };
 use cap_bytes::{Device, Order, Pieces, Room, Rule, Sink, Source, Tail, Window};
 use cap_time::{Interface, Resolution};
@@ -261,4 +261,20 @@ fn options_in_order(rt: HostRuntime) {
     same!(&rt; options.next(), Some(Ok((9, [6].as_slice()))));
     same!(&rt; options.next(), Some(Err(Rule::OptionEnd)));
     same!(&rt; options.next(), None);
+}
+
+// The interface block of OPTIONS_PCAPNG in bytes: without its first 12 it isn't found, and it keeps every rule.
+#[test]
+fn a_block_in_bytes(rt: HostRuntime) {
+    let order = Some(Order::Little);
+    same!(&rt; find_block_header(order, 44, &OPTIONS_PCAPNG[44..55]), Err(Rule::Cut));
+    let bytes = &OPTIONS_PCAPNG[44..];
+    match find_block_header(order, 44, bytes) {
+        Ok(block) => {
+            same!(&rt; (block.kind, block.offset, block.total, block.order), OPTION_BLOCKS[1]);
+            holds!(&rt; block.total as usize <= bytes.len());
+            same!(&rt; body_rule(block, bytes), None);
+        }
+        Err(rule) => same!(&rt; Some(rule), None),
+    }
 }

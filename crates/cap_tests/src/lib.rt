@@ -13,6 +13,8 @@ mod commands;
 #[cfg(test)]
 mod failing;
 #[cfg(test)]
+mod fed;
+#[cfg(test)]
 mod file_lines;
 #[cfg(test)]
 mod files;

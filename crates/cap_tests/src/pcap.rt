@@ -5,7 +5,9 @@ ghost use Rattle.std.specs.Prelude.{◌≡◌, Some, IsSome};
 use crate::checks::{holds, same};
 use crate::vectors::{CARRY_PCAP, refused};
 use cap_bytes::{Device, Order, Pieces, Room, Rule, Sink, Source, Tail, Window};
-use cap_pcap::{PcapHeader, PcapReader, Record, RecordTime, put_header, put_record};
+use cap_pcap::{
+    PcapHeader, PcapReader, Record, RecordTime, find_header, find_record, put_header, put_record,
+};
 use cap_time::Unit;
 use std::alloc::Global;
 use std::cmp::max;
@@ -275,4 +277,20 @@ fn written_files(rt: HostRuntime) {
         put_file(&rt, &mut room, header(*order, *unit, 1), *fraction);
         same!(&rt; room.bytes(), bytes.as_slice());
     }
+}
+
+// The header and the record of CARRY_PCAP in bytes, and each without its last byte.
+#[test]
+fn a_header_and_a_record_in_bytes(rt: HostRuntime) {
+    let header = header(Order::Little, Unit::Micro, 1);
+    same!(&rt; find_header(0, &CARRY_PCAP), Ok(header));
+    same!(&rt; find_header(0, &CARRY_PCAP[..23]), Err(Rule::Cut));
+    let record = Record {
+        offset: 24,
+        units: 2_500_000,
+        captured: 4,
+        original: 4,
+    };
+    same!(&rt; find_record(header, 24, &CARRY_PCAP[24..]), Ok(record));
+    same!(&rt; find_record(header, 24, &CARRY_PCAP[24..43]), Err(Rule::Cut));
 }

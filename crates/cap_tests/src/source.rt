@@ -35,7 +35,7 @@ fn interface(rt: &impl Abort, link: u16, snaplen: u32, code: u8, offset: i64) ->
 }
 
 // The packet of 4 bytes at 2,500,000 units of the file above, at a place.
-fn carried(rt: &impl Abort, offset: u64, format: Format) -> Meta {
+pub(crate) fn carried(rt: &impl Abort, offset: u64, format: Format) -> Meta {
     Meta {
         file: 7,
         offset,

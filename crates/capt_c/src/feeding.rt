@@ -4,7 +4,9 @@ ghost use Rattle.cap_source.specs.inner.FedStates.{GivesFed};
 ghost use Rattle.capt_c.specs.Answers.{tail_of};
 ghost use Rattle.capt_c.specs.Feeding.{EndsHeld, FedTold, FeedsHeld, OpensFed, StepsFedCapture};
 
-use crate::answers::{DONE, MEMORY, MISUSE, MORE, PACKET, Place, nowhere, place_of, status_of, tail_of};
+use crate::answers::{
+    DONE, MEMORY, MISUSE, MORE, PACKET, Place, nowhere, place_of, status_of, tail_of,
+};
 use crate::handles::{Handle, Held};
 use crate::packets::{Packet, packet_of};
 use cap_bytes::Fault;

@@ -2,4 +2,6 @@
 
 pub use cap_blocks::{Block, BlockReader, Options};
 pub use cap_pcap::{PcapHeader, PcapReader, Record};
-pub use cap_source::{Capture, Ending, FeedHeld, Format, Head, Meta, PacketFeed, next_packet};
+pub use cap_source::{
+    Capture, Ending, Fed, FedCapture, FeedHeld, Format, Head, Meta, PacketFeed, next_packet,
+};
