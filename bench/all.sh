@@ -128,7 +128,7 @@ for command, file in (("list", "small.pcap"), ("blocks", "small.pcapng"), ("info
 os.remove("text")
 for first, second in (("mixed.pcap", "mixed.pcapng"), ("small.pcap", "small.pcapng"), ("small.pcap", "small.pcap")):
     row(f"diff {first} {second}", [program, "diff", first, second],
-        {"info of both": [program, "info", first, second], "cmp": ["cmp", first, first]})
+        {"info of both": [program, "info", first, second], "cat": ["cat", first, second]})
 for source, target in (("mixed.pcap", "pcapng"), ("small.pcap", "pcapng"), ("mixed.pcapng", "pcap"), ("small.pcapng", "pcap")):
     row(f"convert {source}", [program, "convert", "--to", target, "-o", "out", source],
         {"cat > OUT": copy(source), "editcap": ["editcap", "-F", target, source, "out"]})

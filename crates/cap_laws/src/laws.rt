@@ -85,9 +85,9 @@ pub fn diff_same()
     ensures { SameExactly }
 {}
 
-/// `diff` says of a capture, of either format and whatever bytes it holds, and of what `convert` writes of it, in either
-/// format and byte order, that both have the same packets, as many as the capture has, if nothing is refused and at most
-/// 2^40 bytes are written.
+/// `diff` says of a capture, of either format and whatever bytes it holds, and of what `convert` writes of it, in
+/// either format and byte order, that both have the same packets, as many as the capture has, if nothing is refused and
+/// at most 2^40 bytes are written.
 pub fn diff_converted()
     ensures { SameAsConverted }
 {

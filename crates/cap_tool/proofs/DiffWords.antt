@@ -1,6 +1,6 @@
 -- The words of what differs, as they are put into a line.
-use Rattle.std.proofs.Common.{◌≡◌, ◌++◌, ℕ, List, [], ◌∷◌, codes, decimal, Bool, true, false, if◌then◌else◌, refl, sym, ap, ◌∙◌}
-use Rattle.std.proofs.Common.{append_assoc, append-nil}
+use Rattle.std.proofs.Common.{◌≡◌, ◌++◌, ℕ, List, [], ◌∷◌, codes, decimal, Bool, true, false, if◌then◌else◌, refl, sym}
+use Rattle.std.proofs.Common.{ap, ◌∙◌, append_assoc, append-nil}
 use Rattle.std.specs.Prelude.{◌||◌}
 use Rattle.cap_print.specs.declared.forms.Form.TheVariants.{Json, Text}
 use Rattle.cap_tool.proofs.Pieces.{joined, joined-more}

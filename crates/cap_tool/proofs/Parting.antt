@@ -1,5 +1,5 @@
 -- Two feeds, compared packet by packet.
-use Rattle.std.proofs.Common.{◌≡◌, ℕ, ◌+◌, ◌≤◌, List, [], ◌∷◌, drop, Bool, true, false, not, IsTrue, IsSome, Option}
+use Rattle.std.proofs.Common.{◌≡◌, ℕ, ◌+◌, ◌≤◌, List, ◌∷◌, drop, true, false, IsTrue, Option}
 use Rattle.std.proofs.Common.{Some, None, Ok, Err, Result, refl, sym, ap, ◌∙◌, subst, arith}
 use Rattle.std.proofs.lemmas.Bool.{false≢true}
 use Rattle.std.specs.Prelude.{IsOkUnless, ◌++◌, ◌&&◌, is_none}
@@ -9,11 +9,11 @@ use Rattle.cap_bytes.specs.Printing.{Prints}
 use Rattle.cap_bytes.specs.declared.faults.Fault.{Fault}
 use Rattle.cap_bytes.specs.declared.faults.Fault.TheVariants.{Refused, Read, Write, Memory}
 use Rattle.cap_source.proofs.Onward.{Keeps-refl, Keeps-trans}
-use Rattle.cap_source.specs.Feed.{Feed, FeedKeeps, FeedPasses, Item, packet, refused}
+use Rattle.cap_source.specs.Feed.{Feed, FeedKeeps, FeedPasses, Item, packet}
 use Rattle.cap_source.specs.inner.Walk.{GivesPacket, ShowsItem}
 use Rattle.cap_source.specs.declared.packets.Meta.{Meta}
 use Rattle.cap_print.specs.declared.forms.Form.{Form}
-use Rattle.cap_tool.specs.DiffText.{Comparison, TellsDiff, compared, diff_text_in, differences_of, do_differ}
+use Rattle.cap_tool.specs.DiffText.{TellsDiff, compared, diff_text_in}
 use Rattle.cap_tool.specs.DiffText.{other_packet, same_packets}
 use Rattle.cap_tool.specs.inner.DiffWalk.{FailsOne, Parts, are_alike, compared_of, parted}
 use Rattle.cap_tool.specs.declared.diff.Parting.{Parting}
@@ -194,8 +194,8 @@ Tells-other form n (Some m) other f g old new h p = (refl, refl, p.1)
 
 pub Tells-other-fault : (form : Form) (n : ℕ) (one other : Option Meta) (f g old new : List ℕ) (fault : Fault)
     → (is_none one && is_none other) ≡ false → fault ≡ Write
-    → Prints {A = Unit {0}} (diff_text_in form (other_packet (n + 1) (compared_of one f) (compared_of other g))) None old
-    (Err fault) new
+    → Prints {A = Unit {0}} (diff_text_in form (other_packet (n + 1) (compared_of one f) (compared_of other g))) None
+    old (Err fault) new
     → TellsDiff form (parted n (compared_of one f) (compared_of other g)) old (Err fault) new
 Tells-other-fault form n None None f g old new fault h is p = absurd (false≢true (sym h))
 Tells-other-fault form n None (Some o) f g old new fault h is p = rw is ((refl, rw is at p))

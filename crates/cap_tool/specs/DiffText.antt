@@ -150,8 +150,8 @@ is_same (same_packets n) = true
 is_same (other_packet n a b) = false
 is_same (stopped_by refusal) = false
 
--- The comparison is printed in a form, and answered; or a refusal is answered, and nothing is printed then, nor if a read failed
--- or a growth was refused. If the writer failed, a prefix is printed.
+-- The comparison is printed in a form, and answered; or a refusal is answered, and nothing is printed then, nor if a
+-- read failed or a growth was refused. If the writer failed, a prefix is printed.
 abbrev pub TellsDiff : Form → Comparison → List ℕ → Result Bool Fault → List ℕ → Type 0
 TellsDiff form c old (Ok so) new = (diff_refusal c ≡ None) × (so ≡ is_same c) × (new ≡ old ++ diff_text_in form c)
 TellsDiff form c old (Err (Refused r)) new = (diff_refusal c ≡ Some r) × (new ≡ old)

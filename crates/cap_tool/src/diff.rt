@@ -1,24 +1,26 @@
 //! `capt diff`: whether two captures have the same packets.
 ghost use Rattle.std.specs.Prelude.{◌≡◌, ℕ, ◌+◌, ◌≤◌, ◌++◌, ◌∷◌, ◌^◌, [], false, codes, None, Some};
 ghost use Rattle.std.specs.Prelude.{IsSome, IsTrue};
-ghost use Rattle.std.specs.Prelude.{IfOk, IsOkUnless, is_none, ◌&&◌};
+ghost use Rattle.std.specs.Prelude.{IfOk, IsOkUnless, is_none, is_some, ◌&&◌};
 ghost use Rattle.cap_bytes.specs.Device.{WriterKeeps, writer_of};
 ghost use Rattle.cap_bytes.specs.Printing.{Prints, is_write};
 ghost use Rattle.cap_print.specs.Lines.{text_in};
 ghost use Rattle.cap_print.specs.declared.forms.Form.TheVariants.{Text};
-ghost use Rattle.cap_source.specs.Feed.{IsPacket};
+ghost use Rattle.cap_source.specs.Feed.{FeedKeeps, IsPacket};
 ghost use Rattle.cap_source.specs.ReadFaults.{FailsOf};
+ghost use Rattle.cap_source.specs.inner.Walk.{GivesPacket, ShowsItem};
 ghost use Rattle.cap_source.specs.Times.{meta_time};
 ghost use Rattle.cap_tool.specs.DiffText.{TellsDiff, before_side, compared, comparison_of, diff_text_in};
 ghost use Rattle.cap_tool.specs.DiffText.{difference_line, difference_words, differences_of, do_differ, is_same};
 ghost use Rattle.cap_tool.specs.DiffText.{is_same_time, other_packet, side_in};
-ghost use Rattle.cap_tool.specs.inner.DiffWalk.{FailsOne, KnowsPackets, Parts, are_alike, compared_of, parted};
+ghost use Rattle.cap_tool.specs.inner.DiffWalk.{FailsOne, KnowsPackets, Parts, are_alike, compared_of, given};
+ghost use Rattle.cap_tool.specs.inner.DiffWalk.{packet_known, parted};
 
 use crate::diff_lines::{before_first, before_second, differ_line, end_line, same_line};
 use crate::lines::{write_packet, write_packet_object};
 use cap_bytes::{Fault, Sink, Source, Tail, put_all};
 use cap_print::{Form, Line};
-use cap_source::{Capture, Meta, PacketFeed, next_packet};
+use cap_source::{Capture, Meta, PacketFeed};
 use cap_time::Stamp;
 use std::alloc::Global;
 
@@ -79,20 +81,40 @@ struct Parting {
     second: Option<Meta>,
 }
 
-// Whether the packets that come next, if there are some, are the same: none is the same as nothing.
-fn is_alike<F: PacketFeed>(first: &F, one: Option<Meta>, second: &F, other: Option<Meta>) -> bool
-    requires first { IsSome one → IsPacket (F.feed first.now).known }
-    requires second { IsSome other → IsPacket (F.feed second.now).known }
-    ensures { result ≡ are_alike (compared_of one (F.feed first.now).frame)
-        (compared_of other (F.feed second.now).frame) }
+// Whether a packet comes next, which is known then. A copy of it would cost more than all else of a small packet.
+#[inline(always)]
+fn look<F: PacketFeed>(feed: &mut F) -> Result<bool, Fault>
+    ensures answer { GivesPacket (F.feed feed.old) (given result (F.feed feed.new).known) (F.feed feed.new) }
+    ensures keeps { FeedKeeps (F.feed feed.old) (F.feed feed.new) }
+    ensures items { IsTrue (F.feed feed.old).told
+        → ShowsItem (F.feed feed.old) (given result (F.feed feed.new).known) (F.feed feed.new) }
+    ensures found { IfOk result (λ found. found ≡ is_some (packet_known (F.feed feed.new).known)) }
 {
-    match one {
-        None => false,
-        Some(one) => match other {
-            None => false,
-            Some(other) => !do_differ(differences_of(&one, first.frame(), &other, second.frame())),
-        },
+    feed.has_packet()
+}
+
+// The packet that comes next, if one does.
+fn packet_of<F: PacketFeed>(feed: &F, found: bool) -> Option<Meta>
+    requires { found ≡ is_some (packet_known (F.feed feed.now).known) }
+    ensures { result ≡ packet_known (F.feed feed.now).known }
+{
+    if found { Some(*feed.packet()) } else { None }
+}
+
+// Whether the packets that come next, if there are some, are the same: none is the same as nothing.
+fn is_alike<F: PacketFeed>(first: &F, one: bool, second: &F, other: bool) -> bool
+    requires first { one ≡ is_some (packet_known (F.feed first.now).known) }
+    requires second { other ≡ is_some (packet_known (F.feed second.now).known) }
+    ensures { result ≡ are_alike (compared_of (packet_known (F.feed first.now).known) (F.feed first.now).frame)
+        (compared_of (packet_known (F.feed second.now).known) (F.feed second.now).frame) }
+{
+    if one {
+        if other {
+            let (a, b) = (first.packet(), second.packet());
+            return !do_differ(differences_of(a, first.frame(), b, second.frame()));
+        }
     }
+    false
 }
 
 // Passes the packets that are the same, up to the first that isn't, or to the end of both.
@@ -108,13 +130,13 @@ fn part<F: PacketFeed>(first: &mut F, second: &mut F) -> Result<Parting, Fault>
 {
     let mut passed = 0u64;
     loop {
-        let one = next_packet(first)?;
-        let other = next_packet(second)?;
+        let one = look(first)?;
+        let other = look(second)?;
         if !is_alike(first, one, second, other) {
             return Ok(Parting {
                 passed,
-                first: one,
-                second: other,
+                first: packet_of(first, one),
+                second: packet_of(second, other),
             });
         }
         first.pass();
@@ -287,11 +309,12 @@ fn put_parting<F: PacketFeed, W: Sink>(
 }
 
 /// Prints in a form whether two capture files, each of either format, have the same packets, in link type, exact time,
-/// captured and original length and captured bytes: `same packets N`, and returns `true`; or, and returns `false`, the
-/// number and the differences of the first packet that isn't the same in both, and its line in each, as `list_to` prints
-/// it; in JSON three objects, of which the second and the third hold the object that `list_json_to` prints with 16
-/// bytes, or `null`. Nothing is printed if a file is refused before that, `Read` or `Memory` returned: `Read` if a read
-/// fails, `Memory` if a growth is refused. After `Write` a prefix is printed.
+/// captured and original length and captured bytes: `same packets N`, and returns `true`; or the number and the
+/// differences of the first packet that isn't the same in both, and its line in each, as `list_to` prints it, and
+/// returns `false`. In JSON these are three objects, of which the second and the third hold the object that
+/// `list_json_to` prints with 16 bytes, or `null`. If a file is refused before that, the refusal is returned. It
+/// returns `Read` if a read fails and `Memory` if a growth is refused; after these and a refusal nothing is printed. It
+/// returns `Write` if a write fails, after a prefix.
 pub fn diff_in<R: Source, W: Sink>(
     alloc: Global,
     first: R,

@@ -58,7 +58,8 @@ pub(crate) fn write_packet(line: &mut Line, n: u64, meta: &Meta, bytes: &[u8])
 // `{"type":"packet","n":N,"offset":O,"time":T,"captured":C,"original":G,"link":L`.
 fn prepend_packet_fields(line: &mut Line, n: u64, meta: &Meta)
     requires { 260 ≤ room_in line.old }
-    ensures { text_in line.new ≡ codes "{\"type\":\"packet\"" ++ fields_json (packet_fields n meta.now) (text_in line.old) }
+    ensures { text_in line.new ≡ codes "{\"type\":\"packet\""
+        ++ fields_json (packet_fields n meta.now) (text_in line.old) }
 {
     line.prepend_field(b",\"link\":", u64::from(meta.interface.link));
     line.prepend_field(b",\"original\":", u64::from(meta.original));

@@ -5,6 +5,8 @@ use Rattle.std.specs.Prelude.{◌⊎◌}
 use Rattle.cap_bytes.specs.declared.faults.Fault.{Fault}
 use Rattle.cap_bytes.specs.declared.faults.Fault.TheVariants.{Refused, Read, Write, Memory}
 use Rattle.cap_source.specs.Feed.{Feed, HasFile, IsPacket}
+use Rattle.cap_source.specs.declared.feeds.Head.{Head}
+use Rattle.cap_source.specs.declared.feeds.Head.TheVariants as heads
 use Rattle.cap_source.specs.declared.packets.Meta.{Meta}
 use Rattle.cap_tool.specs.DiffText.{Compared, Comparison, differences_of, do_differ, other_packet, same_packets}
 use Rattle.cap_tool.specs.DiffText.{stopped_by}
@@ -14,6 +16,18 @@ use Rattle.cap_tool.specs.declared.diff.Parting.{Parting}
 abbrev pub compared_of : Option Meta → List ℕ → Option Compared
 compared_of None frame = None
 compared_of (Some meta) frame = Some (record { meta = meta; frame = frame })
+
+-- the packet that comes next, if that is known
+abbrev pub packet_known : Option Head → Option Meta
+packet_known None = None
+packet_known (Some (heads.Packet meta)) = Some meta
+packet_known (Some (heads.Refused refusal)) = None
+packet_known (Some heads.End) = None
+
+-- what a feed gives next by whether a packet comes next, which is known then
+abbrev pub given : Result Bool Fault → Option Head → Result (Option Meta) Fault
+given (Ok found) known = Ok (packet_known known)
+given (Err fault) known = Err fault
 
 -- two packets are the same; none is the same as nothing
 abbrev pub are_alike : Option Compared → Option Compared → Bool

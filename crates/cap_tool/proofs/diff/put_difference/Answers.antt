@@ -10,9 +10,11 @@ returns-in_err-put_all-clause-text g c = λ w.
     let p = err_from_is_err_and c.from_residual.result c.from_residual.ensures.1 in
     let a = compared_of c.args.parting.now.first (g.F.PacketFeed.feed c.args.first.now).frame in
     let b = compared_of c.args.parting.now.second (g.F.PacketFeed.feed c.args.second.now).frame in
+    let first = before_side c.args.form (codes "-") ++ side_in c.args.form c.args.n a in
+    let second = before_side c.args.form (codes "+") ++ side_in c.args.form c.args.n b in
     rw (p.1, p.2)
     (Prints-head None (g.W.Sink.held c.args.writer.now) (g.W.Sink.held c.put_all.new.writer)
-    (difference_line c.args.form c.args.n (difference_words a b)) ((before_side c.args.form (codes "-") ++ side_in c.args.form c.args.n a) ++ (before_side c.args.form (codes "+") ++ side_in c.args.form c.args.n b))
+    (difference_line c.args.form c.args.n (difference_words a b)) (first ++ second)
     c.in_err-put_all.field-0.0 c.in_err-put_all.ensures.fault
     (rw (c.as_slice.ensures.value ∙ c.head_line-line.ensures) at (c.in_err-put_all.ensures.bytes w)))
 
@@ -20,8 +22,10 @@ pub returns-clause-text : goal.returns-clause-text
 returns-clause-text g c = λ w.
     let a = compared_of c.args.parting.now.first (g.F.PacketFeed.feed c.args.first.now).frame in
     let b = compared_of c.args.parting.now.second (g.F.PacketFeed.feed c.args.second.now).frame in
+    let first = before_side c.args.form (codes "-") ++ side_in c.args.form c.args.n a in
+    let second = before_side c.args.form (codes "+") ++ side_in c.args.form c.args.n b in
     Prints-behind None (g.W.Sink.held c.args.writer.now) (g.W.Sink.held c.put_all.new.writer)
     (g.W.Sink.held c.put_sides.new.writer) (difference_line c.args.form c.args.n (difference_words a b))
-    ((before_side c.args.form (codes "-") ++ side_in c.args.form c.args.n a) ++ (before_side c.args.form (codes "+") ++ side_in c.args.form c.args.n b)) c.put_sides.result
+    (first ++ second) c.put_sides.result
     (rw (c.as_slice.ensures.value ∙ c.head_line-line.ensures) at (c.in_ok-put_all.ensures.bytes w))
     (c.put_sides.ensures.text (c.in_ok-put_all.ensures.writer.told w))
