@@ -4,7 +4,8 @@
 `convert` made of it that both have the same packets.
 
 All lines but those of the files are the same, byte for byte; after `convert --to pcap` times are compared as fractions, since
-they may have another form. The line of `digest` is the same after both conversions. A capture that isn't written whole is refused by the rule that is said here.
+they may have another form. The line of `digest` is the same after both conversions. A capture that isn't written whole is refused by the
+rule that is said here.
 
 Use: checks/invariance.py [PROGRAM]     (as after `rt run` or `rt ci` in crates/capt)"""
 import sys
@@ -92,16 +93,16 @@ def main():
                 count.check(f"{name}: digest", digest[0] == 0 and digest[1].startswith("digest 1 sha256 "), digest)
                 count.check(f"{name}: pcapng", done(["convert", "--to", "pcapng", "-o", out, file]) == (0, "", ""))
                 count.check(f"{name}: report of pcapng", body(done(["report", out])[1]) == body(alone), alone)
-                count.check(f"{name}: digest of pcapng", done(["digest", out]) == digest, digest)
                 same = (0, f"same packets {re.search('packets ([0-9]+)', alone)[1]}\n", "")
                 count.check(f"{name}: diff of pcapng", done(["diff", file, out]) == same == done(["diff", out, file]), same)
+                count.check(f"{name}: digest of pcapng", done(["digest", out]) == digest, digest)
                 status, _, error = done(["convert", "--to", "pcap", "-o", out, file])
                 if rule:
                     count.check(f"{name}: pcap", status == 1 and f" rule {rule} " in error, status, error)
                 else:
                     count.check(f"{name}: pcap", (status, error) == (0, ""), status, error)
-                    count.check(f"{name}: digest of pcap", done(["digest", out]) == digest, digest)
                     count.check(f"{name}: diff of pcap", done(["diff", file, out]) == same == done(["diff", out, file]), same)
+                    count.check(f"{name}: digest of pcap", done(["digest", out]) == digest, digest)
                     again = body(done(["report", out])[1])
                     count.check(f"{name}: report of pcap", as_fractions(again) == as_fractions(body(alone)), again, alone)
     count.end()

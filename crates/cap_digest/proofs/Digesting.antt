@@ -1,4 +1,4 @@
--- The packets of a feed, taken into a hasher one after another.
+-- The packets of a feed, hashed one after another.
 use Rattle.std.proofs.Common.{◌≡◌, ◌+◌, ◌≤◌, ℕ, List, [], ◌∷◌, ◌++◌, length, drop, IsTrue, None, Some, Ok, Err, refl}
 use Rattle.std.proofs.Common.{sym, ap, ◌∙◌, arith, append_assoc, append-nil}
 use Rattle.cap_bytes.specs.Printing.{Prints}
@@ -19,7 +19,7 @@ use Rattle.sha2.specs.Hashers.{Holds256}
 use Rattle.sha2.specs.Sha256.{sha256}
 use Rattle.sha2.specs.declared.Sha256.{Sha256}
 
--- The packets that a feed gave, which was `old`, are taken.
+-- A feed that was `old` gave that many packets, and the hasher holds their canonical text.
 pub record Digesting (old new : Feed) (hasher : Sha256) (packets : ℕ) : Type 0 where
   pub went : Went old new
   pub few : packets + new.left ≤ old.left
@@ -29,7 +29,7 @@ pub record Digesting (old new : Feed) (hasher : Sha256) (packets : ℕ) : Type 0
   pub count : IsTrue old.told → packets + length new.items ≡ length old.items
   pub refusal : IsTrue old.told → refusal_of new.items ≡ refusal_of old.items
 
--- none is taken yet
+-- no packet yet
 pub Digesting-none : (a : Feed) (hasher : Sha256) → Holds256 hasher [] → Digesting a a hasher 0
 Digesting-none a hasher empty =
     record {
@@ -57,7 +57,7 @@ regroup : (m head frame rest : List ℕ) → m ++ head ++ frame ++ rest ≡ m ++
 regroup m head frame rest = ap (λ (l : List ℕ). l ++ rest) (append_assoc m head frame)
     ∙ append_assoc m (head ++ frame) rest
 
--- one packet more is taken: the bytes before its captured ones, and these
+-- one packet more: the 42 bytes before its captured ones, and these
 pub Digesting-more : (old mid shown new : Feed) (before between after : Sha256) (packets : ℕ) (meta : Meta)
     (head : List ℕ)
     → Digesting old mid before packets
@@ -105,7 +105,7 @@ Digesting-end old mid shown hasher packets it d shows number is t =
       omega (arith, number, d.count t, ap length none),
     )
 
--- the call for the next packet answers a fault
+-- the call for the next packet returns a fault
 pub Digesting-fault : (fault : Fault) (old mid shown : Feed) (hasher : Sha256) (packets : ℕ)
     → Digesting old mid hasher packets
     → (IsTrue mid.told → ShowsItem mid (Err fault) shown)
@@ -120,7 +120,7 @@ Digesting-fault Memory old mid shown hasher packets d shows t = tt
 nothing-more : (old : List ℕ) → old ≡ old ++ []
 nothing-more old = sym (append-nil old)
 
--- if a file's packets aren't all taken, nothing is printed of it
+-- if a file isn't read to its end, nothing is printed of it
 pub Prints-none : (fault : Fault) (feed : Feed) (form : Form) (tail : Tail) (file : ℕ) (bytes old : List ℕ)
     → feed.items ≡ file_items tail file bytes → DigestsAll feed (Err fault)
     → Prints {A = Unit {0}} (digest_text form tail file bytes) (refusal_of (file_items tail file bytes)) old (Err fault)

@@ -25,7 +25,7 @@ pub struct Digested {
     pub packets: u64,
 }
 
-// Takes all packets that a feed still gives into a digest.
+// Hashes all packets that a feed still gives.
 fn digest_packets<F: PacketFeed>(feed: &mut F) -> Result<Digested, Fault>
     requires { (F.feed feed.old).left ≤ 2 ^ 40 }
     ensures digest { IsTrue (F.feed feed.old).told → DigestsAll (F.feed feed.old) result }

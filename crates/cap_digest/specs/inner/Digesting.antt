@@ -1,4 +1,4 @@
--- What taking all packets of a feed into a digest answers.
+-- What hashing all packets of a feed returns.
 use Rattle.std.specs.Prelude.{◌≡◌, length, None, Some, Result, Ok, Err, ⊤}
 use Rattle.cap_bytes.specs.declared.faults.Fault.{Fault}
 use Rattle.cap_bytes.specs.declared.faults.Fault.TheVariants.{Refused, Read, Write, Memory}
@@ -7,7 +7,7 @@ use Rattle.cap_digest.specs.declared.digests.Digested.{Digested}
 use Rattle.cap_source.specs.Feed.{Feed, refusal_of}
 use Rattle.sha2.specs.Sha256.{sha256}
 
--- The digest of all packets that a feed gave is answered, and how many they were, or what refused it.
+-- The digest of all packets that a feed gave, and their number; or the refusal that ended it.
 abbrev pub DigestsAll : Feed → Result Digested Fault → Type 0
 DigestsAll feed (Ok it) =
     (refusal_of feed.items ≡ None) × (it.sha256 ≡ sha256 (canonical_text feed.items)) × (it.packets ≡ length feed.items)
