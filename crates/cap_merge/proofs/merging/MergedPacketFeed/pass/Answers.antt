@@ -45,6 +45,6 @@ returns-in-Some g c =
 
 pub returns-in_default : goal.returns-in_default
 returns-in_default g c =
-    let m = c.args.self.now in
-    let ps = parts_of m in
-    absurd (no-packet ps (none-placed ps (sym c.first_place.ensures.place ∙ none_from c.first_place.result c.in_default.not-Some)) c.requires.packet)
+    let ps = parts_of c.args.self.now in
+    let none = none_from c.first_place.result c.in_default.not-Some in
+    absurd (no-packet ps (none-placed ps (sym c.first_place.ensures.place ∙ none)) c.requires.packet)
