@@ -1,5 +1,5 @@
 -- What a merge keeps, whatever its feeds are asked.
-use Rattle.std.proofs.Common.{◌≡◌, ℕ, suc, ◌<◌, true, false, List, ◌∷◌, length, refl, sym, ap, ◌∙◌, arith}
+use Rattle.std.proofs.Common.{◌≡◌, ℕ, suc, ◌<◌, true, false, List, ◌∷◌, length, refl, sym, ap, ◌∙◌, subst, arith}
 use Rattle.std.proofs.Common.{Bool, Option, Some, None, Result, Ok}
 use Rattle.std.specs.Prelude.{map, is_some, ◌&&◌, if◌then◌else◌}
 use Rattle.std.proofs.lemmas.List.{length-map}
@@ -15,7 +15,7 @@ use Rattle.cap_merge.specs.Parts.{merged_feed}
 use Rattle.cap_merge.proofs.Bounds.{asked-bounded, passed-bounded}
 use Rattle.cap_merge.proofs.Calls.{asked-numbered, asked-sound-each, numbered-kept}
 use Rattle.cap_merge.proofs.Finding.{first-within}
-use Rattle.cap_merge.proofs.Firsts.{passed-of, passes-each}
+use Rattle.cap_merge.proofs.Firsts.{known-packet, passed-of, passes-each}
 use Rattle.cap_merge.proofs.Heads.{known_all}
 use Rattle.cap_merge.proofs.Others.{others-passed}
 use Rattle.cap_merge.proofs.Peeking.{peeked-kept, peeked-reached, peeked-bounded}
@@ -45,6 +45,15 @@ others_known ps (Some place) k e =
 passed_unknown : (ps qs : List Part) (place : ℕ) → PassesAt ps place qs → are_known qs ≡ false
 passed_unknown (p ∷ ps) (q ∷ qs) (suc place) h = grind (arith, passed_unknown ps qs place h.1)
 passed_unknown ps qs place h = grind arith
+
+-- the place that is kept is that of the packet that was passed, if one is
+front_passed : (ps qs : List Part) (front : Option ℕ) (place : ℕ) → IsFound ps front → are_known ps ≡ true
+    → first_place (turns ps) ≡ Some place → OthersKnown qs (Some place) → are_known qs ≡ false
+    → OthersKnown qs front × IsFound qs front
+front_passed ps qs None place f k at others unknown = (refl, refl)
+front_passed ps qs (Some p) place f k at others unknown =
+    let same : Some place ≡ Some p = sym at ∙ found-first ps p f k in
+    (subst (OthersKnown qs) same others, rw unknown refl)
 
 module _ {F : Type 0} (f : F → Feed) (law : (x : F) → IsFeed (f x)) (ls ms : List Lane) (fs ys : List F)
     (front : Option ℕ) (merge : IsMergeState f ls fs front) (lanes : length ms ≡ length ls)
@@ -97,12 +106,14 @@ module _ {F : Type 0} (f : F → Feed) (law : (x : F) → IsFeed (f x)) (ls ms :
   -- the packet that comes first was passed
   pub passed-merge : (place : ℕ) → first_place (turns (parts ls (map f fs))) ≡ Some place
       → IsPacket (merged_feed (parts ls (map f fs))).known
-      → PassesAt (parts ls (map f fs)) place (parts ms (map f ys)) → IsMergeState f ms ys (Some place)
+      → PassesAt (parts ls (map f fs)) place (parts ms (map f ys)) → IsMergeState f ms ys front
   passed-merge place at packet passes =
       let ps = parts ls (map f fs) in
       let qs = parts ms (map f ys) in
       let passed = passed-of f law ls ms fs ys place merge.some merge.alike at merge.numbered merge.reached packet
       passes in
+      let kept = front_passed ps qs front place merge.found (known-packet ps packet) at
+      (others-passed ps qs place passes packet) (passed_unknown ps qs place passes) in
       record {
         alike = lanes ∙ merge.alike ∙ sym feeds;
         some = rw feeds merge.some;
@@ -111,6 +122,6 @@ module _ {F : Type 0} (f : F → Feed) (law : (x : F) → IsFeed (f x)) (ls ms :
         agrees = agrees;
         reached = each-reached qs passed.sound;
         bounded = passed-bounded ps qs place passes merge.bounded;
-        others = others-passed ps qs place passes packet;
-        found = rw (passed_unknown ps qs place passes) refl;
+        others = kept.0;
+        found = kept.1;
       }

@@ -270,12 +270,8 @@ impl<F: PacketFeed> PacketFeed for Merged<F> {
             → run_of (parts_of self.new) ≡ drop 1 (run_of (parts_of self.old)) }
         ensures clocks { ClocksFrom (clock_of (parts_of self.old)) (parts_of self.new) }
     {
-        match self.first_place() {
-            Some(place) => {
-                self.front = Some(place);
-                pass_at(&mut self.lanes, &mut self.feeds, place);
-            }
-            None => {}
+        if let Some(place) = self.first_place() {
+            pass_at(&mut self.lanes, &mut self.feeds, place);
         }
     }
 

@@ -1,4 +1,5 @@
 use Rattle.std.proofs.Common.{sym, ◌∙◌}
+use Rattle.cap_bytes.proofs.Parsing.{none_from}
 use Rattle.cap_merge.specs.inner.View.{parts_of}
 use Rattle.cap_merge.proofs.Firsts.{packet-at-first, passed-of, no-packet, known-packet}
 use Rattle.cap_merge.proofs.Keeping.{passed-merge}
@@ -42,8 +43,8 @@ returns-in-Some g c =
     c.pass_at.ensures.passes in
     record { passes = passed.passes; keeps = passed.keeps; run = passed.run; clocks = passed.clocks }
 
-pub returns-in-None : goal.returns-in-None
-returns-in-None g c =
-    let m = c.args.self.now in
-    let ps = parts_of m in
-    absurd (no-packet ps (none-placed ps (sym c.first_place.ensures.place ∙ c.in-None.is)) c.requires.packet)
+pub returns-in_default : goal.returns-in_default
+returns-in_default g c =
+    let ps = parts_of c.args.self.now in
+    let none = none_from c.first_place.result c.in_default.not-Some in
+    absurd (no-packet ps (none-placed ps (sym c.first_place.ensures.place ∙ none)) c.requires.packet)
