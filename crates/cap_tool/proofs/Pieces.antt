@@ -12,7 +12,7 @@ use Rattle.cap_bytes.specs.Printing.{PrintsFront}
 use Rattle.cap_print.specs.Times.{time_json}
 use Rattle.cap_source.specs.declared.packets.Meta.{Meta}
 use Rattle.cap_tool.specs.ListText.{packet_json, printed_in}
-use Rattle.cap_tool.specs.inner.PacketJson.{packet_head, packet_rest}
+use Rattle.cap_tool.specs.inner.PacketJson.{packet_json_head, packet_json_rest}
 
 encoded-append : (digits xs ys : List ℕ)
     → encode_with digits (xs ++ ys) ≡ encode_with digits xs ++ encode_with digits ys
@@ -21,7 +21,8 @@ encoded-append digits [] ys = refl
 encoded-append digits (x ∷ xs) ys = cc (encoded-append digits xs ys)
 
 -- a piece of the digits, and what is left
-pub rest-piece : (piece behind : List ℕ) → packet_rest (piece ++ behind) ≡ encode_lower piece ++ packet_rest behind
+pub rest-piece : (piece behind : List ℕ) → packet_json_rest (piece ++ behind)
+    ≡ encode_lower piece ++ packet_json_rest behind
 rest-piece piece behind = ap (λ l. l ++ codes "\"}\n") (encoded-append lower_digits piece behind)
     ∙ append_assoc (encode_lower piece) (encode_lower behind) (codes "\"}\n")
 
@@ -37,7 +38,7 @@ joined-more (part ∷ parts) rest more = ap (λ l. part ++ l) (joined-more parts
 
 -- the two parts are a packet's line
 pub packet_json-parts : (shown n : ℕ) (meta : Meta) (bytes : List ℕ)
-    → packet_head n meta ++ packet_rest (take shown bytes) ≡ packet_json shown n meta bytes
+    → packet_json_head n meta ++ packet_json_rest (take shown bytes) ≡ packet_json shown n meta bytes
 packet_json-parts shown n meta bytes =
     let digits = encode_lower (take shown bytes) in
     let parts =
@@ -45,7 +46,7 @@ packet_json-parts shown n meta bytes =
     ∷ codes ",\"time\":" ∷ time_json (printed_in meta.units meta.interface) ∷ codes ",\"captured\":"
     ∷ decimal meta.captured ∷ codes ",\"original\":" ∷ decimal meta.original ∷ codes ",\"link\":"
     ∷ decimal meta.interface.link ∷ [] in
-    sym (joined-more parts (codes ",\"data\":\"") (packet_rest (take shown bytes)))
+    sym (joined-more parts (codes ",\"data\":\"") (packet_json_rest (take shown bytes)))
     ∙ ap (λ l. joined parts (codes ",\"data\":\"" ++ l)) (sym (append_assoc digits (codes "\"") (codes "}\n")))
 
 -- the first bytes, as many as there are of those that are wanted

@@ -3,7 +3,7 @@ ghost use Rattle.std.specs.Prelude.{◌≡◌, ◌+◌, ◌≤◌, ◌++◌, cod
 ghost use Rattle.cap_print.specs.Facts.{bytes_text, fields_json};
 ghost use Rattle.cap_print.specs.Lines.{room_in, text_in};
 ghost use Rattle.cap_tool.specs.BlockText.{block_json, block_text, kind_text, order_text};
-ghost use Rattle.cap_tool.specs.inner.PacketJson.{packet_head};
+ghost use Rattle.cap_tool.specs.inner.PacketJson.{packet_json_head};
 ghost use Rattle.cap_time.specs.Stamp.{printed_of};
 ghost use Rattle.cap_tool.specs.DiffText.{packet_object};
 ghost use Rattle.cap_tool.specs.ListText.{packet_fields, packet_text, printed_in};
@@ -72,7 +72,7 @@ fn prepend_packet_fields(line: &mut Line, n: u64, meta: &Meta)
 /// Makes a line the packet number n, from 1, in JSON, up to the digits of its bytes:
 /// `{"type":"packet","n":N,"offset":O,"time":T,"captured":C,"original":G,"link":L,"data":"`.
 pub(crate) fn write_packet_head(line: &mut Line, n: u64, meta: &Meta)
-    ensures { text_in line.new ≡ packet_head n meta.now }
+    ensures { text_in line.new ≡ packet_json_head n meta.now }
 {
     line.clear();
     line.prepend_text(b",\"data\":\"");

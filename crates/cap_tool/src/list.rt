@@ -2,7 +2,7 @@
 ghost use Rattle.std.specs.Prelude.{◌≡◌, ◌≤◌, ◌^◌, ◌∷◌, [], None, IsTrue};
 ghost use Rattle.std.specs.Prelude.{IsOkUnless, is_err};
 ghost use Rattle.cap_tool.specs.ListText.{list_json, list_lines, list_refusal, list_text, packet_json, packet_text};
-ghost use Rattle.cap_tool.specs.inner.PacketJson.{packet_rest};
+ghost use Rattle.cap_tool.specs.inner.PacketJson.{packet_json_rest};
 ghost use Rattle.cap_bytes.specs.Device.{Puts, WriterKeeps, writer_of};
 ghost use Rattle.cap_bytes.specs.Printing.{Prints, is_write};
 ghost use Rattle.cap_source.specs.Feed.{refusal_of};
@@ -63,7 +63,7 @@ const PIECE: usize = 200;
 // Writes bytes as digits, and then the end of their packet's line.
 fn put_rest<W: Sink>(writer: &mut W, line: &mut Line, bytes: &[u8]) -> Result<(), Fault>
     ensures bytes { IsTrue (W.tells_held writer.old)
-        → Puts (W.held writer.old) result (W.held writer.new) (packet_rest bytes.now) }
+        → Puts (W.held writer.old) result (W.held writer.new) (packet_json_rest bytes.now) }
     ensures writer { WriterKeeps (writer_of W.Sink writer.old) (is_err result) (writer_of W.Sink writer.new) }
     ensures fault { IsOkUnless result Fault.Write }
 {

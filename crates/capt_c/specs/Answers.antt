@@ -3,8 +3,6 @@ use Rattle.std.specs.Prelude.{ℕ, Bool, true, false, Result, Ok, Err}
 use Rattle.cap_bytes.specs.Rules.{rule_number}
 use Rattle.cap_bytes.specs.declared.faults.Fault.{Fault}
 use Rattle.cap_bytes.specs.declared.faults.Fault.TheVariants.{Refused, Read, Write, Memory}
-use Rattle.cap_bytes.specs.declared.faults.Tail.{Tail}
-use Rattle.cap_bytes.specs.declared.faults.Tail.TheVariants.{Accept, Refuse}
 use Rattle.cap_source.specs.declared.packets.Format.{Format}
 use Rattle.cap_source.specs.declared.packets.Format.TheVariants.{Pcap, Pcapng}
 use Rattle.cap_bytes.specs.declared.numbers.Order.{Order}
@@ -39,11 +37,6 @@ status_of_result (Err fault) = status_of fault
 abbrev pub place_of_result : Result Unit Fault → Place
 place_of_result (Ok _) = nowhere
 place_of_result (Err fault) = place_of_fault fault
-
--- what is done with a cut end
-abbrev pub tail_of : Bool → Tail
-tail_of true = Accept
-tail_of false = Refuse
 
 -- the byte order of what is written
 abbrev pub order_of : Bool → Order

@@ -1,7 +1,7 @@
 //! A capture whose bytes the caller feeds piece by piece.
 ghost use Rattle.std.specs.Prelude.{Some};
 ghost use Rattle.cap_source.specs.inner.FedStates.{GivesFed};
-ghost use Rattle.capt_c.specs.Answers.{tail_of};
+ghost use Rattle.cap_tool.specs.Jobs.{tail_of};
 ghost use Rattle.capt_c.specs.Feeding.{EndsHeld, FedTold, FeedsHeld, OpensFed, StepsFedCapture};
 
 use crate::answers::{

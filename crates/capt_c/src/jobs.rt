@@ -10,7 +10,8 @@ ghost use Rattle.cap_talks.specs.talks.Telling.{Tells};
 ghost use Rattle.cap_tool.specs.Converted.{convert_refusal, convert_text};
 ghost use Rattle.cap_tool.specs.JoinText.{join_refusal, join_text};
 ghost use Rattle.cap_tool.specs.MergeText.{merge_refusal, merge_text};
-ghost use Rattle.capt_c.specs.Answers.{tail_of, order_of, format_of};
+ghost use Rattle.cap_tool.specs.Jobs.{tail_of};
+ghost use Rattle.capt_c.specs.Answers.{order_of, format_of};
 ghost use Rattle.capt_c.specs.Jobs.{JobEnds, Shown, by_memory, file_bytes};
 ghost use Rattle.capt_c.specs.Sources.{rest_of};
 

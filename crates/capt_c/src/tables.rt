@@ -3,7 +3,7 @@ ghost use Rattle.std.specs.Prelude.{◌≡◌, ◌≤◌, [], IfOk, IsOkUnless, 
 ghost use Rattle.cap_merge.specs.inner.Readers.{IsUnreadRun};
 ghost use Rattle.cap_talks.specs.inner.table.Stepping.{TableStands};
 ghost use Rattle.cap_talks.specs.inner.table.TableView.{table_of};
-ghost use Rattle.capt_c.specs.Answers.{tail_of};
+ghost use Rattle.cap_tool.specs.Jobs.{tail_of};
 ghost use Rattle.capt_c.specs.Tables.{OpensTable, StepsTable, WritesTable, reader_of_file, status_of_step};
 ghost use Rattle.capt_c.specs.Tables.{place_of_step};
 

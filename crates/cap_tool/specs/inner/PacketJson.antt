@@ -6,9 +6,9 @@ use Rattle.cap_source.specs.declared.packets.Meta.{Meta}
 use Rattle.cap_tool.specs.ListText.{packet_fields}
 
 -- the line of the packet number n in JSON, up to the digits of its bytes
-abbrev pub packet_head : ℕ → Meta → List ℕ
-packet_head n meta = codes "{\"type\":\"packet\"" ++ fields_json (packet_fields n meta) (codes ",\"data\":\"")
+abbrev pub packet_json_head : ℕ → Meta → List ℕ
+packet_json_head n meta = codes "{\"type\":\"packet\"" ++ fields_json (packet_fields n meta) (codes ",\"data\":\"")
 
 -- the rest of a packet's line in JSON: the bytes that it shows as digits, and its end
-abbrev pub packet_rest : List ℕ → List ℕ
-packet_rest shown = encode_lower shown ++ codes "\"}\n"
+abbrev pub packet_json_rest : List ℕ → List ℕ
+packet_json_rest shown = encode_lower shown ++ codes "\"}\n"

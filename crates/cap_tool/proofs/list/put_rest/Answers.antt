@@ -3,7 +3,7 @@ use Rattle.std.proofs.lemmas.Result.{err_from_is_err_and}
 use Rattle.hex.specs.Hex.{encode_lower}
 use Rattle.cap_bytes.proofs.Putting.{Putting, Putting-front}
 use Rattle.cap_tool.proofs.Pieces.{Putting-line, Puts-err, Puts-last, rest-piece}
-use Rattle.cap_tool.specs.inner.PacketJson.{packet_rest}
+use Rattle.cap_tool.specs.inner.PacketJson.{packet_json_rest}
 use Rattle.cap_tool.proofs.list.put_rest.Goals as goal
 
 pub returns-in_err-put_all-clause-bytes : goal.returns-in_err-put_all-clause-bytes
@@ -17,10 +17,10 @@ returns-in_err-put_all-clause-bytes g c = λ t.
     c.as_slice.ensures.value ∙ (c.prepend_hex.ensures.text ∙ (ap (λ l. encode_lower piece ++ l) c.clear.ensures.text
     ∙ append-nil (encode_lower piece))) in
     let wrote = c.in_err-put_all.ensures.bytes (i.told t) in
-    Puts-err _ _ (packet_rest c.args.bytes.now) c.from_residual.result p.0 p.1
-    (Putting-front _ _ _ (packet_rest c.args.bytes.now) c.as_slice.result.now (packet_rest behind) wrote.0
-    (subst (Putting _ _ (packet_rest c.args.bytes.now))
-    (ap packet_rest parts ∙ (rest-piece piece behind ∙ ap (λ l. l ++ packet_rest behind) (sym line_is))) i)
+    Puts-err _ _ (packet_json_rest c.args.bytes.now) c.from_residual.result p.0 p.1
+    (Putting-front _ _ _ (packet_json_rest c.args.bytes.now) c.as_slice.result.now (packet_json_rest behind) wrote.0
+    (subst (Putting _ _ (packet_json_rest c.args.bytes.now))
+    (ap packet_json_rest parts ∙ (rest-piece piece behind ∙ ap (λ l. l ++ packet_json_rest behind) (sym line_is))) i)
     t wrote.1)
 
 pub loop-rest-preserved : goal.loop-rest-preserved
@@ -32,9 +32,9 @@ loop-rest-preserved g c =
     let line_is : c.as_slice.result.now ≡ encode_lower piece =
     c.as_slice.ensures.value ∙ (c.prepend_hex.ensures.text ∙ (ap (λ l. encode_lower piece ++ l) c.clear.ensures.text
     ∙ append-nil (encode_lower piece))) in (
-      Putting-line _ _ _ _ (packet_rest c.loop-rest.rest.now) c.as_slice.result.now (packet_rest behind)
+      Putting-line _ _ _ _ (packet_json_rest c.loop-rest.rest.now) c.as_slice.result.now (packet_json_rest behind)
           c.loop-rest.invariant.0
-          (ap packet_rest parts ∙ (rest-piece piece behind ∙ ap (λ l. l ++ packet_rest behind) (sym line_is)))
+          (ap packet_json_rest parts ∙ (rest-piece piece behind ∙ ap (λ l. l ++ packet_json_rest behind) (sym line_is)))
           e.bytes e.writer.told e.writer.cannot,
       search rules,
     )
@@ -43,9 +43,9 @@ pub returns-clause-bytes : goal.returns-clause-bytes
 returns-clause-bytes g c = λ t.
     let i = c.loop-rest.invariant.0 in
     let rest = c.loop-rest.rest.now in
-    let line_is : c.as_slice-2.result.now ≡ packet_rest rest =
+    let line_is : c.as_slice-2.result.now ≡ packet_json_rest rest =
     c.as_slice-2.ensures.value ∙ (c.prepend_hex-2.ensures.text ∙ ap (λ l. encode_lower rest ++ l)
     (c.prepend_text.ensures.text ∙ ap (λ l. codes "\"}\n" ++ l) c.clear-2.ensures.text)) in
-    Puts-last _ _ _ (packet_rest c.args.bytes.now) c.as_slice-2.result.now c.put_all-2.result
-    (subst (Putting _ _ (packet_rest c.args.bytes.now)) (sym line_is) i) t
+    Puts-last _ _ _ (packet_json_rest c.args.bytes.now) c.as_slice-2.result.now c.put_all-2.result
+    (subst (Putting _ _ (packet_json_rest c.args.bytes.now)) (sym line_is) i) t
     (c.put_all-2.ensures.bytes (i.told t))

@@ -1,6 +1,6 @@
 use Rattle.std.proofs.Common.{◌≡◌, length}
 use Rattle.cap_bytes.proofs.Putting.{Putting}
-use Rattle.cap_tool.specs.inner.PacketJson.{packet_rest}
+use Rattle.cap_tool.specs.inner.PacketJson.{packet_json_rest}
 use Rattle.cap_tool.proofs.list.put_rest.Given as goal
 
 -- the digits so far are written, and those of the rest are to be
@@ -20,7 +20,7 @@ invariant-loop-rest g l =
       failed = g.W.Device.has_failed new;
       can_fail = g.W.Device.can_fail new;
     })
-    (packet_rest l.fn.bytes) (packet_rest l.rest)
+    (packet_json_rest l.fn.bytes) (packet_json_rest l.rest)
     × (g.W.Device.has_failed new ≡ g.W.Device.has_failed old)
 
 abbrev pub decreases-loop-rest : goal.decreases-loop-rest
