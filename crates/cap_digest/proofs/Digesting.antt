@@ -5,7 +5,7 @@ use Rattle.cap_bytes.specs.Printing.{Prints}
 use Rattle.cap_bytes.specs.declared.faults.Fault.{Fault}
 use Rattle.cap_bytes.specs.declared.faults.Fault.TheVariants.{Refused, Read, Write, Memory}
 use Rattle.cap_bytes.specs.declared.faults.Tail.{Tail}
-use Rattle.cap_digest.specs.Canonical.{canonical_text, head_bytes}
+use Rattle.cap_digest.specs.Canonical.{canonical_text, canonical_head}
 use Rattle.cap_digest.specs.DigestText.{digest_text}
 use Rattle.cap_digest.specs.inner.Digesting.{DigestsAll}
 use Rattle.cap_digest.specs.declared.digests.Digested.{Digested}
@@ -44,7 +44,7 @@ Digesting-none a hasher empty =
 
 text_of-packet : (items : List Item) (meta : Meta) (frame : List ℕ) (rest : List Item)
     → items ≡ packet meta frame ∷ rest
-    → canonical_text items ≡ head_bytes meta ++ frame ++ canonical_text rest
+    → canonical_text items ≡ canonical_head meta ++ frame ++ canonical_text rest
 unfolding canonical_text
 text_of-packet items meta frame rest is = ap canonical_text is
 
@@ -64,7 +64,7 @@ pub Digesting-more : (old mid shown new : Feed) (before between after : Sha256) 
     → GivesPacket mid (Ok (Some meta)) shown → FeedKeeps mid shown
     → (IsTrue mid.told → ShowsItem mid (Ok (Some meta)) shown)
     → FeedPasses shown new → FeedKeeps shown new
-    → head ≡ head_bytes meta
+    → head ≡ canonical_head meta
     → ((m : List ℕ) → Holds256 before m → Holds256 between (m ++ head))
     → ((m : List ℕ) → Holds256 between m → Holds256 after (m ++ shown.frame))
     → Digesting old new after (packets + 1)

@@ -11,7 +11,7 @@ use Rattle.cap_bytes.proofs.Spelling.{length-bytes_of, number-bytes_of}
 use Rattle.cap_bytes.specs.Number.{bytes_of, number}
 use Rattle.cap_bytes.specs.declared.numbers.Order.TheVariants.{Big}
 use Rattle.cap_digest.proofs.Times.{lowest-of}
-use Rattle.cap_digest.specs.Canonical.{canonical_form, form_bytes, head_bytes, in_lowest_terms}
+use Rattle.cap_digest.specs.Canonical.{canonical_form, form_bytes, canonical_head, in_lowest_terms}
 use Rattle.cap_source.specs.Times.{meta_time}
 use Rattle.cap_source.specs.inner.Fields.{FitsInterface, FitsMeta}
 use Rattle.cap_source.specs.declared.packets.Meta.{Meta}
@@ -128,14 +128,14 @@ pub record SameHead (meta again : Meta) : Type 0 where
       ≡ canonical_form (option_map printed_of (meta_time again))
 
 -- such packets have the same bytes there
-pub head-bytes : (meta again : Meta) → SameHead meta again → head_bytes meta ≡ head_bytes again
+pub head-bytes : (meta again : Meta) → SameHead meta again → canonical_head meta ≡ canonical_head again
 head-bytes meta again a =
     λ i. bytes_of Big 2 (a.link i) ++ bytes_of Big 4 (a.captured i) ++ bytes_of Big 4 (a.original i)
     ++ form_bytes (a.form i)
 
 -- packets whose fields fit, with the same bytes before their captured ones
 same-heads : (meta again : Meta) (frame frame_again rest rest_again : List ℕ) → FitsMeta meta frame
-    → FitsMeta again frame_again → head_bytes meta ++ rest ≡ head_bytes again ++ rest_again
+    → FitsMeta again frame_again → canonical_head meta ++ rest ≡ canonical_head again ++ rest_again
     → SameHead meta again × (rest ≡ rest_again)
 same-heads meta again frame frame_again rest rest_again p q same =
     let f = canonical_form (option_map printed_of (meta_time meta)) in
@@ -167,18 +167,18 @@ same-heads meta again frame frame_again rest rest_again p q same =
 -- packets whose fields fit, with the same bytes, before others
 pub text-alike : (meta again : Meta) (frame frame_again rest rest_again : List ℕ) → FitsMeta meta frame
     → FitsMeta again frame_again
-    → head_bytes meta ++ frame ++ rest ≡ head_bytes again ++ frame_again ++ rest_again
+    → canonical_head meta ++ frame ++ rest ≡ canonical_head again ++ frame_again ++ rest_again
     → SameHead meta again × (frame ≡ frame_again) × (rest ≡ rest_again)
 text-alike meta again frame frame_again rest rest_again p q same =
     let head = same-heads meta again frame frame_again (frame ++ rest) (frame_again ++ rest_again) p q
-    (sym (append_assoc (head_bytes meta) frame rest) ∙ same
-    ∙ append_assoc (head_bytes again) frame_again rest_again) in
+    (sym (append_assoc (canonical_head meta) frame rest) ∙ same
+    ∙ append_assoc (canonical_head again) frame_again rest_again) in
     let long : length frame ≡ length frame_again = p.frame.captured ∙ head.0.captured ∙ sym q.frame.captured in
     let parts = split frame rest frame_again rest_again long head.1 in
     (head.0, parts.0, parts.1)
 
 -- there are such bytes
-pub head-some : (meta : Meta) → 0 < length (head_bytes meta)
+pub head-some : (meta : Meta) → 0 < length (canonical_head meta)
 head-some meta =
     let link = bytes_of Big 2 meta.interface.link in
     let captured = bytes_of Big 4 meta.captured in

@@ -41,13 +41,13 @@ form_bytes form =
 
 -- the 42 bytes before a packet's captured bytes: the link type in 2, the captured length and the original one in 4
 -- each, the time in 32, the highest byte of each number first
-abbrev pub head_bytes : Meta → List ℕ
-head_bytes meta =
+abbrev pub canonical_head : Meta → List ℕ
+canonical_head meta =
     bytes_of Big 2 meta.interface.link ++ bytes_of Big 4 meta.captured ++ bytes_of Big 4 meta.original
     ++ form_bytes (canonical_form (option_map printed_of (meta_time meta)))
 
 -- the canonical text of the packets of a list, one after another
 unfoldable pub canonical_text : List Item → List ℕ
 canonical_text [] = []
-canonical_text (packet meta frame ∷ items) = head_bytes meta ++ frame ++ canonical_text items
+canonical_text (packet meta frame ∷ items) = canonical_head meta ++ frame ++ canonical_text items
 canonical_text (refused refusal ∷ items) = []

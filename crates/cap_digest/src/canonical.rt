@@ -1,6 +1,6 @@
 //! The canonical text of a packet.
 ghost use Rattle.std.specs.Prelude.{◌≡◌, ◌+◌, ◌<◌, ◌≤◌, ◌++◌, length, option_map, take};
-ghost use Rattle.cap_digest.specs.Canonical.{canonical_form, common_divisor, head_bytes};
+ghost use Rattle.cap_digest.specs.Canonical.{canonical_form, common_divisor, canonical_head};
 ghost use Rattle.cap_time.specs.Stamp.{printed_of};
 
 use cap_source::Meta;
@@ -53,7 +53,7 @@ fn put(bytes: &mut [u8], place: usize, piece: &[u8])
 /// The bytes that stand before a packet's captured bytes.
 #[tactic(auto, unfolding(cap_bytes::specs::Number::bytes_of))]
 pub(crate) fn head_of(meta: &Meta) -> [u8; HEAD]
-    ensures { result ≡ head_bytes meta.now }
+    ensures { result ≡ canonical_head meta.now }
 {
     let (seconds, numerator, denominator) = canonical_form(meta.time());
     let mut head = [0; HEAD];

@@ -31,7 +31,7 @@ use Rattle.cap_source.proofs.FedBlocks.{skip-facts}
 use Rattle.cap_source.proofs.FedBlocks.{skip-other, skip-passed, skip-short}
 use Rattle.cap_source.proofs.FedStops.{broken, broken-by, stop_by-short, stopped-as}
 use Rattle.cap_source.specs.Contents.{content_in}
-use Rattle.cap_source.specs.Fed.{CourseState, MayFollow, items_after, items_at_stage, skipped_items}
+use Rattle.cap_source.specs.Fed.{CourseState, MayBeFed, items_after, items_at_stage, skipped_items}
 use Rattle.cap_source.specs.Feed.{Item, packet, refused}
 use Rattle.cap_source.specs.Items.{Progress, after, behind, frame_in, is_pcapng, items_at_block, items_from}
 use Rattle.cap_source.specs.Items.{items_of_blocks, items_of_stop, meta_in}

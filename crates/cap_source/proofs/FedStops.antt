@@ -12,7 +12,7 @@ use Rattle.cap_bytes.specs.declared.faults.Rule.TheVariants.{Cut}
 use Rattle.cap_bytes.specs.declared.faults.Tail.{Tail}
 use Rattle.cap_bytes.specs.declared.stops.Stop.{Stop}
 use Rattle.cap_bytes.specs.declared.stops.Stop.TheVariants as stops
-use Rattle.cap_source.specs.Fed.{CourseState, MayFollow, items_after}
+use Rattle.cap_source.specs.Fed.{CourseState, MayBeFed, items_after}
 use Rattle.cap_source.specs.Items.{items_of_stop}
 use Rattle.cap_source.specs.declared.fed.FedStep.{FedStep}
 use Rattle.cap_source.specs.inner.FedSteps.{AreShort, BreaksBy, BreaksIf, BreaksOff, CourseKeeps}
@@ -31,7 +31,7 @@ stop-none inside tail file offset bytes fault none = rw none refl
 -- it stops for good
 module _ (old : CourseState) (b : List ℕ) (result : Result FedStep Fault) (new : CourseState) where
   stopped-by : (stop : Stop)
-      → ((later : List ℕ) → MayFollow old later → items_after old (b ++ later) ≡ items_of_stop stop)
+      → ((later : List ℕ) → MayBeFed old later → items_after old (b ++ later) ≡ items_of_stop stop)
       → ((rest : List ℕ) → items_after new rest ≡ items_of_stop stop)
       → IsToldStop stop result → StepsFed old b result new
   stopped-by stops.End every still told =
@@ -42,7 +42,7 @@ module _ (old : CourseState) (b : List ℕ) (result : Result FedStep Fault) (new
       subst (λ (r : Result FedStep Fault). StepsFed old b r new) (sym told) (every, still)
 
   pub stopped-as : (stop : Stop)
-      → ((later : List ℕ) → MayFollow old later → items_after old (b ++ later) ≡ items_of_stop stop)
+      → ((later : List ℕ) → MayBeFed old later → items_after old (b ++ later) ≡ items_of_stop stop)
       → StopsFed old stop result new → StepsFed old b result new
   stopped-as stop every h =
       stopped-by stop every (λ rest. ap (λ (c : CourseState). items_after c rest) h.0) h.1
@@ -53,7 +53,7 @@ module _ (old : CourseState) (b : List ℕ) (rule : Rule) (stop : Stop)
     (more : (rule ≡ Cut → ⊥) → (later : List ℕ) → items_after old (b ++ later) ≡ items_of_stop stop)
     (short : rule ≡ Cut → AreShort (items_of_stop stop)) where
   every-by : (ended : Bool) → old.ended ≡ ended → (not ended && is_cut_rule rule) ≡ false
-      → (later : List ℕ) → MayFollow old later → items_after old (b ++ later) ≡ items_of_stop stop
+      → (later : List ℕ) → MayBeFed old later → items_after old (b ++ later) ≡ items_of_stop stop
   every-by true e sure later may =
       ap (λ (l : List ℕ). items_after old (b ++ l)) (may e) ∙ (ap (items_after old) (append-nil b) ∙ here)
   every-by false e sure later may = more (other rule sure) later

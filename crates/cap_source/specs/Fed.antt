@@ -49,8 +49,8 @@ abbrev pub items_after : CourseState → List ℕ → List Item
 items_after c bytes = items_at_stage c.stage c bytes
 
 -- Some bytes may be fed later: none once all were.
-abbrev pub MayFollow : CourseState → List ℕ → Type 0
-MayFollow c later = IsTrue c.ended → later ≡ []
+abbrev pub MayBeFed : CourseState → List ℕ → Type 0
+MayBeFed c later = IsTrue c.ended → later ≡ []
 
 -- A capture that is fed: how far it was read, the bytes that were fed after that, and the captured ones of the packet
 -- that came last.

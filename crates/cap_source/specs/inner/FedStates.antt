@@ -2,7 +2,7 @@
 use Rattle.std.specs.Prelude.{◌≡◌, ◌≤◌, ◌<◌, ℕ, Bool, false, List, [], ◌∷◌, ◌++◌, Result, Ok, Err}
 use Rattle.cap_bytes.specs.declared.faults.Fault.{Fault}
 use Rattle.cap_bytes.specs.declared.faults.Fault.TheVariants.{Refused, Read, Write, Memory}
-use Rattle.cap_source.specs.Fed.{CourseState, FedState, MayFollow, fed_items}
+use Rattle.cap_source.specs.Fed.{CourseState, FedState, MayBeFed, fed_items}
 use Rattle.cap_source.specs.Feed.{Item, packet, refused}
 use Rattle.cap_source.specs.inner.FedSteps.{AreShort, CourseKeeps, IsSoundCourse}
 use Rattle.cap_source.specs.declared.fed_captures.Fed.{Fed}
@@ -24,20 +24,20 @@ FeedsBytes old bytes (Err fault) new =
 -- What is found next of a capture that is fed, whatever bytes are fed later, which are none if all were.
 abbrev pub FindsFed : FedState → Result Fed Fault → FedState → Type 0
 FindsFed old (Ok (feds.Packet meta)) new =
-    (later : List ℕ) → MayFollow old.course later → fed_items old later ≡ packet meta new.frame ∷ fed_items new later
+    (later : List ℕ) → MayBeFed old.course later → fed_items old later ≡ packet meta new.frame ∷ fed_items new later
 FindsFed old (Ok feds.More) new =
     (old.course.ended ≡ false) × AreShort (fed_items old [])
     × ((later : List ℕ) → fed_items old later ≡ fed_items new later)
 FindsFed old (Ok feds.End) new =
-    ((later : List ℕ) → MayFollow old.course later → fed_items old later ≡ [])
+    ((later : List ℕ) → MayBeFed old.course later → fed_items old later ≡ [])
     × ((later : List ℕ) → fed_items new later ≡ [])
 FindsFed old (Err (Refused refusal)) new =
-    ((later : List ℕ) → MayFollow old.course later → fed_items old later ≡ refused refusal ∷ [])
+    ((later : List ℕ) → MayBeFed old.course later → fed_items old later ≡ refused refusal ∷ [])
     × ((later : List ℕ) → fed_items new later ≡ refused refusal ∷ [])
 FindsFed old (Err (Read file offset)) new = ⊥
 FindsFed old (Err Write) new = ⊥
 FindsFed old (Err Memory) new =
-    (later : List ℕ) → MayFollow old.course later → fed_items old later ≡ fed_items new later
+    (later : List ℕ) → MayBeFed old.course later → fed_items old later ≡ fed_items new later
 
 -- the same, and what a call for it keeps
 pub record GivesFed (old : FedState) (result : Result Fed Fault) (new : FedState) : Type 0 where

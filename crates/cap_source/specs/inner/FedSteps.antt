@@ -10,7 +10,7 @@ use Rattle.cap_bytes.specs.declared.faults.Rule.{Rule}
 use Rattle.cap_bytes.specs.declared.faults.Rule.TheVariants as rules
 use Rattle.cap_bytes.specs.declared.stops.Stop.{Stop}
 use Rattle.cap_bytes.specs.declared.stops.Stop.TheVariants as stops
-use Rattle.cap_source.specs.Fed.{CourseState, MayFollow, items_after}
+use Rattle.cap_source.specs.Fed.{CourseState, MayBeFed, items_after}
 use Rattle.cap_source.specs.Feed.{Item, packet, refused}
 use Rattle.cap_source.specs.Contents.{content_in}
 use Rattle.cap_source.specs.Items.{Progress, after, meta_in}
@@ -145,21 +145,21 @@ pub record CourseKeeps (old new : CourseState) : Type 0 where
 abbrev pub StepsFed : CourseState → List ℕ → Result FedStep Fault → CourseState → Type 0
 StepsFed old bytes (Ok (steps.Passed n)) new =
     (0 < n) × (n ≤ length bytes)
-    × ((later : List ℕ) → MayFollow old later
+    × ((later : List ℕ) → MayBeFed old later
     → items_after old (bytes ++ later) ≡ items_after new (drop n bytes ++ later))
 StepsFed old bytes (Ok (steps.Packet meta place size)) new =
     (0 < size) × (size ≤ length bytes) × (place + meta.captured ≤ size)
-    × ((later : List ℕ) → MayFollow old later
+    × ((later : List ℕ) → MayBeFed old later
     → items_after old (bytes ++ later)
     ≡ packet meta (take meta.captured (drop place bytes)) ∷ items_after new (drop size bytes ++ later))
 StepsFed old bytes (Ok steps.Short) new =
     (old.ended ≡ false) × AreShort (items_after old bytes)
     × ((later : List ℕ) → items_after old (bytes ++ later) ≡ items_after new (bytes ++ later))
 StepsFed old bytes (Ok steps.Ends) new =
-    ((later : List ℕ) → MayFollow old later → items_after old (bytes ++ later) ≡ [])
+    ((later : List ℕ) → MayBeFed old later → items_after old (bytes ++ later) ≡ [])
     × ((rest : List ℕ) → items_after new rest ≡ [])
 StepsFed old bytes (Err (Refused refusal)) new =
-    ((later : List ℕ) → MayFollow old later → items_after old (bytes ++ later) ≡ refused refusal ∷ [])
+    ((later : List ℕ) → MayBeFed old later → items_after old (bytes ++ later) ≡ refused refusal ∷ [])
     × ((rest : List ℕ) → items_after new rest ≡ refused refusal ∷ [])
 StepsFed old bytes (Err (Read file offset)) new = ⊥
 StepsFed old bytes (Err Write) new = ⊥
@@ -169,7 +169,7 @@ StepsFed old bytes (Err Memory) new =
 -- The same items come of the next bytes, whatever is fed later, as come from another point on of these.
 abbrev pub FollowsFed : CourseState → List ℕ → CourseState → List ℕ → Type 0
 FollowsFed old bytes new rest =
-    (later : List ℕ) → MayFollow old later → items_after old (bytes ++ later) ≡ items_after new (rest ++ later)
+    (later : List ℕ) → MayBeFed old later → items_after old (bytes ++ later) ≡ items_after new (rest ++ later)
 
 -- bytes were passed, and nothing else was found
 abbrev pub is_passed : Result FedStep Fault → Bool
