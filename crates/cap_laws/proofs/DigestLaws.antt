@@ -8,7 +8,7 @@ use Rattle.cap_bytes.specs.declared.faults.Refusal.{Refusal}
 use Rattle.cap_bytes.specs.declared.faults.Tail.{Tail}
 use Rattle.cap_digest.proofs.Injective.{SameHead, head-bytes, head-some, text-alike}
 use Rattle.cap_digest.proofs.Times.{canonical-same, same-canonical}
-use Rattle.cap_digest.specs.Canonical.{canonical_form, canonical_text, head_bytes}
+use Rattle.cap_digest.specs.Canonical.{canonical_form, canonical_text, canonical_head}
 use Rattle.cap_digest.specs.DigestText.{digest_facts, digest_line, digest_text}
 use Rattle.cap_laws.proofs.FileNumbers.{file-numbered}
 use Rattle.cap_laws.proofs.Twins.{IsTwin, TwinItems, twins}
@@ -119,13 +119,13 @@ same-alike (refused r ∷ xs) [] h = absurd h
 same-alike (refused r ∷ xs) (y ∷ ys) h = absurd h.0
 
 -- a packet's text isn't empty
-some-text : (meta : Meta) (frame rest : List ℕ) → head_bytes meta ++ frame ++ rest ≡ [] → ⊥
+some-text : (meta : Meta) (frame rest : List ℕ) → canonical_head meta ++ frame ++ rest ≡ [] → ⊥
 some-text meta frame rest none =
     omega (
       arith,
       head-some meta,
-      length-append (head_bytes meta ++ frame) rest,
-      length-append (head_bytes meta) frame,
+      length-append (canonical_head meta ++ frame) rest,
+      length-append (canonical_head meta) frame,
       ap length none,
     )
 
@@ -166,7 +166,7 @@ numbered-alike n [] none = record { text = refl; count = refl; first = refl; sec
 numbered-alike n (packet m f ∷ xs) none =
     let rest = numbered-alike n xs none in
     record {
-      text = ap (λ (l : List ℕ). head_bytes m ++ f ++ l) rest.text;
+      text = ap (λ (l : List ℕ). canonical_head m ++ f ++ l) rest.text;
       count = omega (arith, rest.count);
       first = rest.first;
       second = rest.second;
