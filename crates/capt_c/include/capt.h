@@ -1,22 +1,25 @@
-/* capt.h: packet captures (pcap 2.4, pcapng 1.0), read, listed, reported, converted, merged and joined by proved code.
+/* capt.h: packet captures (pcap 2.4, pcapng 1.0 and 1.2), read, listed, reported, converted, merged and joined by
+ * proved code.
  *
- * Link with -lcapt (libcapt.so), or with libcapt.a. It uses malloc, realloc and free, and read(2) for capt_open_stdin;
- * it opens no file, writes to none, starts no thread and keeps nothing between calls but what a handle holds.
+ * * Link with -lcapt (libcapt.so), or with libcapt.a. It uses malloc, realloc and free, and read(2) for
+ * capt_open_stdin; it opens no file, writes to none, starts no thread and keeps nothing between calls but what a
+ * handle holds.
  *
- * Handles. A capt_reader, a capt_table or a capt_text is yours: begin with {0}, let only the library change it, don't copy it, and close
- * it; closed is {0} again, and closing it twice does nothing. A call that fills a handle closes first what it held.
+ * * Handles. A capt_reader, a capt_table or a capt_text is yours: begin with {0}, let only the library change it,
+ * don't copy it, and close it; closed is {0} again, and closing it twice does nothing. A call that fills a handle
+ * closes first what it held.
  *
- * Threads. One call at a time with a handle. Calls with different handles may run at once, also over the same bytes.
+ * * Threads. One call at a time with a handle. Calls with different handles may run at once, also over the same bytes.
  *
- * Pointers. None is NULL, not even to a file of 0 bytes: point to any byte then. Bytes that you give are only read. Those of
- * capt_open and capt_table_open stay where and as they are until capt_close; those of the other calls, of capt_feed too, until
- * the call returns.
+ * * Pointers. None is NULL, not even to a file of 0 bytes: point to any byte then. Bytes that you give are only read.
+ * Those of capt_open and capt_table_open stay where and as they are until capt_close; those of the other calls, of
+ * capt_feed too, until the call returns.
  *
- * Memory. A reader holds at most 512 KiB and 1,024 interfaces; one that is fed the record or block that comes next, of at most
- * 512 KiB, what was fed after it, and 1,024 interfaces; a table that for each of its files, and besides at most 1,024
- * groups of fragments and 1,048,576 conversations. A call that makes a text holds the whole text.
+ * * Memory. A reader holds at most 512 KiB and 1,024 interfaces; one that is fed the record or block that comes next,
+ * of at most 512 KiB, what was fed after it, and 1,024 interfaces; a table that for each of its files, and besides at
+ * most 1,024 groups of fragments and 1,048,576 conversations. A call that makes a text holds the whole text.
  *
- * No call is to be made from a signal handler. */
+ * * No call is to be made from a signal handler. */
 #ifndef CAPT_H
 #define CAPT_H
 
@@ -39,14 +42,16 @@ enum capt_status {
     CAPT_MORE = 7     /* of a reader that is fed: more bytes are wanted to tell what comes next */
 };
 
-/* Where a capture is refused, or where a read failed. All are 0 after any other status but CAPT_MISUSE, which leaves it. */
+/* Where a capture is refused, or where a read failed. All are 0 after any other status but CAPT_MISUSE, which leaves
+ * it. */
 typedef struct {
     uint64_t offset; /* where the header, the record or the block begins, in bytes */
     uint32_t file;   /* the number of the file, from 1 */
     uint32_t rule;   /* the rule that is broken, from 1 to 21; 0 after CAPT_READ */
 } capt_place;
 
-/* A packet. Its time is exactly seconds + numerator/denominator since 1970-01-01 00:00 UTC, in the unit of its interface. */
+/* A packet. Its time is exactly seconds + numerator/denominator since 1970-01-01 00:00 UTC, in the unit of its
+ * interface. */
 typedef struct {
     const uint8_t *frame; /* `captured` bytes, until the next call with this reader */
     uint64_t offset;      /* where its record or block begins, in bytes */
@@ -54,7 +59,7 @@ typedef struct {
     int64_t seconds;      /* whole seconds, rounded down */
     uint64_t numerator;   /* below the denominator */
     uint64_t denominator; /* 0 if the packet has no time */
-    uint32_t carry;       /* how many times 2^64 seconds are to be added: 0 for any time before the year 292,277,026,596 */
+    uint32_t carry;       /* 2^64 seconds, so many times, are to be added: 0 before the year 292,277,026,596 */
     uint32_t captured;    /* how many of its bytes were captured, at most 262,144 */
     uint32_t original;    /* how many bytes it had */
     uint32_t snaplen;     /* the most bytes that its interface captures; 0 for no limit */
@@ -99,65 +104,72 @@ uint32_t capt_open(capt_reader *reader, const uint8_t *at, size_t len, bool allo
 /* The same of standard input, read by read(2) until capt_close, past any buffer of <stdio.h>. */
 uint32_t capt_open_stdin(capt_reader *reader, bool allow_cut);
 
-/* Opens a capture whose bytes you feed, in pieces cut anywhere, as they come out of a pipe or a socket. CAPT_DONE, or CAPT_MEMORY. */
+/* Opens a capture whose bytes you feed, in pieces cut anywhere, as they come out of a pipe or a socket. CAPT_DONE, or
+ * CAPT_MEMORY. */
 uint32_t capt_open_fed(capt_reader *reader, bool allow_cut);
 
-/* Feeds the next bytes of it, which are copied; the frame of the last packet goes. CAPT_DONE; CAPT_MEMORY, after which nothing was fed;
- * or CAPT_MISUSE after capt_feed_end, or if the reader isn't one of capt_open_fed. Ask for packets until CAPT_MORE before you
- * feed again, and it holds no more than one record or block and a piece. */
+/* Feeds the next bytes of it, which are copied; the frame of the last packet goes. CAPT_DONE; CAPT_MEMORY, after which
+ * nothing was fed; or CAPT_MISUSE after capt_feed_end, or if the reader isn't one of capt_open_fed. Ask for packets
+ * until CAPT_MORE before you feed again, and it holds no more than one record or block and a piece. */
 uint32_t capt_feed(capt_reader *reader, const uint8_t *at, size_t len);
 
 /* Says that all bytes were fed. CAPT_DONE, or CAPT_MISUSE if the reader isn't one of capt_open_fed. */
 uint32_t capt_feed_end(capt_reader *reader);
 
-/* The next packet. CAPT_PACKET; CAPT_DONE, CAPT_REFUSED or CAPT_READ, each of which every further call returns again; CAPT_MORE of a
- * reader that is fed, until more was fed or capt_feed_end said that no more comes; or CAPT_MEMORY, after which the call may be made
- * again. `packet` is changed by CAPT_PACKET alone. What was fed in which pieces changes nothing of the packets, nor of a refusal. */
+/* The next packet. CAPT_PACKET; CAPT_DONE, CAPT_REFUSED or CAPT_READ, each of which every further call returns again;
+ * CAPT_MORE of a reader that is fed, until more was fed or capt_feed_end said that no more comes; or CAPT_MEMORY,
+ * after which the call may be made again. `packet` is changed by CAPT_PACKET alone. What was fed in which pieces
+ * changes nothing of the packets, nor of a refusal. */
 uint32_t capt_next(capt_reader *reader, capt_packet *packet, capt_place *place);
 
-/* The next packets, up to `room` of them, which is at least 1: one, and those after it that need no further read. `count` says
- * how many came. The rest is as of capt_next; each frame stays until the next call with this reader. CAPT_MISUSE of a
- * reader that is fed. */
+/* The next packets, up to `room` of them, which is at least 1: one, and those after it that need no further read.
+ * `count` says how many came. The rest is as of capt_next; each frame stays until the next call with this reader.
+ * CAPT_MISUSE of a reader that is fed. */
 uint32_t capt_next_many(capt_reader *reader, capt_packet *packets, size_t room, size_t *count, capt_place *place);
 
-/* How the capture ended, once capt_next or capt_next_many has returned CAPT_DONE; else, and of a reader that is fed, CAPT_MISUSE. */
+/* How the capture ended, once capt_next or capt_next_many has returned CAPT_DONE; else, and of a reader that is fed,
+ * CAPT_MISUSE. */
 uint32_t capt_end(capt_reader *reader, capt_ending *ending);
 
 /* Lets go what the reader, or the table, holds. */
 void capt_close(capt_reader *reader);
 
-/* The report of capt_report step by step, in bounded memory. Opens a table of 1 to 32 captures, with allow_cut as of capt_open.
- * CAPT_DONE, CAPT_MEMORY or CAPT_MISUSE. */
+/* The report of capt_report step by step, in bounded memory. Opens a table of 1 to 32 captures, with allow_cut as of
+ * capt_open. CAPT_DONE, CAPT_MEMORY or CAPT_MISUSE. */
 uint32_t capt_table_open(capt_table *table, const capt_bytes *files, size_t count, bool allow_cut);
 
-/* Takes the packet that comes next in the order of exact time. CAPT_PACKET; CAPT_DONE or CAPT_REFUSED, each of which every further
- * call returns again; or CAPT_MEMORY, after which nothing was taken, and the call may be made again. */
+/* Takes the packet that comes next in the order of exact time. CAPT_PACKET; CAPT_DONE or CAPT_REFUSED, each of which
+ * every further call returns again; or CAPT_MEMORY, after which nothing was taken, and the call may be made again. */
 uint32_t capt_table_step(capt_table *table, capt_place *place);
 
-/* The report over the packets that were taken so far: that of capt_report after CAPT_DONE; before it, a file of which no packet was
- * taken has the format `-`, and no line says `cut`. CAPT_DONE, CAPT_MEMORY or CAPT_MISUSE. */
+/* The report over the packets that were taken so far: that of capt_report after CAPT_DONE; before it, a file of which
+ * no packet was taken has the format `-`, and no line says `cut`. CAPT_DONE, CAPT_MEMORY or CAPT_MISUSE. */
 uint32_t capt_table_write(capt_table *table, capt_text *text, capt_place *place);
 
-/* What the commands of the program capt print, of one file or of 1 to 32 files, byte for byte. CAPT_DONE, CAPT_REFUSED or
- * CAPT_MEMORY. After CAPT_REFUSED the text of list, blocks, convert, merge and join is what stands before the refusal, and
- * that of report and info is empty. */
+/* What the commands of the program capt print, of one file or of 1 to 32 files, byte for byte. CAPT_DONE, CAPT_REFUSED
+ * or CAPT_MEMORY. After CAPT_REFUSED the text of list, blocks, convert, merge and join is what stands before the
+ * refusal, and that of report and info is empty. */
 uint32_t capt_list(const uint8_t *at, size_t len, bool allow_cut, capt_text *text, capt_place *place);
 uint32_t capt_blocks(const uint8_t *at, size_t len, bool allow_cut, capt_text *text, capt_place *place);
 uint32_t capt_info(const capt_bytes *files, size_t count, bool allow_cut, capt_text *text, capt_place *place);
 uint32_t capt_report(const capt_bytes *files, size_t count, bool allow_cut, capt_text *text, capt_place *place);
 
-/* A capture as a pcap file (`pcap`) or as a pcapng file of one section, and 1 to 32 captures merged or joined as one pcapng
- * file: with big-endian numbers (`big`) or little-endian ones. */
-uint32_t capt_convert(const uint8_t *at, size_t len, bool allow_cut, bool pcap, bool big, capt_text *text, capt_place *place);
-uint32_t capt_merge(const capt_bytes *files, size_t count, bool allow_cut, bool big, capt_text *text, capt_place *place);
-uint32_t capt_join(const capt_bytes *files, size_t count, bool allow_cut, bool big, capt_text *text, capt_place *place);
+/* A capture as a pcap file (`pcap`) or as a pcapng file of one section, and 1 to 32 captures merged or joined as one
+ * pcapng file: with big-endian numbers (`big`) or little-endian ones. */
+uint32_t capt_convert(const uint8_t *at, size_t len, bool allow_cut, bool pcap, bool big, capt_text *text,
+                      capt_place *place);
+uint32_t capt_merge(const capt_bytes *files, size_t count, bool allow_cut, bool big, capt_text *text,
+                    capt_place *place);
+uint32_t capt_join(const capt_bytes *files, size_t count, bool allow_cut, bool big, capt_text *text,
+                   capt_place *place);
 
 /* Lets go a text. */
 void capt_text_close(capt_text *text);
 
-/* Put as many bytes of a text into the buffer as it has room for, with no zero after them, and return how long the text is:
- * the line that capt prints of a fault, with its end, as "refused: file 1 offset 24 rule 6 block-trailer\n", or 0 of a status
- * that is none; the name of a rule, as "block-trailer", or 0 if there is no such rule; and the version of the library. */
+/* Put as many bytes of a text into the buffer as it has room for, with no zero after them, and return how long the
+ * text is: the line that capt prints of a fault, with its end, as "refused: file 1 offset 24 rule 6 block-trailer\n",
+ * or 0 of a status that is none; the name of a rule, as "block-trailer", or 0 if there is no such rule; and the
+ * version of the library. */
 size_t capt_error_text(uint32_t status, const capt_place *place, uint8_t *buffer, size_t room);
 size_t capt_rule_name(uint32_t rule, uint8_t *buffer, size_t room);
 size_t capt_version(uint8_t *buffer, size_t room);
