@@ -17,7 +17,7 @@ use cap_time::{Stamp, reach};
 #[derive(Clone, Copy, Default)]
 pub struct Lane {
     pub(crate) clock: Option<Stamp>,
-    // whether a packet comes next or the end, or which refusal: what the feed keeps is a `Head`
+    // whether a packet comes next or the end, or which refusal: no `Head`, since the feed keeps the packet
     pub(crate) next: Option<Result<bool, Refusal>>,
 }
 
