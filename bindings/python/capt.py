@@ -203,21 +203,28 @@ class Packet:
 
 
 class Capture:
-    """The packets of a capture, one by one: of a path, or of bytes. Close it, or use it as a context."""
+    """The packets of a capture, one by one: of a path, or of bytes. Close it, or use it as a context.
+
+    An iteration that is left goes on where it was when the next one begins. `data` of a packet is a copy.
+    """
 
     def __init__(self, source, allow_cut: bool = False):
         self._mapped = _Mapped(source)
         self._reader, self._place, self._count = _Reader(), _Place(), ctypes.c_size_t()
         self._some = (_Packet * _ROOM)()
+        # packets that came and weren't given yet, the next one last
+        self._ready = []
         _check(_library.capt_open(ctypes.byref(self._reader), self._mapped.at, self._mapped.len, allow_cut), self._place)
 
     def __iter__(self):
         step, some = _library.capt_next_many, self._some
         words = (ctypes.byref(self._reader), some, _ROOM, ctypes.byref(self._count), ctypes.byref(self._place))
-        while (status := step(*words)) == _PACKET:
-            # the frames stay until the next call, and whoever iterates may leave off on the way
-            yield from [Packet(packet) for packet in some[:self._count.value]]
-        _check(status, self._place)
+        while True:
+            while self._ready:
+                yield self._ready.pop()
+            if (status := step(*words)) != _PACKET:
+                return _check(status, self._place)
+            self._ready = [Packet(packet) for packet in reversed(some[:self._count.value])]
 
     @property
     def ending(self) -> Ending:
