@@ -14,7 +14,7 @@ ghost use Rattle.cap_tool.specs.DiffText.{TellsDiff, before_side, compared, comp
 ghost use Rattle.cap_tool.specs.DiffText.{difference_line, difference_words, differences_of, do_differ, is_same};
 ghost use Rattle.cap_tool.specs.DiffText.{is_same_time, other_packet, side_in};
 ghost use Rattle.cap_tool.specs.inner.DiffWalk.{FailsOne, KnowsPackets, Parts, are_alike, compared_of, given};
-ghost use Rattle.cap_tool.specs.inner.DiffWalk.{packet_known, parted};
+ghost use Rattle.cap_tool.specs.inner.DiffWalk.{known_packet, parted};
 
 use crate::diff_lines::{before_first, before_second, differ_line, end_line, same_line};
 use crate::lines::{write_packet, write_packet_object};
@@ -88,25 +88,25 @@ fn look<F: PacketFeed>(feed: &mut F) -> Result<bool, Fault>
     ensures keeps { FeedKeeps (F.feed feed.old) (F.feed feed.new) }
     ensures items { IsTrue (F.feed feed.old).told
         → ShowsItem (F.feed feed.old) (given result (F.feed feed.new).known) (F.feed feed.new) }
-    ensures found { IfOk result (λ found. found ≡ is_some (packet_known (F.feed feed.new).known)) }
+    ensures found { IfOk result (λ found. found ≡ is_some (known_packet (F.feed feed.new).known)) }
 {
     feed.has_packet()
 }
 
 // The packet that comes next, if one does.
 fn packet_of<F: PacketFeed>(feed: &F, found: bool) -> Option<Meta>
-    requires { found ≡ is_some (packet_known (F.feed feed.now).known) }
-    ensures { result ≡ packet_known (F.feed feed.now).known }
+    requires { found ≡ is_some (known_packet (F.feed feed.now).known) }
+    ensures { result ≡ known_packet (F.feed feed.now).known }
 {
     if found { Some(*feed.packet()) } else { None }
 }
 
 // Whether the packets that come next, if there are some, are the same: none is the same as nothing.
 fn is_alike<F: PacketFeed>(first: &F, one: bool, second: &F, other: bool) -> bool
-    requires first { one ≡ is_some (packet_known (F.feed first.now).known) }
-    requires second { other ≡ is_some (packet_known (F.feed second.now).known) }
-    ensures { result ≡ are_alike (compared_of (packet_known (F.feed first.now).known) (F.feed first.now).frame)
-        (compared_of (packet_known (F.feed second.now).known) (F.feed second.now).frame) }
+    requires first { one ≡ is_some (known_packet (F.feed first.now).known) }
+    requires second { other ≡ is_some (known_packet (F.feed second.now).known) }
+    ensures { result ≡ are_alike (compared_of (known_packet (F.feed first.now).known) (F.feed first.now).frame)
+        (compared_of (known_packet (F.feed second.now).known) (F.feed second.now).frame) }
 {
     if one {
         if other {

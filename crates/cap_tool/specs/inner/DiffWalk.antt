@@ -18,15 +18,15 @@ compared_of None frame = None
 compared_of (Some meta) frame = Some (record { meta = meta; frame = frame })
 
 -- the packet that comes next, if that is known
-abbrev pub packet_known : Option Head → Option Meta
-packet_known None = None
-packet_known (Some (heads.Packet meta)) = Some meta
-packet_known (Some (heads.Refused refusal)) = None
-packet_known (Some heads.End) = None
+abbrev pub known_packet : Option Head → Option Meta
+known_packet None = None
+known_packet (Some (heads.Packet meta)) = Some meta
+known_packet (Some (heads.Refused refusal)) = None
+known_packet (Some heads.End) = None
 
 -- what a feed gives next by whether a packet comes next, which is known then
 abbrev pub given : Result Bool Fault → Option Head → Result (Option Meta) Fault
-given (Ok found) known = Ok (packet_known known)
+given (Ok found) known = Ok (known_packet known)
 given (Err fault) known = Err fault
 
 -- two packets are the same; none is the same as nothing
