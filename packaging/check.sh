@@ -27,7 +27,7 @@ dpkg-deb -x "$work"/once/*.deb "$work/deb"
 judged 'the tarball and the package have other files' diff <(cd "$work/tar" && find . | sort) <(cd "$work/deb/usr" && find . | sort)
 cd examples
 for packed in "$work/tar/bin/capt" "$work/deb/usr/bin/capt"; do
-    for words in --version 'report monday.pcap tuesday.pcapng' 'info cut.pcap' 'list --explain cut.pcap' 'blocks tuesday.pcapng' \
+    for words in --version 'report monday.pcap tuesday.pcapng' 'info cut.pcap' 'list --explain cut.pcap' 'blocks tuesday.pcapng' 'diff monday.pcap trace.pcap' \
         'merge -o - monday.pcap tuesday.pcapng' 'convert --to pcap -o - tuesday.pcapng' 'join -o - tuesday.pcapng' 'report missing'; do
         # shellcheck disable=SC2086  # the words are several
         judged "$packed $words: another answer" diff <("$program" $words 2>&1; echo $?) <("$packed" $words 2>&1; echo $?)

@@ -2,6 +2,7 @@
 mod blocks;
 mod blocks_json;
 mod captures;
+mod check;
 mod convert;
 mod diff;
 mod digest;

@@ -1,4 +1,4 @@
-//! The program `capt`: packet captures, read, reported, converted, merged and joined by proved code.
+//! The program `capt`: packet captures, read, reported, compared, converted, merged and joined by proved code.
 #![tactic(auto)]
 
 ghost use Rattle.std.specs.Prelude.{◌≡◌, ◌⊎◌, IfErr, IfOk, IsFalse, map, string_bytes, vec_len, Result};

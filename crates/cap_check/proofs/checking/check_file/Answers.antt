@@ -1,0 +1,13 @@
+use Rattle.std.proofs.Common.{◌∙◌, sym, ap}
+use Rattle.cap_source.specs.Feed.{refusal_of}
+use Rattle.cap_check.specs.Checking.{checked_after, nothing_checked}
+use Rattle.cap_check.proofs.checking.check_file.Goals as goal
+
+pub returns-in-Ok-clause-checked : goal.returns-in-Ok-clause-checked
+returns-in-Ok-clause-checked g c = λ t.
+    let e = c.new-capture.ensures in
+    let took = c.in-Ok.ensures.counts (rw e.told t) in (
+      sym (ap refusal_of e.items) ∙ took.0,
+      took.1 ∙ ap (checked_after nothing_checked) e.items,
+      c.ending.ensures.ending ∙ ap (λ end. end.ending) (took.2 c.args.file ∙ e.endings c.args.file),
+    )

@@ -1,0 +1,84 @@
+-- What is counted of the packets of a file that is checked, and how the file ends.
+use Rattle.std.specs.Prelude.{◌≡◌, ℕ, ◌+◌, ◌&&◌, max, nat_lt, Bool, true, false, List, [], ◌∷◌, take, Option, Some}
+use Rattle.std.specs.Prelude.{None, is_none, is_some, if◌then◌else◌, IsTrue}
+use Rattle.std.specs.Ordering.{is_lt}
+use Rattle.cap_bytes.specs.declared.faults.Tail.{Tail}
+use Rattle.cap_source.specs.Feed.{Item, packet, refused, refusal_of}
+use Rattle.cap_source.specs.Items.{file_ending, file_items}
+use Rattle.cap_source.specs.Times.{meta_time}
+use Rattle.cap_source.specs.declared.packets.Meta.{Meta}
+use Rattle.cap_time.specs.Clock.{clock_cmp, later}
+use Rattle.cap_time.specs.declared.stamps.Stamp.{Stamp}
+use Rattle.cap_check.specs.declared.checked.CheckEnd.{CheckEnd}
+use Rattle.cap_check.specs.declared.checked.CheckEnd.TheVariants.{Opening, Reading, Refusing, Whole}
+use Rattle.cap_check.specs.declared.checked.Checked.{Checked}
+
+-- a packet's time is below the clock before it, the greatest time so far in its file
+abbrev pub is_backward : Option Stamp → Option Stamp → Bool
+is_backward clock time = is_some time && is_lt (clock_cmp time clock)
+
+-- 1 if that is so, else 0
+abbrev pub counted_if : Bool → ℕ
+counted_if is_so = if is_so then 1 else 0
+
+-- nothing was taken yet
+abbrev pub nothing_checked : Checked
+nothing_checked =
+    record {
+      format = None;
+      packets = 0;
+      backward = 0;
+      untimed = 0;
+      truncated = 0;
+      skipped = 0;
+      interfaces = 0;
+      clock = None;
+    }
+
+-- what is counted with one packet more
+abbrev pub with_checked : Checked → Meta → Checked
+with_checked checked meta =
+    record {
+      format = Some meta.format;
+      packets = checked.packets + 1;
+      backward = checked.backward + counted_if (is_backward checked.clock (meta_time meta));
+      untimed = checked.untimed + counted_if (is_none (meta_time meta));
+      truncated = checked.truncated + counted_if (nat_lt meta.captured meta.original);
+      skipped = meta.skipped;
+      interfaces = max checked.interfaces (meta.instance + 1);
+      clock = later checked.clock (meta_time meta);
+    }
+
+-- what is counted after the packets of a list, those before a refusal
+unfoldable pub checked_after : Checked → List Item → Checked
+checked_after checked [] = checked
+checked_after checked (packet meta frame ∷ items) = checked_after (with_checked checked meta) items
+checked_after checked (refused refusal ∷ items) = checked
+
+-- The file of that number with those bytes was checked: to its end, to its refusal, or to a read that failed, after
+-- some of its packets.
+abbrev pub IsChecked : Tail → ℕ → List ℕ → Checked → CheckEnd → Type 0
+IsChecked tail file bytes checked (Whole ending) =
+    (refusal_of (file_items tail file bytes) ≡ None)
+    × (checked ≡ checked_after nothing_checked (file_items tail file bytes))
+    × (ending ≡ (file_ending tail file bytes).ending)
+IsChecked tail file bytes checked (Refusing refusal) =
+    (refusal_of (file_items tail file bytes) ≡ Some refusal)
+    × (checked ≡ checked_after nothing_checked (file_items tail file bytes))
+IsChecked tail file bytes checked (Reading offset) =
+    (n : ℕ) × (checked ≡ checked_after nothing_checked (take n (file_items tail file bytes)))
+IsChecked tail file bytes checked Opening = Unit {0}
+
+-- a read fails only of a device that can fail
+abbrev pub FailsIf : Bool → CheckEnd → Type 0
+FailsIf can_fail (Whole ending) = Unit {0}
+FailsIf can_fail (Refusing refusal) = Unit {0}
+FailsIf can_fail (Reading offset) = IsTrue can_fail
+FailsIf can_fail Opening = Unit {0}
+
+-- whether a file was read whole
+abbrev pub is_whole_end : CheckEnd → Bool
+is_whole_end (Whole ending) = true
+is_whole_end (Refusing refusal) = false
+is_whole_end (Reading offset) = false
+is_whole_end Opening = false

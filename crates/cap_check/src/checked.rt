@@ -1,0 +1,124 @@
+//! What is counted of the packets of a file that is checked.
+ghost use Rattle.std.specs.Prelude.{◌≡◌, ◌<◌, ◌^◌, ◌+◌, max};
+ghost use Rattle.cap_time.specs.Clock.{later};
+ghost use Rattle.cap_check.specs.Checking.{is_backward, is_whole_end, nothing_checked, counted_if, with_checked};
+
+use cap_bytes::Refusal;
+use cap_source::{Ending, Format, Meta};
+use cap_time::Stamp;
+
+/// What is counted of the packets of a file, as far as they were taken.
+#[derive(Clone, Copy, Debug, PartialEq, Eq)]
+pub struct Checked {
+    /// The file's format, once a packet was taken.
+    pub format: Option<Format>,
+    /// How many packets there are.
+    pub packets: u64,
+    /// How many of them have a time below the greatest time before them.
+    pub backward: u64,
+    /// How many of them have no time.
+    pub untimed: u64,
+    /// How many of them had more bytes than were captured.
+    pub truncated: u64,
+    /// How many blocks of the file were skipped before the last of them.
+    pub skipped: u64,
+    /// How many interfaces the file has up to the last one at which a packet was captured.
+    pub interfaces: u128,
+    /// Their greatest time, of equal ones the first; `None` if no packet has a time.
+    pub clock: Option<Stamp>,
+}
+
+/// How a file that is checked ends.
+#[derive(Clone, Copy, Debug, PartialEq, Eq)]
+pub enum CheckEnd {
+    /// It was read whole.
+    Whole(Ending),
+    /// It is refused.
+    Refusing(Refusal),
+    /// A read of it failed, of the header, the record or the block that begins at that offset, in bytes.
+    Reading(u64),
+    /// It could not be opened.
+    Opening,
+}
+
+impl CheckEnd {
+    /// Whether the file was read whole.
+    pub fn is_whole(&self) -> bool
+        ensures { result ≡ is_whole_end self.now }
+    {
+        match self {
+            CheckEnd::Whole(_) => true,
+            CheckEnd::Refusing(_) | CheckEnd::Reading(_) | CheckEnd::Opening => false,
+        }
+    }
+}
+
+// Whether a time is below the clock before it.
+fn is_backward(clock: Option<Stamp>, time: Option<Stamp>) -> bool
+    ensures { result ≡ is_backward clock time }
+{
+    match time {
+        None => false,
+        Some(time) => match clock {
+            None => false,
+            Some(clock) => time < clock,
+        },
+    }
+}
+
+// The later of a clock and a time.
+fn later(clock: Option<Stamp>, time: Option<Stamp>) -> Option<Stamp>
+    ensures { result ≡ later clock time }
+{
+    match time {
+        None => clock,
+        Some(new) => match clock {
+            None => time,
+            Some(old) => { if old < new { time } else { clock } }
+        },
+    }
+}
+
+// 1 if that is so, else 0.
+fn counted_if(is_so: bool) -> u64
+    ensures { result ≡ counted_if is_so }
+{
+    if is_so { 1 } else { 0 }
+}
+
+impl Checked {
+    /// Nothing was taken yet.
+    pub fn new() -> Checked
+        ensures { result ≡ nothing_checked }
+    {
+        Checked {
+            format: None,
+            packets: 0,
+            backward: 0,
+            untimed: 0,
+            truncated: 0,
+            skipped: 0,
+            interfaces: 0,
+            clock: None,
+        }
+    }
+
+    /// Takes one more packet, after those that were taken.
+    pub fn take(&mut self, meta: &Meta)
+        requires packets { self.old.packets < 2 ^ 45 }
+        requires backward { self.old.backward < 2 ^ 45 }
+        requires untimed { self.old.untimed < 2 ^ 45 }
+        requires truncated { self.old.truncated < 2 ^ 45 }
+        ensures { self.new ≡ with_checked self.old meta.now }
+    {
+        let time = meta.time();
+        self.format = Some(meta.format);
+        self.packets += 1;
+        self.backward += counted_if(is_backward(self.clock, time));
+        self.untimed += counted_if(time.is_none());
+        self.truncated += counted_if(meta.captured < meta.original);
+        self.skipped = meta.skipped;
+        self.interfaces = self.interfaces.max(u128::from(meta.instance) + 1);
+        self.clock = later(self.clock, time);
+    }
+}

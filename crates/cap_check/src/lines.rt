@@ -1,0 +1,217 @@
+//! The line of a file that was checked, in text and in JSON.
+ghost use Rattle.std.specs.Prelude.{◌≡◌, ◌+◌, ◌≤◌, ◌++◌, codes, decimal, if◌then◌else◌, [], length, option_map};
+ghost use Rattle.cap_bytes.specs.Rules.{rule_name, rule_number};
+ghost use Rattle.cap_print.specs.Facts.{fields_json, fields_text, flag_json, line_in, word_json, word_text};
+ghost use Rattle.cap_print.specs.Lines.{room_in, text_in};
+ghost use Rattle.cap_print.specs.declared.forms.Form.TheVariants.{Json, Text};
+ghost use Rattle.cap_check.specs.CheckText.{check_facts, end_fields, format_at, name_of_format, skipped_at};
+
+use crate::checked::{CheckEnd, Checked};
+use cap_bytes::Refusal;
+use cap_print::{Form, Line};
+use cap_source::Format;
+
+// The format of a file that ends so.
+fn format_at(ends: &CheckEnd, checked: &Checked) -> Option<Format>
+    ensures { result ≡ format_at ends.now checked.now }
+{
+    match ends {
+        CheckEnd::Whole(ending) => Some(ending.format),
+        CheckEnd::Refusing(_) | CheckEnd::Reading(_) | CheckEnd::Opening => checked.format,
+    }
+}
+
+// How many blocks were skipped of a file that ends so.
+fn skipped_at(ends: &CheckEnd, checked: &Checked) -> u64
+    ensures { result ≡ skipped_at ends.now checked.now }
+{
+    match ends {
+        CheckEnd::Whole(ending) => ending.skipped,
+        CheckEnd::Refusing(_) | CheckEnd::Reading(_) | CheckEnd::Opening => checked.skipped,
+    }
+}
+
+// Puts a label and a format, or `-` if it isn't known.
+fn prepend_format(line: &mut Line, label: &[u8], format: Option<Format>)
+    requires { length label.now + 6 ≤ room_in line.old }
+    ensures text { text_in line.new ≡ label.now ++ word_text (option_map name_of_format format) ++ text_in line.old }
+    ensures room { room_in line.old ≤ room_in line.new + length label.now + 6 }
+{
+    match format {
+        None => line.prepend_text(b"-"),
+        Some(Format::Pcap) => line.prepend_text(b"pcap"),
+        Some(Format::Pcapng) => line.prepend_text(b"pcapng"),
+    }
+    line.prepend_text(label);
+}
+
+// Puts a label and a format as a string, or `null` if it isn't known.
+fn prepend_format_string(line: &mut Line, label: &[u8], format: Option<Format>)
+    requires { length label.now + 8 ≤ room_in line.old }
+    ensures text { text_in line.new ≡ label.now ++ word_json (option_map name_of_format format) ++ text_in line.old }
+    ensures room { room_in line.old ≤ room_in line.new + length label.now + 8 }
+{
+    match format {
+        None => line.prepend_text(b"null"),
+        Some(Format::Pcap) => line.prepend_text(b"\"pcap\""),
+        Some(Format::Pcapng) => line.prepend_text(b"\"pcapng\""),
+    }
+    line.prepend_text(label);
+}
+
+// ` whole` and ` cut`, the end of the line of a file that was read whole.
+fn whole_text(was_cut: bool) -> Line
+    ensures text { text_in result ≡ codes " whole" ++ ((if was_cut then codes " cut" else []) ++ codes "\n") }
+    ensures room { 400 ≤ room_in result }
+{
+    let mut line = Line::new();
+    line.prepend_text(b"\n");
+    if was_cut {
+        line.prepend_text(b" cut");
+    }
+    line.prepend_text(b" whole");
+    line
+}
+
+// The same as JSON.
+fn whole_json(was_cut: bool) -> Line
+    ensures text { text_in result ≡ codes ",\"whole\":true,\"cut\":" ++ (flag_json was_cut ++ codes "}\n") }
+    ensures room { 400 ≤ room_in result }
+{
+    let mut line = Line::new();
+    line.prepend_text(b"}\n");
+    if was_cut {
+        line.prepend_text(b"true");
+    } else {
+        line.prepend_text(b"false");
+    }
+    line.prepend_text(b",\"whole\":true,\"cut\":");
+    line
+}
+
+// ` refused offset O rule R NAME`, the end of the line of a file that is refused.
+fn refused_text(refusal: &Refusal) -> Line
+    ensures text { text_in result ≡ codes " refused offset " ++ decimal refusal.now.offset
+        ++ (codes " rule " ++ decimal (rule_number refusal.now.rule)
+        ++ (codes " " ++ rule_name refusal.now.rule ++ codes "\n")) }
+    ensures room { 400 ≤ room_in result }
+{
+    let mut line = Line::new();
+    line.prepend_text(b"\n");
+    line.prepend_text(refusal.rule.name().as_bytes());
+    line.prepend_text(b" ");
+    line.prepend_field(b" rule ", u64::from(refusal.rule.number()));
+    line.prepend_field(b" refused offset ", refusal.offset);
+    line
+}
+
+// The same as JSON.
+fn refused_json(refusal: &Refusal) -> Line
+    ensures text { text_in result ≡ codes ",\"refused\":{\"offset\":" ++ decimal refusal.now.offset
+        ++ (codes ",\"rule\":" ++ decimal (rule_number refusal.now.rule)
+        ++ (codes ",\"name\":\"" ++ rule_name refusal.now.rule ++ codes "\"}}\n")) }
+    ensures room { 380 ≤ room_in result }
+{
+    let mut line = Line::new();
+    line.prepend_text(b"\"}}\n");
+    line.prepend_text(refusal.rule.name().as_bytes());
+    line.prepend_text(b",\"name\":\"");
+    line.prepend_field(b",\"rule\":", u64::from(refusal.rule.number()));
+    line.prepend_field(b",\"refused\":{\"offset\":", refusal.offset);
+    line
+}
+
+// A line of a text and a number, and its end.
+fn number_line(before: &[u8], n: u64, after: &[u8]) -> Line
+    requires before { length before.now ≤ 40 }
+    requires after { length after.now ≤ 40 }
+    ensures text { text_in result ≡ before.now ++ decimal n ++ after.now }
+    ensures room { 400 ≤ room_in result }
+{
+    let mut line = Line::new();
+    line.prepend_text(after);
+    line.prepend_field(before, n);
+    line
+}
+
+// A line of that text.
+fn short_line(text: &[u8]) -> Line
+    requires { length text.now ≤ 40 }
+    ensures text { text_in result ≡ text.now }
+    ensures room { 400 ≤ room_in result }
+{
+    let mut line = Line::new();
+    line.prepend_text(text);
+    line
+}
+
+// The end of a line: ` whole`, ` whole cut`, ` refused offset O rule R NAME`, ` read offset O` or ` open`.
+fn end_text(ends: &CheckEnd) -> Line
+    ensures text { text_in result ≡ fields_text (end_fields ends.now) (codes "\n") }
+    ensures room { 380 ≤ room_in result }
+{
+    match ends {
+        CheckEnd::Whole(ending) => whole_text(ending.was_cut),
+        CheckEnd::Refusing(refusal) => refused_text(refusal),
+        CheckEnd::Reading(offset) => number_line(b" read offset ", *offset, b"\n"),
+        CheckEnd::Opening => short_line(b" open\n"),
+    }
+}
+
+// The same as JSON.
+fn end_json(ends: &CheckEnd) -> Line
+    ensures text { text_in result ≡ fields_json (end_fields ends.now) (codes "}\n") }
+    ensures room { 380 ≤ room_in result }
+{
+    match ends {
+        CheckEnd::Whole(ending) => whole_json(ending.was_cut),
+        CheckEnd::Refusing(refusal) => refused_json(refusal),
+        CheckEnd::Reading(offset) => number_line(b",\"read\":{\"offset\":", *offset, b"}}\n"),
+        CheckEnd::Opening => short_line(b",\"open\":true}\n"),
+    }
+}
+
+// The line of the file of that number.
+fn text_of(file: u32, checked: &Checked, ends: &CheckEnd) -> Line
+    ensures { text_in result ≡ line_in Text (check_facts file checked.now ends.now) }
+{
+    let mut line = end_text(ends);
+    line.prepend_integer(b" interfaces ", checked.interfaces);
+    line.prepend_field(b" skipped ", skipped_at(ends, checked));
+    line.prepend_field(b" truncated ", checked.truncated);
+    line.prepend_field(b" untimed ", checked.untimed);
+    line.prepend_field(b" backward ", checked.backward);
+    line.prepend_field(b" packets ", checked.packets);
+    prepend_format(&mut line, b" ", format_at(ends, checked));
+    line.prepend_field(b"check ", u64::from(file));
+    line
+}
+
+// The same as JSON.
+fn json_of(file: u32, checked: &Checked, ends: &CheckEnd) -> Line
+    ensures { text_in result ≡ line_in Json (check_facts file checked.now ends.now) }
+{
+    let mut line = end_json(ends);
+    line.prepend_integer(b",\"interfaces\":", checked.interfaces);
+    line.prepend_field(b",\"skipped\":", skipped_at(ends, checked));
+    line.prepend_field(b",\"truncated\":", checked.truncated);
+    line.prepend_field(b",\"untimed\":", checked.untimed);
+    line.prepend_field(b",\"backward\":", checked.backward);
+    line.prepend_field(b",\"packets\":", checked.packets);
+    prepend_format_string(&mut line, b",\"format\":", format_at(ends, checked));
+    line.prepend_field(b"{\"type\":\"check\",\"file\":", u64::from(file));
+    line
+}
+
+/// The line of a file of that number that was checked, in a form. In text it is
+/// `check N FORMAT packets P backward B untimed U truncated Q skipped S interfaces I`, and then `whole`, with ` cut`
+/// after it if a rest of the file was dropped, `refused offset O rule R NAME`, `read offset O` or `open`. Until the
+/// file is read whole, the format and the skipped blocks are those of its last packet.
+pub fn check_line(form: Form, file: u32, checked: &Checked, ends: &CheckEnd) -> Line
+    ensures { text_in result ≡ line_in form (check_facts file checked.now ends.now) }
+{
+    match form {
+        Form::Text => text_of(file, checked, ends),
+        Form::Json => json_of(file, checked, ends),
+    }
+}
