@@ -71,7 +71,7 @@ check_facts file checked ends = record {
       ∷ end_fields ends;
 }
 
--- A file of that number with those bytes is checked, and its line is written, whatever it holds; and it is answered
+-- A file of that number with those bytes is checked, and its line is written, whatever it holds; and it is returned
 -- whether it is whole. If a growth is refused nothing is written, and if the writer failed a prefix is.
 abbrev pub WritesCheck : Form → Tail → ℕ → List ℕ → List ℕ → Result Bool Fault → List ℕ → Type 0
 WritesCheck form tail file bytes old (Ok is_whole) new =

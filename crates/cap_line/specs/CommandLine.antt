@@ -104,7 +104,7 @@ pub record Refuses (words : List Text) (k : ErrorKind) (app : App) : Type 0 wher
   pub is_capt : IsCapt app
   pub refused : IsAmong k (fault_of app words)
 
--- Clap refuses the words, or answers help or the version in place of matches.
+-- Clap refuses the words, or returns help or the version in place of matches.
 abbrev pub IsRefused : List Text → Type 0
 IsRefused words = (app : App) × (k : ErrorKind) × Refuses words k app
 
@@ -112,7 +112,7 @@ IsRefused words = (app : App) × (k : ErrorKind) × Refuses words k app
 abbrev pub IsNoJob : List Text → Type 0
 IsNoJob words = (app : App) × AnswersLine words (Err Line) app
 
--- What `parse` answers at the words of a command line, the first of which is the program's name.
+-- What `parse` returns at the words of a command line, the first of which is the program's name.
 abbrev pub Parses : List Text → Result Job LineFault → Type 0
 Parses words (Ok job) = (app : App) × AnswersLine words (Ok job) app
 Parses words (Err Help) = (app : App) × (k : ErrorKind) × (fault_by k ≡ Help) × Refuses words k app

@@ -2,7 +2,7 @@
 
 use thiserror::Error;
 
-/// What is answered in place of a job.
+/// What is returned in place of a job.
 #[derive(Clone, Copy, Debug, PartialEq, Eq, Error)]
 pub enum LineFault {
     /// Help or the version was asked for.

@@ -212,7 +212,7 @@ fn is_input(out: Option<&str>, files: &[&str]) -> bool
     }
 }
 
-/// Tests the files and the output that are named. Answers the first of these faults: `Line` if there is no
+/// Tests the files and the output that are named. Returns the first of these faults: `Line` if there is no
 /// file, `Files` if there are more than 32, `Input` if standard input, `-`, is named twice, `Output` if the output,
 /// other than `-`, is one of the files. Texts are compared.
 pub fn check_files(files: &[&str], out: Option<&str>) -> Result<(), LineFault>

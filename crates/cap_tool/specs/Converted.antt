@@ -14,7 +14,7 @@ abbrev pub convert_text : Format → Order → Tail → List ℕ → List ℕ
 convert_text Pcap order tail bytes = pcap_bytes order (file_first tail 1 bytes) (file_items tail 1 bytes)
 convert_text Pcapng order tail bytes = pcapng_bytes order 1 (file_first tail 1 bytes) (file_items tail 1 bytes)
 
--- the refusal that is then answered, if there is one
+-- the refusal that is then returned, if there is one
 abbrev pub convert_refusal : Format → Tail → List ℕ → Option Refusal
 convert_refusal Pcap tail bytes = pcap_refusal 1 (file_first tail 1 bytes) (file_items tail 1 bytes)
 convert_refusal Pcapng tail bytes = pcapng_refusal 1 (file_first tail 1 bytes) (file_items tail 1 bytes)

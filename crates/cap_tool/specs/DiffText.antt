@@ -138,7 +138,7 @@ diff_text_in form (other_packet n a b) = difference_line form n (difference_word
     ++ ((before_side form (codes "-") ++ side_in form n a) ++ (before_side form (codes "+") ++ side_in form n b))
 diff_text_in form (stopped_by refusal) = []
 
--- the refusal that is answered
+-- the refusal that is returned
 abbrev pub diff_refusal : Comparison → Option Refusal
 diff_refusal (same_packets n) = None
 diff_refusal (other_packet n a b) = None
@@ -150,7 +150,7 @@ is_same (same_packets n) = true
 is_same (other_packet n a b) = false
 is_same (stopped_by refusal) = false
 
--- The comparison is printed in a form, and answered; or a refusal is answered, and nothing is printed then, nor if a
+-- The comparison is printed in a form, and returned; or a refusal is returned, and nothing is printed then, nor if a
 -- read failed or a growth was refused. If the writer failed, a prefix is printed.
 abbrev pub TellsDiff : Form → Comparison → List ℕ → Result Bool Fault → List ℕ → Type 0
 TellsDiff form c old (Ok so) new = (diff_refusal c ≡ None) × (so ≡ is_same c) × (new ≡ old ++ diff_text_in form c)

@@ -65,7 +65,7 @@ abbrev pub blocks_in : Form → Tail → List ℕ → List ℕ
 blocks_in Text = block_list
 blocks_in Json = block_list_json
 
--- What is written and answered by a task over files of those bytes: `list`, `blocks` and `convert` are of one file,
+-- What is written and returned by a task over files of those bytes: `list`, `blocks` and `convert` are of one file,
 -- `diff` is of two.
 abbrev pub DoesTask : Task → Tail → Form → ℕ → Order → Option Format → List (List ℕ) → List ℕ → Result Unit Fault
     → List ℕ → Type 0
@@ -89,7 +89,7 @@ DoesTask tasks.Merge tail form shown order to files = Prints (merge_text_in (for
 DoesTask tasks.Join tail form shown order to files = Prints (join_text_in (format_in to) order tail files)
     (join_refusal_in (format_in to) tail files)
 
--- What is written and answered by a job: what its task is, with its tail, its form, its order and its format.
+-- What is written and returned by a job: what its task is, with its tail, its form, its order and its format.
 abbrev pub Does : Job → List (List ℕ) → List ℕ → Result Unit Fault → List ℕ → Type 0
 Does job = DoesTask job.task (tail_of job.allow_cut) (form_by job.json) (shown_by job.data) job.order job.to
 
@@ -107,7 +107,7 @@ finding_of _ tail files = Nothing
 abbrev pub job_finding : Job → List (List ℕ) → Finding
 job_finding job = finding_of job.task (tail_of job.allow_cut)
 
--- what a job answers, but for what it finds
+-- what a job returns, but for what it finds
 abbrev pub done_of : Result Finding Fault → Result Unit Fault
 done_of (Ok finding) = Ok tt
 done_of (Err fault) = Err fault

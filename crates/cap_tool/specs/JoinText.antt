@@ -8,7 +8,7 @@ use Rattle.cap_source.specs.declared.packets.Format.{Format}
 use Rattle.cap_source.specs.declared.packets.Format.TheVariants.{Pcapng}
 use Rattle.cap_tool.specs.RunText.{datagrams_refusal, datagrams_text}
 
--- what is written in that format of the datagrams of files of those bytes, and the refusal that is then answered, if
+-- what is written in that format of the datagrams of files of those bytes, and the refusal that is then returned, if
 -- there is one
 abbrev pub join_text_in : Format → Order → Tail → List (List ℕ) → List ℕ
 join_text_in format order tail files = datagrams_text format order (clocked_run tail files)

@@ -8,7 +8,7 @@ use Rattle.cap_source.specs.declared.packets.Format.{Format}
 use Rattle.cap_source.specs.declared.packets.Format.TheVariants.{Pcapng}
 use Rattle.cap_tool.specs.RunText.{packets_refusal, packets_text}
 
--- what is written in that format of files of those bytes in the order of time, and the refusal that is then answered,
+-- what is written in that format of files of those bytes in the order of time, and the refusal that is then returned,
 -- if there is one
 abbrev pub merge_text_in : Format → Order → Tail → List (List ℕ) → List ℕ
 merge_text_in format order tail files = packets_text format order (run_of_files tail files)

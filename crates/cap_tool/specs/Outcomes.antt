@@ -13,7 +13,7 @@ use Rattle.cap_tool.specs.declared.outcomes.Finding.TheVariants.{Difference, Not
 use Rattle.cap_tool.specs.declared.outcomes.Outcome.{Outcome}
 use Rattle.cap_tool.specs.declared.outcomes.Outcome.TheVariants as outcomes
 
--- how a run ends by what its command answered
+-- how a run ends by what its command returned
 abbrev pub ends_by : Result Finding Fault → Result (Unit {0}) Outcome
 ends_by (Ok Nothing) = Ok tt
 ends_by (Ok Difference) = Err outcomes.Differ

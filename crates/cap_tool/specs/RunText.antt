@@ -10,7 +10,7 @@ use Rattle.cap_write.specs.Joined.{joined_bytes, joined_refusal}
 use Rattle.cap_write.specs.PcapRun.{joined_pcap_bytes, joined_pcap_refusal, run_bytes, run_refusal}
 use Rattle.cap_write.specs.Texts.{merged_bytes, merged_refusal}
 
--- what is written of its packets in that format and order, and the refusal that is then answered, if there is one
+-- what is written of its packets in that format and order, and the refusal that is then returned, if there is one
 abbrev pub packets_text : Format → Order → List Item → List ℕ
 packets_text Pcap order items = run_bytes order items
 packets_text Pcapng order items = merged_bytes order items

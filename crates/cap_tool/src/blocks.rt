@@ -50,7 +50,7 @@ fn print_blocks<R: Source, W: Sink>(
 }
 
 /// Prints a line for each block of a pcapng file, each as it is found, up to the first refusal, which
-/// it answers. `Read` comes if a read fails, `Write` if a write does, `Memory` if a growth is refused; after these a
+/// it returns. Returns `Read` if a read fails, `Write` if a write does, `Memory` if a growth is refused; after these a
 /// prefix of those lines is written.
 pub fn blocks_to<R: Source, W: Sink>(
     alloc: Global,

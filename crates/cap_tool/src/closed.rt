@@ -73,7 +73,7 @@ impl Closed {
     }
 }
 
-/// Refuses to read standard input, `-`, if it was closed: answers `Outcome::Open` with the number, from 1, of the
+/// Refuses to read standard input, `-`, if it was closed: returns `Outcome::Open` with the number, from 1, of the
 /// file that is so named.
 pub fn check_input(has_no_input: bool, names: &[&str]) -> Result<(), Outcome>
     requires most { length names.now ≤ 32 }

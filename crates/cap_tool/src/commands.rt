@@ -14,9 +14,9 @@ use cap_source::Format;
 use std::alloc::Global;
 
 /// Writes the packets of a capture file of either format as a file of that format, with numbers in that
-/// byte order, exactly as they were read, up to the first refusal, which it answers: one of the file that is
+/// byte order, exactly as they were read, up to the first refusal, which it returns: one of the file that is
 /// read, or of a packet that the format can't hold (rules 13 and 17 in pcapng, 17 to 21 in pcap: see
-/// `to_pcapng` and `to_pcap`). `Read` comes if a read fails, `Write` if a write does, `Memory` if a growth is refused;
+/// `to_pcapng` and `to_pcap`). Returns `Read` if a read fails, `Write` if a write does, `Memory` if a growth is refused;
 /// after these a prefix of that text is written.
 pub fn convert_to<R: Source, W: Sink>(
     alloc: Global,
@@ -38,8 +38,8 @@ pub fn convert_to<R: Source, W: Sink>(
 
 /// Writes the packets of 1 to 32 capture files, each of either format, as a pcapng file of one section in
 /// that byte order, sorted by exact time: by the greatest time so far in a packet's file, of equal ones
-/// by file, then by place in the file. It ends at the first refusal, which it answers: one of a file that
-/// is read, or of a packet that can't be written (rules 13 and 17: see `write_merged`). `Read` comes if a
+/// by file, then by place in the file. It ends at the first refusal, which it returns: one of a file that
+/// is read, or of a packet that can't be written (rules 13 and 17: see `write_merged`). Returns `Read` if a
 /// read fails, `Write` if a write does, `Memory` if a growth is refused; after these a prefix of that text is
 /// written.
 pub fn merge_to<R: Source, W: Sink>(
@@ -64,8 +64,8 @@ pub fn merge_to<R: Source, W: Sink>(
 
 /// Writes the packets of 1 to 32 capture files, each of either format, as a pcap file in that byte order, sorted as
 /// `merge_to` sorts them. It has the link, the snaplen and the fraction of a second of the first packet's interface. It
-/// ends at the first refusal, which it answers: one of a file that is read, or of a packet that can't be written (rules
-/// 17 to 20, or 21 if there is no packet: see `write_merged_pcap`). `Read` comes if a read fails, `Write` if a write
+/// ends at the first refusal, which it returns: one of a file that is read, or of a packet that can't be written (rules
+/// 17 to 20, or 21 if there is no packet: see `write_merged_pcap`). Returns `Read` if a read fails, `Write` if a write
 /// does, `Memory` if a growth is refused; after these a prefix of that text is written.
 pub fn merge_to_pcap<R: Source, W: Sink>(
     alloc: Global,
@@ -91,8 +91,8 @@ pub fn merge_to_pcap<R: Source, W: Sink>(
 /// Writes the whole IPv4 datagrams of 1 to 32 capture files, each of either format, as a pcapng file of
 /// one section in that byte order: the packets are taken in the order of exact time, as `merge_to` does, their
 /// fragments are joined (RFC 791, 3.2), and each datagram is one packet without a link header, as
-/// `write_joined` writes it. It ends at the first refusal, which it answers: one of a file that is read, or of a
-/// packet or a datagram that can't be written (rules 13 and 17: see `write_joined`). `Read` comes if a read
+/// `write_joined` writes it. It ends at the first refusal, which it returns: one of a file that is read, or of a
+/// packet or a datagram that can't be written (rules 13 and 17: see `write_joined`). Returns `Read` if a read
 /// fails, `Write` if a write does, `Memory` if a growth is refused; after these a prefix of that text is written.
 pub fn join_to<R: Source, W: Sink>(
     alloc: Global,
@@ -115,9 +115,9 @@ pub fn join_to<R: Source, W: Sink>(
 }
 
 /// Writes the whole IPv4 datagrams of 1 to 32 capture files, each of either format, as a pcap file in that byte order:
-/// those that `join_to` writes. It ends at the first refusal, which it answers: one of a file that is read, or of a
+/// those that `join_to` writes. It ends at the first refusal, which it returns: one of a file that is read, or of a
 /// packet or a datagram that can't be written (rules 17, 19 and 20, or 21 if there is no datagram: see
-/// `write_joined_pcap`). `Read` comes if a read fails, `Write` if a write does, `Memory` if a growth is refused; after
+/// `write_joined_pcap`). Returns `Read` if a read fails, `Write` if a write does, `Memory` if a growth is refused; after
 /// these a prefix of that text is written.
 pub fn join_to_pcap<R: Source, W: Sink>(
     alloc: Global,

@@ -102,7 +102,7 @@ fn ran_back_of<F: PacketFeed>(feeds: &[TimeWatched<F>]) -> u128
     ran_back
 }
 
-// What is left of files that were merged, after a call that answered so and took them to their end if it was done.
+// What is left of files that were merged, after a call that returned so and took them to their end if it was done.
 fn left_after<F: PacketFeed>(answer: &Result<(), Fault>, merged: &Merged<TimeWatched<F>>) -> Left
     requires end { OnOk answer.now ((merged_feed (parts_of merged.now)).known ≡ Some Head.End) }
     ensures dropped { OnOk answer.now
@@ -124,7 +124,7 @@ fn left_after<F: PacketFeed>(answer: &Result<(), Fault>, merged: &Merged<TimeWat
     }
 }
 
-// What is left of a file after a call that answered so and took it to its end if it was done.
+// What is left of a file after a call that returned so and took it to its end if it was done.
 fn left_of_one<F: PacketFeed>(answer: &Result<(), Fault>, feed: &F) -> Left
     requires end { OnOk answer.now ((F.feed feed.now).known ≡ Some Head.End) }
     requires file { (F.feed feed.now).files ≡ 1 ∷ [] }
@@ -207,7 +207,7 @@ fn write_file<R: Source, W: Sink>(
     }
 }
 
-/// Writes what `convert_to` writes, and answers what it answers. `left` says how many blocks of the file and names of
+/// Writes what `convert_to` writes, and returns what it returns. `left` says how many blocks of the file and names of
 /// its interfaces aren't carried on; no packet is counted as one that ran back, since each stays where it was. After a
 /// fault `left` says nothing.
 pub fn convert_and_count<R: Source, W: Sink>(
@@ -310,7 +310,7 @@ pub(crate) fn merge_with<R: Source, W: Sink>(
     answer
 }
 
-/// Writes what `merge_to` writes, and answers what it answers. `left` says how many blocks of the files and names of
+/// Writes what `merge_to` writes, and returns what it returns. `left` says how many blocks of the files and names of
 /// their interfaces aren't carried on, and how many packets had a time below the greatest so far of their file. After a
 /// fault `left` says nothing.
 pub fn merge_and_count<R: Source, W: Sink>(
@@ -365,7 +365,7 @@ pub(crate) fn join_with<R: Source, W: Sink>(
     answer
 }
 
-/// Writes what `join_to` writes, and answers what it answers. `left` says how many blocks of the files and names of
+/// Writes what `join_to` writes, and returns what it returns. `left` says how many blocks of the files and names of
 /// their interfaces aren't carried on, and how many packets had a time below the greatest so far of their file. After a
 /// fault `left` says nothing.
 pub fn join_and_count<R: Source, W: Sink>(

@@ -39,7 +39,7 @@ fn list_packets<F: PacketFeed, W: Sink>(feed: &mut F, writer: &mut W) -> Result<
 }
 
 /// Prints a line for each packet of a capture file of either format, each as it is found, up to the
-/// first refusal, which it answers. `Read` comes if a read fails, `Write` if a write does, `Memory` if a growth
+/// first refusal, which it returns. Returns `Read` if a read fails, `Write` if a write does, `Memory` if a growth
 /// is refused; after these a prefix of those lines is written.
 pub fn list_to<R: Source, W: Sink>(
     alloc: Global,

@@ -141,7 +141,7 @@ fn put_object<W: Sink>(fields: &[u8], path: Option<&str>, writer: &mut W) -> Res
 
 /// Writes what is printed of an outcome as a JSON object: nothing of a run that is done, one line of a refusal or a
 /// fault, with the word that named its file, of `paths` by its number from 1. Of a command line that wasn't run it
-/// writes what `outcome_line` does. Answers `Fault::Write`, and no other fault, if the writer failed: a prefix of the
+/// writes what `outcome_line` does. Returns `Fault::Write`, and no other fault, if the writer failed: a prefix of the
 /// text is written then.
 pub fn outcome_object<W: Sink>(
     outcome: &Outcome,

@@ -168,7 +168,7 @@ fn line_fault_text(fault: LineFault) -> &'static [u8]
 }
 
 /// Writes what is printed of an outcome: nothing of a run that is done, the usage for help and for a
-/// line that isn't of capt, and one line for each other. Answers `Fault::Write`, and no other
+/// line that isn't of capt, and one line for each other. Returns `Fault::Write`, and no other
 /// fault, if the writer failed: a prefix of the text is written then.
 pub fn outcome_line<W: Sink>(outcome: &Outcome, writer: &mut W) -> Result<(), Fault>
     ensures text { IsTrue (W.tells_held writer.old)
@@ -198,7 +198,7 @@ fn put_told<W: Sink>(outcome: &Outcome, said: &[u8], writer: &mut W) -> Result<(
 }
 
 /// Tells an outcome: help on `output`, all else on `faults`. `said` is what is printed of help, and of a line
-/// that isn't of capt. Answers how the run ends: by `Fault::Write` if help could not be written, which is
+/// that isn't of capt. Returns how the run ends: by `Fault::Write` if help could not be written, which is
 /// told then, else by the same outcome. A failure of `faults` changes nothing.
 pub fn tell<O: Sink, E: Sink>(
     outcome: Outcome,

@@ -146,7 +146,7 @@ impl Write for Output {
     }
 }
 
-/// Creates the output of a run, which is standard output if none is named. Answers
+/// Creates the output of a run, which is standard output if none is named. Returns
 /// `Outcome::Create`, and no other outcome, if it can't be created, and if it is one of the inputs,
 /// under whatever name: then it isn't changed.
 pub fn create_output<R: Files<File = File>>(
@@ -165,7 +165,7 @@ pub fn create_output<R: Files<File = File>>(
     }
 }
 
-/// Refuses standard output, `-`, for a capture if it is a terminal: answers `Outcome::Create`, and no other outcome.
+/// Refuses standard output, `-`, for a capture if it is a terminal: returns `Outcome::Create`, and no other outcome.
 pub fn check_terminal(standard: Stdout, name: Option<&str>) -> Result<(), Outcome>
     ensures other { option_map (λ n. n.now) name.entry ≢ Some (codes "-") → result ≡ Ok tt }
     ensures stops { IfErr result StopsCreating }
@@ -208,7 +208,7 @@ impl Inputs {
 }
 
 /// Opens every file of a run, in order, and reads none: an input is standard input exactly if its name
-/// is `-`. Answers `Outcome::Open` with the number, from 1, of the first that can't be opened, which is
+/// is `-`. Returns `Outcome::Open` with the number, from 1, of the first that can't be opened, which is
 /// never one named `-`, or `Fault::Memory` if a growth is refused.
 pub fn open_all<R: Files<File = File>>(
     files: &R,
@@ -238,7 +238,7 @@ pub fn open_all<R: Files<File = File>>(
     Ok(inputs)
 }
 
-/// The inputs of a run, watched, in the same order. Answers `Fault::Memory`, and no other outcome, if a growth is
+/// The inputs of a run, watched, in the same order. Returns `Fault::Memory`, and no other outcome, if a growth is
 /// refused.
 pub fn watch_all<'a, C: Clock>(
     alloc: Global,

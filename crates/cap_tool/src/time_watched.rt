@@ -23,7 +23,7 @@ pub struct TimeWatched<F: PacketFeed> {
     ghost few: { ran_back + (F.feed inner).left ≤ 2 ^ 40 },
 }
 
-// Takes a time into the greatest so far, and answers whether it is below that.
+// Takes a time into the greatest so far, and returns whether it is below that.
 #[inline(always)]
 fn takes_back(greatest: &mut Option<Stamp>, time: Option<Stamp>) -> bool
     ensures greatest { greatest.new ≡ later greatest.old time }

@@ -90,7 +90,7 @@ pub(crate) fn open_beside<R: Files<File = File>>(
     Ok((written, Beside { file, name, target }))
 }
 
-/// Creates the output of a run beside the file of that name, which stays as it is until the run is settled. Answers
+/// Creates the output of a run beside the file of that name, which stays as it is until the run is settled. Returns
 /// `Outcome::Create`, and no other outcome, if it can't be created, and if the file of that name is no regular one or
 /// one of the inputs.
 pub fn create_beside<R: Files<File = File>>(

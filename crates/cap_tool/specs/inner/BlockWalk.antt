@@ -1,4 +1,4 @@
--- What a call answers that goes through the blocks of a file, and what it leaves.
+-- What a call returns that goes through the blocks of a file, and what it leaves.
 use Rattle.std.specs.Prelude.{◌≡◌, ◌≤◌, ℕ, IsTrue, Some, None, IfSome, IfNone, IsSome, Result, Ok, Err}
 use Rattle.cap_bytes.specs.inner.Reader.{ReaderState}
 use Rattle.cap_bytes.specs.declared.faults.Fault.{Fault}
@@ -21,7 +21,7 @@ pub record BlockWalkFails (old : ReaderState Order) (file offset : ℕ) (new : R
   pub failed : IsTrue new.failed
   pub can_fail : IsTrue old.can_fail
 
--- It goes to the end if it answers no fault. A failed read is answered as such, and no other fault is answered for it;
+-- It goes to the end if it returns no fault. A failed read is returned as such, and no other fault is returned for it;
 -- a refusal is what ended the blocks, and a growth is refused only before their end.
 abbrev pub WalksBlocks : {A : Type 0} → ReaderState Order → Result A Fault → ReaderState Order → Type 0
 WalksBlocks old (Ok _) new = IsSome new.stop × BlockWalkLasts old new

@@ -14,7 +14,7 @@ abbrev pub written_file_text : Format → Order → ℕ → Option Interface →
 written_file_text Pcap order file first items = pcap_bytes order first items
 written_file_text Pcapng order file first items = pcapng_bytes order file first items
 
--- the refusal that is then answered, if there is one
+-- the refusal that is then returned, if there is one
 abbrev pub file_refusal : Format → ℕ → Option Interface → List Item → Option Refusal
 file_refusal Pcap file first items = pcap_refusal file first items
 file_refusal Pcapng file first items = pcapng_refusal file first items
