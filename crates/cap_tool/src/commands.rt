@@ -13,11 +13,11 @@ use cap_bytes::{Fault, Order, Sink, Source, Tail};
 use cap_source::Format;
 use std::alloc::Global;
 
-/// Writes the packets of a capture file of either format as a file of that format, with numbers in that
-/// byte order, exactly as they were read, up to the first refusal, which it returns: one of the file that is
-/// read, or of a packet that the format can't hold (rules 13 and 17 in pcapng, 17 to 21 in pcap: see
-/// `to_pcapng` and `to_pcap`). Returns `Read` if a read fails, `Write` if a write does, `Memory` if a growth is refused;
-/// after these a prefix of that text is written.
+/// Writes the packets of a capture file of either format as a file of that format, with numbers in that byte order,
+/// exactly as they were read, up to the first refusal, which it returns: one of the file that is read, or of a packet
+/// that the format can't hold (rules 13 and 17 in pcapng, 17 to 21 in pcap: see `to_pcapng` and `to_pcap`). Returns
+/// `Read` if a read fails, `Write` if a write does, `Memory` if a growth is refused; after these a prefix of that
+/// text is written.
 pub fn convert_to<R: Source, W: Sink>(
     alloc: Global,
     source: R,
@@ -114,11 +114,11 @@ pub fn join_to<R: Source, W: Sink>(
     join_with(alloc, sources, tail, pcapng, false, writer, &mut left)
 }
 
-/// Writes the whole IPv4 datagrams of 1 to 32 capture files, each of either format, as a pcap file in that byte order:
-/// those that `join_to` writes. It ends at the first refusal, which it returns: one of a file that is read, or of a
-/// packet or a datagram that can't be written (rules 17, 19 and 20, or 21 if there is no datagram: see
-/// `write_joined_pcap`). Returns `Read` if a read fails, `Write` if a write does, `Memory` if a growth is refused; after
-/// these a prefix of that text is written.
+/// Writes the whole IPv4 datagrams of 1 to 32 capture files, each of either format, as a pcap file in that byte
+/// order: those that `join_to` writes. It ends at the first refusal, which it returns: one of a file that is read, or
+/// of a packet or a datagram that can't be written (rules 17, 19 and 20, or 21 if there is no datagram: see
+/// `write_joined_pcap`). Returns `Read` if a read fails, `Write` if a write does, `Memory` if a growth is refused;
+/// after these a prefix of that text is written.
 pub fn join_to_pcap<R: Source, W: Sink>(
     alloc: Global,
     sources: Vec<R>,
