@@ -1,5 +1,8 @@
 //! The blocks of whole pcapng files, by one byte a read and by many. The files and what they give are worked out by
 //! hand from draft-ietf-opsawg-pcapng.
+ghost use Rattle.std.specs.Prelude.{◌≤◌, ◌^◌};
+ghost use Rattle.cap_blocks.specs.inner.Parsing.{IsHeader};
+
 use crate::checks::{holds, same};
 use crate::vectors::{CARRY_PCAPNG, OPTIONS_PCAPNG, refused};
 use cap_blocks::{
@@ -263,18 +266,39 @@ fn options_in_order(rt: HostRuntime) {
     same!(&rt; options.next(), None);
 }
 
-// The interface block of OPTIONS_PCAPNG in bytes: without its first 12 it isn't found, and it keeps every rule.
+// What is wrong with the rest of a block whose header stands at the front of those bytes.
+fn rest_of(block: Block, bytes: &[u8]) -> Option<Rule>
+    requires { IsHeader block block.offset bytes.now }
+{
+    if bytes.len() < block.total as usize {
+        return Some(Rule::Cut);
+    }
+    body_rule(block, bytes)
+}
+
+// What is wrong with the block that stands at the front of those bytes, if anything is.
+fn wrong_with(offset: u64, bytes: &[u8]) -> Option<Rule>
+    requires { offset ≤ 2 ^ 40 }
+{
+    match find_block_header(Some(Order::Little), offset, bytes) {
+        Ok(block) => rest_of(block, bytes),
+        Err(rule) => Some(rule),
+    }
+}
+
+// The interface block of OPTIONS_PCAPNG in bytes: whole, without the last of its first 12, and without the last of all.
 #[test]
 fn a_block_in_bytes(rt: HostRuntime) {
-    let order = Some(Order::Little);
-    same!(&rt; find_block_header(order, 44, &OPTIONS_PCAPNG[44..55]), Err(Rule::Cut));
-    let bytes = &OPTIONS_PCAPNG[44..];
-    match find_block_header(order, 44, bytes) {
-        Ok(block) => {
-            same!(&rt; (block.kind, block.offset, block.total, block.order), OPTION_BLOCKS[1]);
-            holds!(&rt; block.total as usize <= bytes.len());
-            same!(&rt; body_rule(block, bytes), None);
-        }
-        Err(rule) => same!(&rt; Some(rule), None),
-    }
+    let (kind, offset, total, order) = OPTION_BLOCKS[1];
+    let block = Block {
+        kind,
+        offset,
+        total,
+        order,
+    };
+    let bytes = &OPTIONS_PCAPNG[44..96];
+    same!(&rt; find_block_header(Some(order), 44, bytes), Ok(block));
+    same!(&rt; wrong_with(44, bytes), None);
+    same!(&rt; wrong_with(44, &bytes[..11]), Some(Rule::Cut));
+    same!(&rt; wrong_with(44, &bytes[..51]), Some(Rule::Cut));
 }
