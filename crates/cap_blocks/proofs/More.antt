@@ -1,5 +1,5 @@
 -- More bytes after a whole block, or after one that is refused, make no difference.
-use Rattle.std.proofs.Common.{◌≡◌, ℕ, ◌+◌, ◌-◌, ◌≤◌, ◌<◌, List, ◌++◌, length, take, drop, Option, Some, None, IsTrue}
+use Rattle.std.proofs.Common.{◌≡◌, ℕ, ◌-◌, ◌≤◌, List, ◌++◌, length, take, drop, Option, Some, None}
 use Rattle.std.proofs.Common.{refl, sym, ap, ◌∙◌, arith, length-append, length-drop}
 use Rattle.std.proofs.lemmas.Bool.Decides.{nat_tests}
 use Rattle.std.proofs.lemmas.List.{drop-append-le, take-append-le}
@@ -7,11 +7,10 @@ use Rattle.cap_bytes.specs.declared.faults.Rule.{Rule}
 use Rattle.cap_bytes.specs.declared.faults.Rule.TheVariants.{Cut}
 use Rattle.cap_bytes.specs.declared.numbers.Order.{Order}
 use Rattle.cap_bytes.proofs.Spelling.{number-append, number-drop_append}
-use Rattle.cap_blocks.proofs.Behind.{body_fault-append, body_fault-cut}
-use Rattle.cap_blocks.proofs.Faults.{FieldsFit, FieldsFit-from_header, block_fault-body, block_fault-header}
+use Rattle.cap_blocks.proofs.Behind.{body_fault-append}
+use Rattle.cap_blocks.proofs.Faults.{FieldsFit-from_header, block_fault-body, block_fault-header}
 use Rattle.cap_blocks.proofs.Faults.{header_fault-append, order_at-append, total-least, total-section}
-use Rattle.cap_blocks.specs.Grammar.{section_kind}
-use Rattle.cap_blocks.specs.Split.{block_at, block_fault, block_header_fault, block_order_at, body_at, body_fault}
+use Rattle.cap_blocks.specs.Split.{block_fault, block_header_fault, block_order_at, body_at, body_fault}
 use Rattle.cap_blocks.specs.Split.{body_in, fields_fault, first_fault, first_of_rules, kind_at, total_at}
 
 module _ (section : Option Order) (offset : ℕ) (xs ys : List ℕ) where

@@ -2,16 +2,15 @@
 use Rattle.std.proofs.Common.{◌≡◌, ℕ, ◌+◌, ◌-◌, ◌^◌, ◌≤◌, ◌<◌, Bool, true, false, IsTrue, List, [], ◌∷◌, ◌++◌, length}
 use Rattle.std.proofs.Common.{take}
 use Rattle.std.proofs.Common.{drop, Option, Some, None, Ok, Err, refl, sym, ap, ◌∙◌, subst, arith, min, is_some}
-use Rattle.std.proofs.Common.{length-drop}
 use Rattle.std.specs.Prelude.{Result}
 use Rattle.std.proofs.lemmas.Bool.Decides.{nat_tests}
 use Rattle.std.proofs.Common.{append-nil, drop-drop, ◌||◌, not}
 use Rattle.std.proofs.lemmas.List.{drop-take, take-take}
-use Rattle.cap_blocks.proofs.Faults.{FieldsFit-from_header, block_fault-header, total-least}
+use Rattle.cap_blocks.proofs.Faults.{FieldsFit-from_header, total-least}
 use Rattle.cap_blocks.proofs.More.{block-refused}
-use Rattle.cap_blocks.proofs.Whole.{fault-cut, fault-whole, order-at, total-at}
+use Rattle.cap_blocks.proofs.Whole.{total-at}
 use Rattle.cap_blocks.specs.Grammar.{is_known_kind, is_total}
-use Rattle.cap_blocks.specs.Split.{block_at, block_fault, block_header_fault, block_items_from, body_fault, body_in}
+use Rattle.cap_blocks.specs.Split.{block_at, block_fault, block_items_from, body_fault, body_in}
 use Rattle.cap_blocks.specs.Split.{block_order_at, kind_at, total_at}
 use Rattle.cap_blocks.specs.inner.Parsing.{ParsesBlockHeader}
 use Rattle.cap_blocks.specs.declared.blocks.Block.{Block}
@@ -26,15 +25,15 @@ use Rattle.cap_bytes.specs.declared.faults.Tail.{Tail}
 use Rattle.cap_bytes.specs.declared.numbers.Order.{Order}
 use Rattle.cap_bytes.specs.declared.stops.Stop.{Stop}
 use Rattle.cap_source.proofs.FedRecords.{format-append}
-use Rattle.cap_source.proofs.FedBlocks.{block-fed, block-some, blocks-stop, given-by, skip-done, skip-entered}
+use Rattle.cap_source.proofs.FedBlocks.{block-fed, block-some, blocks-stop, skip-done, skip-entered}
 use Rattle.cap_source.proofs.FedBlocks.{skip-facts}
 use Rattle.cap_source.proofs.FedBlocks.{skip-other, skip-passed, skip-short}
 use Rattle.cap_source.proofs.FedStops.{broken, broken-by, stop_by-short, stopped-as}
 use Rattle.cap_source.specs.Contents.{content_in}
-use Rattle.cap_source.specs.Fed.{CourseState, MayBeFed, items_after, items_at_stage, skipped_items}
+use Rattle.cap_source.specs.Fed.{CourseState, items_after, items_at_stage, skipped_items}
 use Rattle.cap_source.specs.Feed.{Item, packet, refused}
 use Rattle.cap_source.specs.Items.{Progress, after, behind, frame_in, is_pcapng, items_at_block, items_from}
-use Rattle.cap_source.specs.Items.{items_of_blocks, items_of_stop, meta_in}
+use Rattle.cap_source.specs.Items.{items_of_blocks, items_of_stop}
 use Rattle.cap_source.specs.declared.contents.Content.{Content}
 use Rattle.cap_source.specs.declared.contents.Content.TheVariants as contents
 use Rattle.cap_source.specs.declared.contents.Packet.{Packet}

@@ -1,22 +1,21 @@
 -- What comes next of a pcapng file that is fed, whatever is fed later.
-use Rattle.std.proofs.Common.{◌≡◌, ℕ, ◌+◌, ◌-◌, ◌^◌, ◌≤◌, ◌<◌, ◌==◌, ◌&&◌, not, Bool, true, false, IsTrue, List, []}
+use Rattle.std.proofs.Common.{◌≡◌, ℕ, ◌+◌, ◌-◌, ◌^◌, ◌≤◌, ◌<◌, ◌==◌, ◌&&◌, Bool, true, false, List, []}
 use Rattle.std.proofs.Common.{◌∷◌, ◌++◌}
-use Rattle.std.proofs.Common.{length, take, drop, Option, Some, None, Ok, Err, refl, sym, ap, ◌∙◌, subst, arith}
+use Rattle.std.proofs.Common.{length, drop, Option, Some, None, Ok, refl, sym, ap, ◌∙◌, subst, arith}
 use Rattle.std.proofs.Common.{is_some}
-use Rattle.std.proofs.Common.{length-append, length-drop, drop-drop, nat_lt, if◌then◌else◌, min}
+use Rattle.std.proofs.Common.{length-append, length-drop, drop-drop, nat_lt}
 use Rattle.std.proofs.Common.{◌⊎◌, inl, inr}
 use Rattle.std.specs.Prelude.{Result}
 use Rattle.std.proofs.lemmas.Bool.Decides.{nat_tests}
 use Rattle.std.proofs.lemmas.List.{drop-append-le}
 use Rattle.cap_blocks.proofs.Behind.{body_fault-cut, body_fault-trailer, body_fault-whole, no_version, unknown_section}
 use Rattle.cap_blocks.proofs.Faults.{FieldsFit, FieldsFit-from_header, block_at-append, block_fault-body}
-use Rattle.cap_blocks.proofs.Faults.{block_fault-header, faults-from_none, first_fault-section, header_fault-fields}
-use Rattle.cap_blocks.proofs.Faults.{order_at-append, or_else-none, stop_at-whole, total-least}
+use Rattle.cap_blocks.proofs.Faults.{order_at-append, stop_at-whole, total-least}
 use Rattle.cap_blocks.proofs.Items as blocks
-use Rattle.cap_blocks.proofs.More.{block-refused, body-there, header-there, lent-there, total-there}
-use Rattle.cap_blocks.proofs.Whole.{fault-cut, fault-whole, order-at, total-at}
-use Rattle.cap_blocks.specs.Grammar.{is_known_kind, is_total, section_kind}
-use Rattle.cap_blocks.specs.Split.{block_at, block_fault, block_header_fault, block_items_from, block_order_at, body_at}
+use Rattle.cap_blocks.proofs.More.{body-there, header-there, lent-there, total-there}
+use Rattle.cap_blocks.proofs.Whole.{fault-whole, order-at, total-at}
+use Rattle.cap_blocks.specs.Grammar.{is_known_kind, is_total}
+use Rattle.cap_blocks.specs.Split.{block_at, block_fault, block_items_from, block_order_at, body_at}
 use Rattle.cap_blocks.specs.Split.{body_fault, body_in, fields_fault, first_fault, kind_at, total_at}
 use Rattle.cap_blocks.specs.inner.Parsing.{ParsesBlockHeader}
 use Rattle.cap_blocks.specs.declared.blocks.Block.{Block}
@@ -32,7 +31,7 @@ use Rattle.cap_bytes.specs.declared.stops.Stop.{Stop}
 use Rattle.cap_source.proofs.Blocks.{other}
 use Rattle.cap_source.specs.Contents.{content_in}
 use Rattle.cap_source.specs.Fed.{skipped_items}
-use Rattle.cap_source.specs.Feed.{Item, packet, refused}
+use Rattle.cap_source.specs.Feed.{Item, refused}
 use Rattle.cap_source.specs.Items.{Progress, after, behind, items_at_block, items_of_blocks, items_of_stop}
 use Rattle.cap_source.specs.declared.contents.Content.{Content}
 use Rattle.cap_source.specs.declared.contents.Content.TheVariants as contents

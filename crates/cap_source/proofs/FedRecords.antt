@@ -1,28 +1,25 @@
 -- What comes next of a pcap file that is fed, whatever is fed later.
-use Rattle.std.proofs.Common.{◌≡◌, ℕ, ◌+◌, ◌^◌, ◌≤◌, ◌<◌, Bool, true, false, List, [], ◌∷◌, ◌++◌, length, take, drop}
+use Rattle.std.proofs.Common.{◌≡◌, ℕ, ◌+◌, ◌≤◌, ◌<◌, Bool, true, false, List, [], ◌∷◌, ◌++◌, length, take, drop}
 use Rattle.std.proofs.Common.{Option}
-use Rattle.std.proofs.Common.{Some, None, Ok, Err, refl, sym, ap, ◌∙◌, subst, arith, length-append, if◌then◌else◌}
-use Rattle.std.specs.Prelude.{Result}
+use Rattle.std.proofs.Common.{Some, None, refl, sym, ap, ◌∙◌, arith, length-append, if◌then◌else◌}
 use Rattle.std.proofs.lemmas.Bool.Decides.{nat_tests}
 use Rattle.std.proofs.lemmas.List.{drop-append-le}
-use Rattle.cap_blocks.specs.Split.{is_section}
 use Rattle.cap_bytes.proofs.Spelling.{number-append}
 use Rattle.cap_bytes.specs.Items.{stop_by, stop_where}
 use Rattle.cap_bytes.specs.declared.faults.Rule.{Rule}
 use Rattle.cap_bytes.specs.declared.faults.Rule.TheVariants.{Cut}
 use Rattle.cap_bytes.specs.declared.faults.Tail.{Tail}
 use Rattle.cap_bytes.specs.declared.stops.Stop.{Stop}
-use Rattle.cap_pcap.proofs.Faults.{Fits, Fits-from_none, captured_at-append, record_fault-short, stop_at-fits}
+use Rattle.cap_pcap.proofs.Faults.{Fits, Fits-from_none, captured_at-append, stop_at-fits}
 use Rattle.cap_pcap.proofs.Faults.{Fits-append}
 use Rattle.cap_pcap.proofs.Items as records
 use Rattle.cap_pcap.proofs.More.{frame-same, header-refused, header-there, record-same}
 use Rattle.cap_pcap.specs.Split.{captured_at, header_at, pcap_file_items, pcap_header_fault, record_at, record_fault}
-use Rattle.cap_pcap.specs.Split.{record_frame_at, record_items_from, record_stop_at}
+use Rattle.cap_pcap.specs.Split.{record_frame_at, record_items_from}
 use Rattle.cap_pcap.specs.declared.headers.PcapHeader.{PcapHeader}
 use Rattle.cap_pcap.specs.declared.records.Record.{Record}
-use Rattle.cap_source.specs.Feed.{Item, packet, refused}
+use Rattle.cap_source.specs.Feed.{packet, refused}
 use Rattle.cap_source.specs.Items.{Progress, interface_of, is_pcapng, items_from, items_of_stop, meta_of, pcap_items}
-use Rattle.cap_time.specs.declared.resolutions.Interface.{Interface}
 
 -- ---- records
 

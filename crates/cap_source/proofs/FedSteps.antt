@@ -1,12 +1,11 @@
 -- What a look at the next bytes of a pcap file that is fed returns.
-use Rattle.std.proofs.Common.{◌≡◌, ℕ, ◌+◌, ◌≤◌, ◌<◌, Bool, true, false, List, [], ◌∷◌, ◌++◌, length, take, drop, Option}
-use Rattle.std.proofs.Common.{Some, None, Ok, Err, refl, sym, ap, ◌∙◌, subst, arith}
+use Rattle.std.proofs.Common.{◌≡◌, ℕ, ◌+◌, ◌≤◌, true, false, List, [], ◌∷◌, ◌++◌, take, drop}
+use Rattle.std.proofs.Common.{Some, None, Ok, sym, ap, ◌∙◌, subst, arith}
 use Rattle.std.proofs.Common.{◌^◌}
 use Rattle.std.proofs.lemmas.Bool.Decides.{nat_tests}
 use Rattle.std.specs.Prelude.{Result}
 use Rattle.cap_bytes.specs.declared.faults.Fault.{Fault}
 use Rattle.cap_bytes.specs.declared.faults.Rule.{Rule}
-use Rattle.cap_bytes.specs.declared.faults.Rule.TheVariants.{Cut}
 use Rattle.cap_pcap.proofs.Faults.{Fits-from_none, record_fault-append}
 use Rattle.cap_pcap.proofs.More.{header-there}
 use Rattle.cap_pcap.specs.Split.{captured_at, header_at, pcap_header_fault, record_at, record_fault}
@@ -15,7 +14,7 @@ use Rattle.cap_pcap.specs.declared.records.Record.{Record}
 use Rattle.cap_source.proofs.FedRecords.{header-fed, header-stop, record-fed, record-some, records-stop, rule-here}
 use Rattle.cap_source.proofs.FedRecords.{header-some, pcap_rule, rule-later}
 use Rattle.cap_source.proofs.FedStops.{broken}
-use Rattle.cap_source.specs.Fed.{CourseState, items_after, items_at_stage}
+use Rattle.cap_source.specs.Fed.{CourseState, items_at_stage}
 use Rattle.cap_source.specs.Feed.{packet}
 use Rattle.cap_source.specs.Items.{interface_of, is_pcapng, meta_of}
 use Rattle.cap_source.specs.declared.fed.FedStep.{FedStep}

@@ -8,7 +8,7 @@ use Rattle.cap_bytes.specs.Number.{number}
 use Rattle.cap_bytes.specs.declared.faults.Rule.TheVariants.{BlockTrailer, Cut}
 use Rattle.cap_bytes.specs.declared.faults.Tail.{Tail}
 use Rattle.cap_pcap.specs.Split.{record_items_from}
-use Rattle.cap_source.specs.Feed.{Item, packet, refused}
+use Rattle.cap_source.specs.Feed.{Item, refused}
 use Rattle.cap_source.specs.Items.{Progress, after, interface_of, items_from, items_of_blocks, items_of_stop}
 use Rattle.cap_source.specs.Items.{pcap_items}
 use Rattle.cap_source.specs.declared.contents.Content.TheVariants as contents

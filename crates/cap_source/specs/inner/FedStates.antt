@@ -1,9 +1,9 @@
 -- What the calls of a capture that is fed return and leave.
-use Rattle.std.specs.Prelude.{◌≡◌, ◌≤◌, ◌<◌, ℕ, Bool, false, List, [], ◌∷◌, ◌++◌, Result, Ok, Err}
+use Rattle.std.specs.Prelude.{◌≡◌, ◌≤◌, ℕ, false, List, [], ◌∷◌, ◌++◌, Result, Ok, Err}
 use Rattle.cap_bytes.specs.declared.faults.Fault.{Fault}
 use Rattle.cap_bytes.specs.declared.faults.Fault.TheVariants.{Refused, Read, Write, Memory}
 use Rattle.cap_source.specs.Fed.{CourseState, FedState, MayBeFed, fed_items}
-use Rattle.cap_source.specs.Feed.{Item, packet, refused}
+use Rattle.cap_source.specs.Feed.{packet, refused}
 use Rattle.cap_source.specs.inner.FedSteps.{AreShort, CourseKeeps, IsSoundCourse}
 use Rattle.cap_source.specs.declared.fed_captures.Fed.{Fed}
 use Rattle.cap_source.specs.declared.fed_captures.Fed.TheVariants as feds

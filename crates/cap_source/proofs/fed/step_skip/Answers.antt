@@ -1,6 +1,5 @@
 use Rattle.std.proofs.Common.{ℕ, ◌+◌, Some, refl, sym, ap, ◌∙◌, arith}
-use Rattle.std.proofs.lemmas.Bool.Decides.{nat_tests}
-use Rattle.cap_source.proofs.FedBlockSteps.{skip-cut, skip-on, skip-passes, skip-room, skip-trailer}
+use Rattle.cap_source.proofs.FedBlockSteps.{skip-cut, skip-on, skip-passes, skip-trailer}
 use Rattle.cap_source.specs.Items.{after}
 use Rattle.cap_source.specs.declared.contents.Content.TheVariants as contents
 use Rattle.cap_source.specs.declared.fed.Stage.TheVariants.{Blocks}

@@ -1,4 +1,3 @@
-use Rattle.std.proofs.Common.{arith}
 use Rattle.cap_source.proofs.FedStops.{broken-keeps, broken-sound}
 use Rattle.cap_source.proofs.FedSteps.{header-breaks, header-sound, header-steps}
 use Rattle.cap_source.specs.inner.FedSteps.{course_of}

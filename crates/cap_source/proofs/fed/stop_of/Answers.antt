@@ -1,7 +1,7 @@
-use Rattle.std.proofs.Common.{Some, true, false, Bool, ℕ, List, length, refl, arith, ◌≡◌, ◌==◌, ◌&&◌, sym, ap, ◌∙◌}
+use Rattle.std.proofs.Common.{Some, false, length, refl, arith, ◌≡◌, ◌==◌, ◌&&◌, sym, ap, ◌∙◌}
 use Rattle.std.proofs.lemmas.Bool.Decides.{nat_tests}
 use Rattle.cap_bytes.proofs.Items.{stop_where-fault}
-use Rattle.cap_source.proofs.FedStops.{broken, stop-none}
+use Rattle.cap_source.proofs.FedStops.{stop-none}
 use Rattle.cap_source.proofs.fed.stop_of.Goals as goal
 use Rattle.cap_source.proofs.fed.stop_of.Goals.{else-inside-via-then-inside+else-is_empty, else-inside-via-else-inside}
 

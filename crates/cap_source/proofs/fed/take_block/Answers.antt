@@ -1,4 +1,4 @@
-use Rattle.std.proofs.Common.{◌≡◌, ◌+◌, length, sym, ap, ◌∙◌, subst}
+use Rattle.std.proofs.Common.{◌≡◌, ◌+◌, length, sym, subst}
 use Rattle.cap_source.proofs.Blocks.{IsFit, content_fit, padded_body, total_least}
 use Rattle.cap_source.proofs.FedBodies.{body-size, says-within}
 use Rattle.cap_source.proofs.fed.take_block.Goals as goal
