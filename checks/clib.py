@@ -270,7 +270,7 @@ def main():
         talks = capt.report([example]).talks
         count.check("talks", [talk.a for talk in talks] == ["10.0.0.1"] and talks[0].forward == (1, 60), talks)
         with capt.Capture(example) as capture:
-            parts = [packet.offset for packet, _ in zip(capture, "1")], [packet.offset for packet in capture]
+            parts = [packet.offset for _, packet in zip("1", capture)], [packet.offset for packet in capture]
             count.check("python: an iteration that was left", parts == ([24], [100, 176]), parts)
         with capt.Table([example]) as table:
             before = table.report().text
