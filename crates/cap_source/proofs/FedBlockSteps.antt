@@ -42,7 +42,7 @@ use Rattle.cap_source.specs.declared.fed.FedStep.TheVariants as steps
 use Rattle.cap_source.specs.declared.fed.Stage.{Stage}
 use Rattle.cap_source.specs.declared.fed.Stage.TheVariants.{Start, Blocks, Skipping, Stopped}
 use Rattle.cap_source.specs.declared.packets.Meta.{Meta}
-use Rattle.cap_source.specs.inner.FedSteps.{AreShort, BreaksBy, BreaksOff, IsNoPacket, IsSoundCourse, StepsFed}
+use Rattle.cap_source.specs.inner.FedSteps.{AreShort, BreaksBy, BreaksOff, IsAtBlock, IsNoPacket, IsSoundCourse, StepsFed}
 use Rattle.cap_source.specs.inner.FedSteps.{TakesBlockFed}
 use Rattle.cap_source.specs.inner.FedSteps.{IsSoundStage, StopsFed, TakesFed, behind_block}
 
@@ -163,7 +163,10 @@ module _ (old : CourseState) (section : Option Order) (b : List ℕ) (at : old.s
       )
       taken-by (Err (faults.Read file offset)) new h = absurd h
       taken-by (Err faults.Write) new h = absurd h
-      taken-by (Err faults.Memory) new h = λ later. ap (λ (c : CourseState). items_after c (b ++ later)) (sym h)
+      taken-by (Err faults.Memory) new h = (
+        subst IsAtBlock (sym (ap (λ (c : CourseState). c.stage) h ∙ at)) tt,
+        λ later. ap (λ (c : CourseState). items_after c (b ++ later)) (sym h),
+      )
 
       pub taken : (result : Result FedStep Fault) (new : CourseState) → TakesBlockFed old block b result new
           → StepsFed old b result new
@@ -320,7 +323,7 @@ begun old mid b (Err (faults.Refused refusal)) new same ended h =
     (λ later may. same later ∙ h.0 later (subst (λ (e : Bool). IsTrue e → later ≡ []) (sym ended) may), h.1)
 begun old mid b (Err (faults.Read file offset)) new same ended h = absurd h
 begun old mid b (Err faults.Write) new same ended h = absurd h
-begun old mid b (Err faults.Memory) new same ended h = λ later. same later ∙ h later
+begun old mid b (Err faults.Memory) new same ended h = (h.0, λ later. same later ∙ h.1 later)
 
 pub first-steps : (old mid : CourseState) (b : List ℕ) (result : Result FedStep Fault) (new : CourseState)
     → old.stage ≡ Start → is_pcapng b ≡ true → mid ≡ record old { stage = Blocks None }

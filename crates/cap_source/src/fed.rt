@@ -53,7 +53,7 @@ pub struct Course {
 /// What some bytes are, which come next of a capture.
 #[derive(Clone, Copy)]
 pub enum FedStep {
-    /// So many of them are a header, a part of a block that is skipped, or a block that gives no packet.
+    /// That many of them are a header, a part of a block that is skipped, or a block that gives no packet.
     Passed(usize),
     /// A packet, the place of its captured bytes among these, and how many of them its record or block takes.
     Packet(Meta, usize, usize),

@@ -111,7 +111,7 @@ impl FedCapture {
 
     /// Feeds the next bytes of the capture. The captured bytes of the last packet are let go.
     ///
-    /// Returns `Memory` if a growth was refused: then nothing was fed.
+    /// Returns `Memory` if a growth was refused for them, which are some: then nothing was fed.
     pub fn feed(&mut self, bytes: &[u8]) -> Result<(), Fault>
         requires open { self.old.course.ended ≡ false }
         ensures { FeedsBytes self.old bytes.now result self.new }
@@ -144,7 +144,7 @@ impl FedCapture {
     /// The next packet, which is passed, as far as the bytes tell that were fed.
     ///
     /// Returns `Refused` if they break a rule, and then always: a cut one only once all were fed. Returns `Memory` if
-    /// a growth was refused, and leaves the packets to come.
+    /// a growth was refused for an interface, at a block of a pcapng file, and leaves the packets to come.
     pub fn next(&mut self) -> Result<Fed, Fault>
         ensures { GivesFed self.old result self.new }
     {

@@ -1,14 +1,13 @@
 -- What the calls do to a capture whose bytes the caller feeds.
-use Rattle.std.specs.Prelude.{◌≡◌, ◌++◌, ℕ, Bool, true, false, List, [], Option, Some, None, Result, Ok, Err, ⊤}
-use Rattle.std.specs.Prelude.{if◌then◌else◌}
+use Rattle.std.specs.Prelude.{◌≡◌, ℕ, Bool, true, false, List, [], Option, Some, None, Result, Ok, Err, ⊤}
 use Rattle.cap_bytes.specs.declared.faults.Fault.{Fault}
 use Rattle.cap_bytes.specs.declared.faults.Tail.{Tail}
 use Rattle.cap_source.specs.Fed.{FedState, fed_items}
 use Rattle.cap_source.specs.Items.{file_items}
 use Rattle.cap_source.specs.declared.fed_captures.Fed.{Fed}
 use Rattle.cap_source.specs.declared.fed_captures.Fed.TheVariants as feds
-use Rattle.cap_source.specs.inner.FedStates.{GivesFed}
-use Rattle.capt_c.specs.Answers.{status_of, place_of_fault, nowhere}
+use Rattle.cap_source.specs.inner.FedStates.{FeedsBytes, GivesFed}
+use Rattle.capt_c.specs.Answers.{status_of, place_of_fault, nowhere, status_of_result}
 use Rattle.capt_c.specs.Packets.{ShowsFields}
 use Rattle.capt_c.specs.declared.answers.Place.{Place}
 use Rattle.capt_c.specs.declared.handles.Held.{Held}
@@ -30,12 +29,8 @@ OpensFed tail status (Some (helds.Fed f)) =
 abbrev pub FeedsIf : Bool → FedState → List ℕ → ℕ → Option Held → Type 0
 FeedsIf true f bytes status new = (status ≡ 6) × (new ≡ Some (helds.Fed f))
 FeedsIf false f bytes status new =
-    (done : Bool) × (status ≡ if done then 0 else 5)
-    × (new ≡ Some (helds.Fed (record {
-      course = f.course;
-      rest = if done then f.rest ++ bytes else f.rest;
-      frame = [];
-    })))
+    (answer : Result Unit Fault) × (later : FedState) × (status ≡ status_of_result answer)
+    × (new ≡ Some (helds.Fed later)) × FeedsBytes f bytes answer later
 
 abbrev pub FeedsHeld : Option Held → List ℕ → ℕ → Option Held → Type 0
 FeedsHeld None bytes status new = (status ≡ 6) × (new ≡ None)

@@ -135,6 +135,14 @@ AreShort [] = ⊤
 AreShort (packet meta frame ∷ items) = ⊥
 AreShort (refused refusal ∷ items) = refusal.rule ≡ rules.Cut
 
+-- A block comes next: room for an interface may be wanted.
+abbrev pub IsAtBlock : Stage → Type 0
+IsAtBlock Start = ⊥
+IsAtBlock (Records header) = ⊥
+IsAtBlock (Blocks section) = ⊤
+IsAtBlock (Skipping block left) = ⊥
+IsAtBlock (Stopped stop) = ⊥
+
 -- what every look keeps
 pub record CourseKeeps (old new : CourseState) : Type 0 where
   pub file : new.file ≡ old.file
@@ -164,7 +172,7 @@ StepsFed old bytes (Err (Refused refusal)) new =
 StepsFed old bytes (Err (Read file offset)) new = ⊥
 StepsFed old bytes (Err Write) new = ⊥
 StepsFed old bytes (Err Memory) new =
-    (later : List ℕ) → items_after old (bytes ++ later) ≡ items_after new (bytes ++ later)
+    IsAtBlock new.stage × ((later : List ℕ) → items_after old (bytes ++ later) ≡ items_after new (bytes ++ later))
 
 -- The same items come of the next bytes, whatever is fed later, as come from another point on of these.
 abbrev pub FollowsFed : CourseState → List ℕ → CourseState → List ℕ → Type 0
