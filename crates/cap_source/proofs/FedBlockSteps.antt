@@ -42,7 +42,8 @@ use Rattle.cap_source.specs.declared.fed.FedStep.TheVariants as steps
 use Rattle.cap_source.specs.declared.fed.Stage.{Stage}
 use Rattle.cap_source.specs.declared.fed.Stage.TheVariants.{Start, Blocks, Skipping, Stopped}
 use Rattle.cap_source.specs.declared.packets.Meta.{Meta}
-use Rattle.cap_source.specs.inner.FedSteps.{AreShort, BreaksBy, BreaksOff, IsAtBlock, IsNoPacket, IsSoundCourse, StepsFed}
+use Rattle.cap_source.specs.inner.FedSteps.{AreShort, BreaksBy, BreaksOff, IsAtBlock, IsNoPacket, IsSoundCourse}
+use Rattle.cap_source.specs.inner.FedSteps.{StepsFed}
 use Rattle.cap_source.specs.inner.FedSteps.{TakesBlockFed}
 use Rattle.cap_source.specs.inner.FedSteps.{IsSoundStage, StopsFed, TakesFed, behind_block}
 
