@@ -117,6 +117,7 @@ Taking-fault old mid shown checked (Refused r) i shows t =
     let s = shows (i.keeps.told t) in (
       sym (i.refusal t) ∙ ap refusal_of s.1,
       sym (all-taken old mid checked i t ∙ after-refused checked mid.items r s.1),
+      λ file. s.0.endings file ∙ i.endings t file,
     )
 Taking-fault old mid shown checked (Read file offset) i shows t = (
   length i.taken,

@@ -1,6 +1,6 @@
 -- The line of a file that was checked.
-use Rattle.std.specs.Prelude.{◌≡◌, ℕ, List, [], ◌∷◌, ◌++◌, codes, Bool, true, Option, Some, option_map}
-use Rattle.std.specs.Prelude.{Result, Ok, Err}
+use Rattle.std.specs.Prelude.{◌≡◌, ◌==◌, ◌+◌, ◌<◌, ℕ, List, [], ◌∷◌, ◌++◌, codes, length, take, Bool, true, Option}
+use Rattle.std.specs.Prelude.{Some, None, option_map, if◌then◌else◌, Result, Ok, Err}
 use Rattle.cap_bytes.specs.Printing.{PrintsFront}
 use Rattle.cap_bytes.specs.Rules.{rule_name, rule_number}
 use Rattle.cap_bytes.specs.declared.faults.Fault.{Fault}
@@ -8,39 +8,46 @@ use Rattle.cap_bytes.specs.declared.faults.Fault.TheVariants.{Memory, Read, Refu
 use Rattle.cap_bytes.specs.declared.faults.Tail.{Tail}
 use Rattle.cap_print.specs.Facts.{Facts, Field, flag, group, line_in, number, one, word}
 use Rattle.cap_print.specs.declared.forms.Form.{Form}
+use Rattle.cap_source.specs.declared.feeds.FileEnd.{FileEnd}
 use Rattle.cap_source.specs.declared.packets.Format.{Format}
 use Rattle.cap_source.specs.declared.packets.Format.TheVariants.{Pcap, Pcapng}
-use Rattle.cap_check.specs.Checking.{IsChecked, is_whole_end}
+use Rattle.cap_check.specs.Checking.{AreChecked, IsChecked, Opened, are_whole, is_whole_end}
+use Rattle.cap_check.specs.declared.checked.Check.{Check}
 use Rattle.cap_check.specs.declared.checked.CheckEnd.{CheckEnd}
 use Rattle.cap_check.specs.declared.checked.CheckEnd.TheVariants.{Opening, Reading, Refusing, Whole}
-use Rattle.cap_check.specs.declared.checked.Checked.{Checked}
 
 -- a format as it is printed
 abbrev pub name_of_format : Format → List ℕ
 name_of_format Pcap = codes "pcap"
 name_of_format Pcapng = codes "pcapng"
 
--- the format of a file that ends so: until it is read whole, that of its last packet, if there was one
-abbrev pub format_at : CheckEnd → Checked → Option Format
-format_at (Whole ending) checked = Some ending.format
-format_at (Refusing refusal) checked = checked.format
-format_at (Reading offset) checked = checked.format
-format_at Opening checked = checked.format
+-- what a file has of blocks and interfaces up to its end, or up to its refusal, unless it is refused at its first byte
+abbrev pub end_of : CheckEnd → Option FileEnd
+end_of (Whole end) = Some end
+end_of (Refusing refusal end) = if refusal.offset == 0 then None else Some end
+end_of (Reading offset) = None
+end_of Opening = None
 
--- how many of its blocks were skipped: until it is read whole, those before its last packet
-abbrev pub skipped_at : CheckEnd → Checked → ℕ
-skipped_at (Whole ending) checked = ending.skipped
-skipped_at (Refusing refusal) checked = checked.skipped
-skipped_at (Reading offset) checked = checked.skipped
-skipped_at Opening checked = checked.skipped
+-- the format of a file, its skipped blocks, and its interfaces: if a read failed, those of its last packet
+abbrev pub format_by : Option FileEnd → Option Format → Option Format
+format_by (Some end) last = Some end.ending.format
+format_by None last = last
+
+abbrev pub skipped_by : Option FileEnd → ℕ → ℕ
+skipped_by (Some end) last = end.ending.skipped
+skipped_by None last = last
+
+abbrev pub interfaces_by : Option FileEnd → ℕ → ℕ
+interfaces_by (Some end) last = end.interfaces
+interfaces_by None last = last
 
 -- how it ends: whole, a rest of it dropped or not; refused, at an offset and by a rule; by a read that failed, at an
 -- offset; or it could not be opened
 abbrev pub end_fields : CheckEnd → List Field
-end_fields (Whole ending) =
+end_fields (Whole end) =
     one (record { label = codes " whole"; key = codes "whole"; value = flag true })
-    ∷ one (record { label = codes " cut"; key = codes "cut"; value = flag ending.was_cut }) ∷ []
-end_fields (Refusing refusal) =
+    ∷ one (record { label = codes " cut"; key = codes "cut"; value = flag end.ending.was_cut }) ∷ []
+end_fields (Refusing refusal end) =
     group (codes "refused")
     (record { label = codes " refused offset "; key = codes "offset"; value = number refusal.offset })
     (record { label = codes " rule "; key = codes "rule"; value = number (rule_number refusal.rule) }
@@ -52,34 +59,62 @@ end_fields (Reading offset) =
 end_fields Opening = one (record { label = codes " open"; key = codes "open"; value = flag true }) ∷ []
 
 -- the line of the file of that number
-abbrev pub check_facts : ℕ → Checked → CheckEnd → Facts
-check_facts file checked ends = record {
+abbrev pub check_facts : ℕ → Check → Facts
+check_facts file check = record {
   kind = codes "check";
   fields =
       one (record { label = codes " "; key = codes "file"; value = number file })
       ∷ one (record {
         label = codes " ";
         key = codes "format";
-        value = word (option_map name_of_format (format_at ends checked));
+        value = word (option_map name_of_format (format_by (end_of check.end) check.counts.format));
       })
-      ∷ one (record { label = codes " packets "; key = codes "packets"; value = number checked.packets })
-      ∷ one (record { label = codes " backward "; key = codes "backward"; value = number checked.backward })
-      ∷ one (record { label = codes " untimed "; key = codes "untimed"; value = number checked.untimed })
-      ∷ one (record { label = codes " truncated "; key = codes "truncated"; value = number checked.truncated })
-      ∷ one (record { label = codes " skipped "; key = codes "skipped"; value = number (skipped_at ends checked) })
-      ∷ one (record { label = codes " interfaces "; key = codes "interfaces"; value = number checked.interfaces })
-      ∷ end_fields ends;
+      ∷ one (record { label = codes " packets "; key = codes "packets"; value = number check.counts.packets })
+      ∷ one (record { label = codes " backward "; key = codes "backward"; value = number check.counts.backward })
+      ∷ one (record { label = codes " untimed "; key = codes "untimed"; value = number check.counts.untimed })
+      ∷ one (record { label = codes " truncated "; key = codes "truncated"; value = number check.counts.truncated })
+      ∷ one (record {
+        label = codes " skipped ";
+        key = codes "skipped";
+        value = number (skipped_by (end_of check.end) check.counts.skipped);
+      })
+      ∷ one (record {
+        label = codes " interfaces ";
+        key = codes "interfaces";
+        value = number (interfaces_by (end_of check.end) check.counts.interfaces);
+      })
+      ∷ end_fields check.end;
 }
 
--- A file of that number with those bytes is checked, and its line is written, whatever it holds; and it is returned
--- whether it is whole. If a growth is refused nothing is written, and if the writer failed a prefix is.
-abbrev pub WritesCheck : Form → Tail → ℕ → List ℕ → List ℕ → Result Bool Fault → List ℕ → Type 0
-WritesCheck form tail file bytes old (Ok is_whole) new =
-    (checked : Checked) × (ends : CheckEnd) × IsChecked tail file bytes checked ends
-    × (is_whole ≡ is_whole_end ends) × (new ≡ old ++ line_in form (check_facts file checked ends))
-WritesCheck form tail file bytes old (Err (Refused refusal)) new = ⊥
-WritesCheck form tail file bytes old (Err (Read f offset)) new = ⊥
-WritesCheck form tail file bytes old (Err Write) new =
-    (checked : Checked) × (ends : CheckEnd) × IsChecked tail file bytes checked ends
-    × PrintsFront (line_in form (check_facts file checked ends)) old new
-WritesCheck form tail file bytes old (Err Memory) new = new ≡ old
+-- the lines of files that were checked and have the numbers from that one on
+abbrev pub check_lines : Form → ℕ → List Check → List ℕ
+check_lines form file [] = []
+check_lines form file (check ∷ checks) = line_in form (check_facts file check) ++ check_lines form (file + 1) checks
+
+-- The file of that number is checked, and its line is written, whatever it holds; and it is returned whether it is
+-- whole. If a growth is refused nothing is written, and if the writer failed a prefix is.
+abbrev pub WritesCheck : Form → Tail → ℕ → Option Opened → List ℕ → Result Bool Fault → List ℕ → Type 0
+WritesCheck form tail file opened old (Ok is_whole) new =
+    (check : Check) × IsChecked tail file opened check × (is_whole ≡ is_whole_end check.end)
+    × (new ≡ old ++ line_in form (check_facts file check))
+WritesCheck form tail file opened old (Err (Refused refusal)) new = ⊥
+WritesCheck form tail file opened old (Err (Read f offset)) new = ⊥
+WritesCheck form tail file opened old (Err Write) new =
+    (check : Check) × IsChecked tail file opened check × PrintsFront (line_in form (check_facts file check)) old new
+WritesCheck form tail file opened old (Err Memory) new = new ≡ old
+
+-- All files, which have the numbers from 1 on, are checked, and their lines are written; and it is returned whether
+-- each is whole. If a growth is refused, the lines of the first of them are written; if the writer failed, a prefix of
+-- those is.
+abbrev pub WritesChecks : Form → Tail → List (Option Opened) → List ℕ → Result Bool Fault → List ℕ → Type 0
+WritesChecks form tail files old (Ok is_whole) new =
+    (checks : List Check) × AreChecked tail 1 files checks × (is_whole ≡ are_whole checks)
+    × (new ≡ old ++ check_lines form 1 checks)
+WritesChecks form tail files old (Err (Refused refusal)) new = ⊥
+WritesChecks form tail files old (Err (Read f offset)) new = ⊥
+WritesChecks form tail files old (Err Write) new =
+    (n : ℕ) × (checks : List Check) × AreChecked tail 1 (take n files) checks
+    × PrintsFront (check_lines form 1 checks) old new
+WritesChecks form tail files old (Err Memory) new =
+    (n : ℕ) × (checks : List Check) × (n < length files) × AreChecked tail 1 (take n files) checks
+    × (new ≡ old ++ check_lines form 1 checks)

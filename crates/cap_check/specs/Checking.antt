@@ -1,6 +1,7 @@
 -- What is counted of the packets of a file that is checked, and how the file ends.
 use Rattle.std.specs.Prelude.{◌≡◌, ℕ, ◌+◌, ◌&&◌, max, nat_lt, Bool, true, false, List, [], ◌∷◌, take, Option, Some}
 use Rattle.std.specs.Prelude.{None, is_none, is_some, if◌then◌else◌, IsTrue}
+use Rattle.std.specs.List.{list_all}
 use Rattle.std.specs.Ordering.{is_lt}
 use Rattle.cap_bytes.specs.declared.faults.Tail.{Tail}
 use Rattle.cap_source.specs.Feed.{Item, packet, refused, refusal_of}
@@ -9,6 +10,7 @@ use Rattle.cap_source.specs.Times.{meta_time}
 use Rattle.cap_source.specs.declared.packets.Meta.{Meta}
 use Rattle.cap_time.specs.Clock.{clock_cmp, later}
 use Rattle.cap_time.specs.declared.stamps.Stamp.{Stamp}
+use Rattle.cap_check.specs.declared.checked.Check.{Check}
 use Rattle.cap_check.specs.declared.checked.CheckEnd.{CheckEnd}
 use Rattle.cap_check.specs.declared.checked.CheckEnd.TheVariants.{Opening, Reading, Refusing, Whole}
 use Rattle.cap_check.specs.declared.checked.Checked.{Checked}
@@ -35,7 +37,7 @@ nothing_checked =
       clock = None;
     }
 
--- what is counted with one packet more
+-- what is counted with one packet more, by which the file has the interfaces up to the one of its instance
 abbrev pub with_checked : Checked → Meta → Checked
 with_checked checked meta =
     record {
@@ -55,30 +57,54 @@ checked_after checked [] = checked
 checked_after checked (packet meta frame ∷ items) = checked_after (with_checked checked meta) items
 checked_after checked (refused refusal ∷ items) = checked
 
--- The file of that number with those bytes was checked: to its end, to its refusal, or to a read that failed, after
--- some of its packets.
-abbrev pub IsChecked : Tail → ℕ → List ℕ → Checked → CheckEnd → Type 0
-IsChecked tail file bytes checked (Whole ending) =
-    (refusal_of (file_items tail file bytes) ≡ None)
-    × (checked ≡ checked_after nothing_checked (file_items tail file bytes))
-    × (ending ≡ (file_ending tail file bytes).ending)
-IsChecked tail file bytes checked (Refusing refusal) =
-    (refusal_of (file_items tail file bytes) ≡ Some refusal)
-    × (checked ≡ checked_after nothing_checked (file_items tail file bytes))
-IsChecked tail file bytes checked (Reading offset) =
-    (n : ℕ) × (checked ≡ checked_after nothing_checked (take n (file_items tail file bytes)))
-IsChecked tail file bytes checked Opening = Unit {0}
+-- A file that was opened: its bytes, and whether a read of it can fail.
+pub record Opened : Type 0 where
+  pub bytes : List ℕ
+  pub can_fail : Bool
+
+-- The file of that number, which could be opened, was checked: to its end, to its refusal, or to a read that failed,
+-- after some of its packets.
+abbrev pub IsCounted : Tail → ℕ → Opened → Checked → CheckEnd → Type 0
+IsCounted tail file opened counts (Whole end) =
+    (refusal_of (file_items tail file opened.bytes) ≡ None)
+    × (counts ≡ checked_after nothing_checked (file_items tail file opened.bytes))
+    × (end ≡ file_ending tail file opened.bytes)
+IsCounted tail file opened counts (Refusing refusal end) =
+    (refusal_of (file_items tail file opened.bytes) ≡ Some refusal)
+    × (counts ≡ checked_after nothing_checked (file_items tail file opened.bytes))
+    × (end ≡ file_ending tail file opened.bytes)
+IsCounted tail file opened counts (Reading offset) =
+    IsTrue opened.can_fail × (n : ℕ)
+    × (counts ≡ checked_after nothing_checked (take n (file_items tail file opened.bytes)))
+IsCounted tail file opened counts Opening = ⊥
+
+-- The file of that number was checked, whether it could be opened or not.
+abbrev pub IsChecked : Tail → ℕ → Option Opened → Check → Type 0
+IsChecked tail file (Some opened) check = IsCounted tail file opened check.counts check.end
+IsChecked tail file None check = check ≡ record { counts = nothing_checked; end = Opening }
+
+-- Files that have the numbers from that one on were checked, each by itself.
+abbrev pub AreChecked : Tail → ℕ → List (Option Opened) → List Check → Type 0
+AreChecked tail file [] [] = Unit {0}
+AreChecked tail file [] (check ∷ checks) = ⊥
+AreChecked tail file (opened ∷ files) [] = ⊥
+AreChecked tail file (opened ∷ files) (check ∷ checks) =
+    IsChecked tail file opened check × AreChecked tail (file + 1) files checks
 
 -- a read fails only of a device that can fail
 abbrev pub FailsIf : Bool → CheckEnd → Type 0
-FailsIf can_fail (Whole ending) = Unit {0}
-FailsIf can_fail (Refusing refusal) = Unit {0}
+FailsIf can_fail (Whole end) = Unit {0}
+FailsIf can_fail (Refusing refusal end) = Unit {0}
 FailsIf can_fail (Reading offset) = IsTrue can_fail
-FailsIf can_fail Opening = Unit {0}
+FailsIf can_fail Opening = ⊥
 
 -- whether a file was read whole
 abbrev pub is_whole_end : CheckEnd → Bool
-is_whole_end (Whole ending) = true
-is_whole_end (Refusing refusal) = false
+is_whole_end (Whole end) = true
+is_whole_end (Refusing refusal end) = false
 is_whole_end (Reading offset) = false
 is_whole_end Opening = false
+
+-- whether each of some files was
+abbrev pub are_whole : List Check → Bool
+are_whole checks = list_all (λ check. is_whole_end check.end) checks

@@ -4,7 +4,7 @@ ghost use Rattle.cap_time.specs.Clock.{later};
 ghost use Rattle.cap_check.specs.Checking.{is_backward, is_whole_end, nothing_checked, counted_if, with_checked};
 
 use cap_bytes::Refusal;
-use cap_source::{Ending, Format, Meta};
+use cap_source::{FileEnd, Format, Meta};
 use cap_time::Stamp;
 
 /// What is counted of the packets of a file, as far as they were taken.
@@ -31,10 +31,10 @@ pub struct Checked {
 /// How a file that is checked ends.
 #[derive(Clone, Copy, Debug, PartialEq, Eq)]
 pub enum CheckEnd {
-    /// It was read whole.
-    Whole(Ending),
-    /// It is refused.
-    Refusing(Refusal),
+    /// It was read whole, and ended so.
+    Whole(FileEnd),
+    /// It is refused, and has that much up to there.
+    Refusing(Refusal, FileEnd),
     /// A read of it failed, of the header, the record or the block that begins at that offset, in bytes.
     Reading(u64),
     /// It could not be opened.
@@ -48,7 +48,29 @@ impl CheckEnd {
     {
         match self {
             CheckEnd::Whole(_) => true,
-            CheckEnd::Refusing(_) | CheckEnd::Reading(_) | CheckEnd::Opening => false,
+            CheckEnd::Refusing(_, _) | CheckEnd::Reading(_) | CheckEnd::Opening => false,
+        }
+    }
+}
+
+/// What a check of a file found.
+#[derive(Clone, Copy, Debug, PartialEq, Eq)]
+pub struct Check {
+    /// What is counted of its packets.
+    pub counts: Checked,
+    /// How it ends.
+    pub end: CheckEnd,
+}
+
+impl Check {
+    /// What a check of a file finds that could not be opened.
+    pub fn unopened() -> Check
+        ensures counts { result.counts ≡ nothing_checked }
+        ensures end { result.end ≡ CheckEnd.Opening }
+    {
+        Check {
+            counts: Checked::new(),
+            end: CheckEnd::Opening,
         }
     }
 }

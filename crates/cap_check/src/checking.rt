@@ -1,17 +1,20 @@
-//! A file, checked: its packets counted to its end, to its refusal, or to a read that fails.
-ghost use Rattle.std.specs.Prelude.{◌≡◌, ◌+◌, ◌≤◌, ◌^◌, Some, IfOk, IsOk, IsOkUnless, IsTrue, false};
+//! A file, checked: its packets counted to its end, to its refusal, or to a read that fails; and files, one after
+//! another.
+ghost use Rattle.std.specs.Prelude.{◌≡◌, ◌+◌, ◌≤◌, ◌^◌, Some, IfOk, IfSome, IsOk, IsOkUnless, IsTrue, false, map};
+ghost use Rattle.std.specs.Prelude.{option_map, vec_len};
+ghost use Rattle.std.specs.List.{list_all};
 ghost use Rattle.cap_bytes.specs.Device.{WriterKeeps, writer_of};
 ghost use Rattle.cap_bytes.specs.Printing.{is_write};
 ghost use Rattle.cap_source.specs.Feed.{FeedKeeps};
-ghost use Rattle.cap_check.specs.CheckText.{WritesCheck};
+ghost use Rattle.cap_check.specs.CheckText.{WritesCheck, WritesChecks};
 ghost use Rattle.cap_check.specs.Checking.{FailsIf, IsChecked, nothing_checked};
-ghost use Rattle.cap_check.specs.inner.Taking.{FailsHere, TakesPackets};
+ghost use Rattle.cap_check.specs.inner.Taking.{EndsAt, FailsHere, TakesPackets};
 
-use crate::checked::{CheckEnd, Checked};
+use crate::checked::{Check, CheckEnd, Checked};
 use crate::lines::check_line;
 use cap_bytes::{Fault, Sink, Source, Tail, put_all};
 use cap_print::Form;
-use cap_source::{Capture, Head, PacketFeed, next_packet};
+use cap_source::{Capture, PacketFeed, next_packet};
 use std::alloc::Global;
 
 // Takes all packets that a feed still gives. After a fault those before it were taken.
@@ -20,7 +23,7 @@ fn take_all<F: PacketFeed>(feed: &mut F, checked: &mut Checked) -> Result<(), Fa
     requires nothing { checked.old ≡ nothing_checked }
     ensures counts { IsTrue (F.feed feed.old).told
         → TakesPackets (F.feed feed.old) result (F.feed feed.new) checked.new }
-    ensures ends { IsOk result → (F.feed feed.new).known ≡ Some Head.End }
+    ensures ends { EndsAt result (F.feed feed.new).known }
     ensures keeps { FeedKeeps (F.feed feed.old) (F.feed feed.new) }
     ensures write { is_write result ≡ false }
     ensures fails { FailsHere (F.feed feed.old) result }
@@ -39,40 +42,93 @@ pub fn check_file<R: Source>(
     source: R,
     file: u32,
     tail: Tail,
-) -> Result<(Checked, CheckEnd), Fault>
+) -> Result<Check, Fault>
     ensures checked { IsTrue (R.tells_coming source)
-        → IfOk result (λ it. IsChecked tail file (R.coming source) it.0 it.1) }
-    ensures read { IfOk result (λ it. FailsIf (R.can_fail source) it.1) }
+        → IfOk result (IsChecked tail file (Some (record { bytes = R.coming source; can_fail = R.can_fail source }))) }
+    ensures read { IfOk result (λ check. FailsIf (R.can_fail source) check.end) }
     ensures fault { IsOkUnless result Fault.Memory }
 {
-    let mut checked = Checked::new();
+    let mut counts = Checked::new();
     let mut capture = Capture::new(alloc, source, file, tail);
-    match take_all(&mut capture, &mut checked) {
-        Ok(()) => Ok((checked, CheckEnd::Whole(capture.ending(file)))),
-        Err(Fault::Refused(refusal)) => Ok((checked, CheckEnd::Refusing(refusal))),
-        Err(Fault::Read { offset, .. }) => Ok((checked, CheckEnd::Reading(offset))),
+    match take_all(&mut capture, &mut counts) {
+        Ok(()) => {
+            let end = CheckEnd::Whole(capture.file_end());
+            Ok(Check { counts, end })
+        }
+        Err(Fault::Refused(refusal)) => {
+            let end = CheckEnd::Refusing(refusal, capture.file_end());
+            Ok(Check { counts, end })
+        }
+        Err(Fault::Read { offset, .. }) => {
+            let end = CheckEnd::Reading(offset);
+            Ok(Check { counts, end })
+        }
         Err(fault) => Err(fault),
     }
 }
 
+// The same of a file that could be opened or not.
+fn check_opened<R: Source>(
+    alloc: Global,
+    source: Option<R>,
+    file: u32,
+    tail: Tail,
+) -> Result<Check, Fault>
+    ensures checked { IfSome source (λ s. IsTrue (R.tells_coming s)) → IfOk result (IsChecked tail file
+        (option_map (λ s. record { bytes = R.coming s; can_fail = R.can_fail s }) source)) }
+    ensures fault { IsOkUnless result Fault.Memory }
+{
+    match source {
+        Some(source) => check_file(alloc, source, file, tail),
+        None => Ok(Check::unopened()),
+    }
+}
+
 /// Checks a capture file of either format, which has that number, and prints its line, the one of `check_line`: also of
-/// a file that is refused, and of one of which a read fails. It returns whether the file was read whole. It returns
-/// `Memory` if a growth is refused, before anything is printed, and `Write` if a write fails, after a prefix of the
-/// line.
+/// a file that could not be opened, which is `None`, of one that is refused, and of one of which a read fails. It
+/// returns whether the file was read whole. It returns `Memory` if a growth is refused, before anything is printed, and
+/// `Write` if a write fails, after a prefix of the line.
 pub fn check_to<R: Source, W: Sink>(
     alloc: Global,
-    source: R,
+    source: Option<R>,
     file: u32,
     tail: Tail,
     form: Form,
     writer: &mut W,
 ) -> Result<bool, Fault>
-    ensures text { IsTrue (R.tells_coming source) → IsTrue (W.tells_held writer.old)
-        → WritesCheck form tail file (R.coming source) (W.held writer.old) result (W.held writer.new) }
+    ensures text { IfSome source (λ s. IsTrue (R.tells_coming s)) → IsTrue (W.tells_held writer.old)
+        → WritesCheck form tail file (option_map (λ s. record { bytes = R.coming s; can_fail = R.can_fail s }) source)
+        (W.held writer.old) result (W.held writer.new) }
     ensures writer { WriterKeeps (writer_of W.Sink writer.old) (is_write result) (writer_of W.Sink writer.new) }
 {
-    let (checked, ends) = check_file(alloc, source, file, tail)?;
-    let line = check_line(form, file, &checked, &ends);
+    let check = check_opened(alloc, source, file, tail)?;
+    let line = check_line(form, file, &check);
     put_all(writer, line.as_slice())?;
-    Ok(ends.is_whole())
+    Ok(check.end.is_whole())
+}
+
+/// Checks capture files, which have the numbers from 1 on, one after another, and prints the line of each as soon as it
+/// is read. It returns whether each was read whole. It returns `Memory` if a growth is refused, after the lines of the
+/// files before, and `Write` if a write fails, after a prefix of the lines.
+pub fn check_all_to<R: Source, W: Sink>(
+    alloc: Global,
+    sources: Vec<R>,
+    tail: Tail,
+    form: Form,
+    writer: &mut W,
+) -> Result<bool, Fault>
+    requires most { vec_len sources ≤ 4294967295 }
+    ensures text { IsTrue (list_all R.tells_coming sources.items) → IsTrue (W.tells_held writer.old)
+        → WritesChecks form tail
+        (map (λ s. Some (record { bytes = R.coming s; can_fail = R.can_fail s })) sources.items) (W.held writer.old)
+        result (W.held writer.new) }
+    ensures writer { WriterKeeps (writer_of W.Sink writer.old) (is_write result) (writer_of W.Sink writer.new) }
+{
+    let mut are_whole = true;
+    let mut files = 0u32;
+    for source in sources {
+        files += 1;
+        are_whole &= check_to(alloc, Some(source), files, tail, form, writer)?;
+    }
+    Ok(are_whole)
 }

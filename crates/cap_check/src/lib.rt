@@ -6,6 +6,6 @@ mod checked;
 mod checking;
 mod lines;
 
-pub use crate::checked::{CheckEnd, Checked};
-pub use crate::checking::{check_file, check_to};
+pub use crate::checked::{Check, CheckEnd, Checked};
+pub use crate::checking::{check_all_to, check_file, check_to};
 pub use crate::lines::check_line;

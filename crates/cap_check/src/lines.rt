@@ -4,30 +4,58 @@ ghost use Rattle.cap_bytes.specs.Rules.{rule_name, rule_number};
 ghost use Rattle.cap_print.specs.Facts.{fields_json, fields_text, flag_json, line_in, word_json, word_text};
 ghost use Rattle.cap_print.specs.Lines.{room_in, text_in};
 ghost use Rattle.cap_print.specs.declared.forms.Form.TheVariants.{Json, Text};
-ghost use Rattle.cap_check.specs.CheckText.{check_facts, end_fields, format_at, name_of_format, skipped_at};
+ghost use Rattle.cap_check.specs.CheckText.{check_facts, end_fields, end_of, format_by, interfaces_by};
+ghost use Rattle.cap_check.specs.CheckText.{name_of_format, skipped_by};
 
-use crate::checked::{CheckEnd, Checked};
+use crate::checked::{Check, CheckEnd};
 use cap_bytes::Refusal;
 use cap_print::{Form, Line};
-use cap_source::Format;
+use cap_source::{FileEnd, Format};
 
-// The format of a file that ends so.
-fn format_at(ends: &CheckEnd, checked: &Checked) -> Option<Format>
-    ensures { result ≡ format_at ends.now checked.now }
+// What a file has up to its end, or up to its refusal, unless it is refused at its first byte.
+fn end_of(end: &CheckEnd) -> Option<FileEnd>
+    ensures { result ≡ end_of end.now }
 {
-    match ends {
-        CheckEnd::Whole(ending) => Some(ending.format),
-        CheckEnd::Refusing(_) | CheckEnd::Reading(_) | CheckEnd::Opening => checked.format,
+    match end {
+        CheckEnd::Whole(end) => Some(*end),
+        CheckEnd::Refusing(refusal, end) => {
+            if refusal.offset == 0 {
+                None
+            } else {
+                Some(*end)
+            }
+        }
+        CheckEnd::Reading(_) | CheckEnd::Opening => None,
     }
 }
 
-// How many blocks were skipped of a file that ends so.
-fn skipped_at(ends: &CheckEnd, checked: &Checked) -> u64
-    ensures { result ≡ skipped_at ends.now checked.now }
+// The format of a file: if a read failed, that of its last packet.
+fn format_of(check: &Check) -> Option<Format>
+    ensures { result ≡ format_by (end_of check.now.end) check.now.counts.format }
 {
-    match ends {
-        CheckEnd::Whole(ending) => ending.skipped,
-        CheckEnd::Refusing(_) | CheckEnd::Reading(_) | CheckEnd::Opening => checked.skipped,
+    match end_of(&check.end) {
+        Some(end) => Some(end.ending.format),
+        None => check.counts.format,
+    }
+}
+
+// How many of its blocks are skipped.
+fn skipped_of(check: &Check) -> u64
+    ensures { result ≡ skipped_by (end_of check.now.end) check.now.counts.skipped }
+{
+    match end_of(&check.end) {
+        Some(end) => end.ending.skipped,
+        None => check.counts.skipped,
+    }
+}
+
+// How many interfaces it has.
+fn interfaces_of(check: &Check) -> u128
+    ensures { result ≡ interfaces_by (end_of check.now.end) check.now.counts.interfaces }
+{
+    match end_of(&check.end) {
+        Some(end) => u128::from(end.interfaces),
+        None => check.counts.interfaces,
     }
 }
 
@@ -146,72 +174,73 @@ fn short_line(text: &[u8]) -> Line
 }
 
 // The end of a line: ` whole`, ` whole cut`, ` refused offset O rule R NAME`, ` read offset O` or ` open`.
-fn end_text(ends: &CheckEnd) -> Line
-    ensures text { text_in result ≡ fields_text (end_fields ends.now) (codes "\n") }
+fn end_text(end: &CheckEnd) -> Line
+    ensures text { text_in result ≡ fields_text (end_fields end.now) (codes "\n") }
     ensures room { 380 ≤ room_in result }
 {
-    match ends {
-        CheckEnd::Whole(ending) => whole_text(ending.was_cut),
-        CheckEnd::Refusing(refusal) => refused_text(refusal),
+    match end {
+        CheckEnd::Whole(end) => whole_text(end.ending.was_cut),
+        CheckEnd::Refusing(refusal, _) => refused_text(refusal),
         CheckEnd::Reading(offset) => number_line(b" read offset ", *offset, b"\n"),
         CheckEnd::Opening => short_line(b" open\n"),
     }
 }
 
 // The same as JSON.
-fn end_json(ends: &CheckEnd) -> Line
-    ensures text { text_in result ≡ fields_json (end_fields ends.now) (codes "}\n") }
+fn end_json(end: &CheckEnd) -> Line
+    ensures text { text_in result ≡ fields_json (end_fields end.now) (codes "}\n") }
     ensures room { 380 ≤ room_in result }
 {
-    match ends {
-        CheckEnd::Whole(ending) => whole_json(ending.was_cut),
-        CheckEnd::Refusing(refusal) => refused_json(refusal),
+    match end {
+        CheckEnd::Whole(end) => whole_json(end.ending.was_cut),
+        CheckEnd::Refusing(refusal, _) => refused_json(refusal),
         CheckEnd::Reading(offset) => number_line(b",\"read\":{\"offset\":", *offset, b"}}\n"),
         CheckEnd::Opening => short_line(b",\"open\":true}\n"),
     }
 }
 
 // The line of the file of that number.
-fn text_of(file: u32, checked: &Checked, ends: &CheckEnd) -> Line
-    ensures { text_in result ≡ line_in Text (check_facts file checked.now ends.now) }
+fn text_of(file: u32, check: &Check) -> Line
+    ensures { text_in result ≡ line_in Text (check_facts file check.now) }
 {
-    let mut line = end_text(ends);
-    line.prepend_integer(b" interfaces ", checked.interfaces);
-    line.prepend_field(b" skipped ", skipped_at(ends, checked));
-    line.prepend_field(b" truncated ", checked.truncated);
-    line.prepend_field(b" untimed ", checked.untimed);
-    line.prepend_field(b" backward ", checked.backward);
-    line.prepend_field(b" packets ", checked.packets);
-    prepend_format(&mut line, b" ", format_at(ends, checked));
+    let mut line = end_text(&check.end);
+    line.prepend_integer(b" interfaces ", interfaces_of(check));
+    line.prepend_field(b" skipped ", skipped_of(check));
+    line.prepend_field(b" truncated ", check.counts.truncated);
+    line.prepend_field(b" untimed ", check.counts.untimed);
+    line.prepend_field(b" backward ", check.counts.backward);
+    line.prepend_field(b" packets ", check.counts.packets);
+    prepend_format(&mut line, b" ", format_of(check));
     line.prepend_field(b"check ", u64::from(file));
     line
 }
 
 // The same as JSON.
-fn json_of(file: u32, checked: &Checked, ends: &CheckEnd) -> Line
-    ensures { text_in result ≡ line_in Json (check_facts file checked.now ends.now) }
+fn json_of(file: u32, check: &Check) -> Line
+    ensures { text_in result ≡ line_in Json (check_facts file check.now) }
 {
-    let mut line = end_json(ends);
-    line.prepend_integer(b",\"interfaces\":", checked.interfaces);
-    line.prepend_field(b",\"skipped\":", skipped_at(ends, checked));
-    line.prepend_field(b",\"truncated\":", checked.truncated);
-    line.prepend_field(b",\"untimed\":", checked.untimed);
-    line.prepend_field(b",\"backward\":", checked.backward);
-    line.prepend_field(b",\"packets\":", checked.packets);
-    prepend_format_string(&mut line, b",\"format\":", format_at(ends, checked));
+    let mut line = end_json(&check.end);
+    line.prepend_integer(b",\"interfaces\":", interfaces_of(check));
+    line.prepend_field(b",\"skipped\":", skipped_of(check));
+    line.prepend_field(b",\"truncated\":", check.counts.truncated);
+    line.prepend_field(b",\"untimed\":", check.counts.untimed);
+    line.prepend_field(b",\"backward\":", check.counts.backward);
+    line.prepend_field(b",\"packets\":", check.counts.packets);
+    prepend_format_string(&mut line, b",\"format\":", format_of(check));
     line.prepend_field(b"{\"type\":\"check\",\"file\":", u64::from(file));
     line
 }
 
 /// The line of a file of that number that was checked, in a form. In text it is
 /// `check N FORMAT packets P backward B untimed U truncated Q skipped S interfaces I`, and then `whole`, with ` cut`
-/// after it if a rest of the file was dropped, `refused offset O rule R NAME`, `read offset O` or `open`. Until the
-/// file is read whole, the format and the skipped blocks are those of its last packet.
-pub fn check_line(form: Form, file: u32, checked: &Checked, ends: &CheckEnd) -> Line
-    ensures { text_in result ≡ line_in form (check_facts file checked.now ends.now) }
+/// after it if a rest of the file was dropped, `refused offset O rule R NAME`, `read offset O` or `open`. Of a file
+/// that is refused at its first byte the format is `-`. If a read failed, the format, the skipped blocks and the
+/// interfaces are those up to its last packet.
+pub fn check_line(form: Form, file: u32, check: &Check) -> Line
+    ensures { text_in result ≡ line_in form (check_facts file check.now) }
 {
     match form {
-        Form::Text => text_of(file, checked, ends),
-        Form::Json => json_of(file, checked, ends),
+        Form::Text => text_of(file, check),
+        Form::Json => json_of(file, check),
     }
 }

@@ -56,7 +56,7 @@ all_four =
     ∷ first_two
 
 abbrev pub pcap_end : ℕ → FileEnd
-pcap_end file = record { ending = record { format = Pcap; skipped = 0; was_cut = false }; named = 0 }
+pcap_end file = record { ending = record { format = Pcap; skipped = 0; was_cut = false }; interfaces = 1; named = 0 }
 
 -- Overlapped fragments, two of four taken, and all of them.
 pub record Overlapped : Type 0 where

@@ -27,7 +27,12 @@ clocked_run tail files = run item_time is_refusal (map opened_track (items_of_fi
 
 -- how the file of a number ends, of files of those bytes, the first of which has the number `first`
 abbrev pub endings_from : Tail → ℕ → List (List ℕ) → ℕ → FileEnd
-endings_from tail first [] file = record { ending = record { format = Pcap; skipped = 0; was_cut = false }; named = 0 }
+endings_from tail first [] file =
+    record {
+      ending = record { format = Pcap; skipped = 0; was_cut = false };
+      interfaces = 1;
+      named = 0;
+    }
 endings_from tail first (bytes ∷ files) file =
     if first == file then file_ending tail first bytes else endings_from tail (first + 1) files file
 

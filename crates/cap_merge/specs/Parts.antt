@@ -162,7 +162,12 @@ has_file files file = list_any (λ f. f == file) files
 
 -- how a file ends, as its feed says
 unfoldable pub endings_of : List Part → ℕ → FileEnd
-endings_of [] file = record { ending = record { format = Pcap; skipped = 0; was_cut = false }; named = 0 }
+endings_of [] file =
+    record {
+      ending = record { format = Pcap; skipped = 0; was_cut = false };
+      interfaces = 1;
+      named = 0;
+    }
 endings_of (p ∷ ps) file = if has_file p.feed.files file then p.feed.endings file else endings_of ps file
 
 -- the fault of a read that failed of the first feed of which it isn't known what comes next

@@ -51,6 +51,13 @@ IsPacket (Some (heads.Packet meta)) = ⊤
 IsPacket (Some (heads.Refused refusal)) = ⊥
 IsPacket (Some heads.End) = ⊥
 
+-- What comes next is known, and nothing comes after it: a refusal, or the end.
+abbrev pub IsLast : Option Head → Type 0
+IsLast None = ⊥
+IsLast (Some (heads.Packet meta)) = ⊥
+IsLast (Some (heads.Refused refusal)) = ⊤
+IsLast (Some heads.End) = ⊤
+
 -- If what comes next is known to be a packet, that is true of it.
 abbrev pub IfPacket : Option Head → (Meta → Type 0) → Type 0
 IfPacket None Holds = ⊤

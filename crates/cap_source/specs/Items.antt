@@ -120,11 +120,13 @@ items_of_blocks file progress (pieces.given block body ∷ rest) =
     let content = content_in progress.interfaces block.kind block.order body in
     items_at_block file progress block body content (items_of_blocks file (behind progress content) rest)
 
--- how a pcapng file ends that was read so far, whether a rest was dropped, and how many interfaces have a name
+-- how a pcapng file ends that was read so far, whether a rest was dropped, how many interfaces it has, and how many of
+-- them have a name
 abbrev pub ending_with : Progress → Bool → FileEnd
 ending_with progress was_cut =
     record {
       ending = record { format = Pcapng; skipped = progress.skipped; was_cut = was_cut };
+      interfaces = progress.base + length progress.interfaces;
       named = progress.named;
     }
 
@@ -199,9 +201,14 @@ pcap_items file interface (pieces.stopped stop ∷ rest) = items_of_stop stop
 pcap_items file interface (pieces.given r frame ∷ rest) =
     packet (meta_of file interface r) frame ∷ pcap_items file interface rest
 
--- how a pcap file ends
+-- how a pcap file ends, which has one interface
 abbrev pub pcap_ending_with : Bool → FileEnd
-pcap_ending_with was_cut = record { ending = record { format = Pcap; skipped = 0; was_cut = was_cut }; named = 0 }
+pcap_ending_with was_cut =
+    record {
+      ending = record { format = Pcap; skipped = 0; was_cut = was_cut };
+      interfaces = 1;
+      named = 0;
+    }
 
 unfoldable pub pcap_ending : List (pieces.PieceItem Record) → FileEnd
 pcap_ending [] = pcap_ending_with false

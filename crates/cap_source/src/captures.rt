@@ -2,7 +2,8 @@
 ghost use Rattle.std.specs.Prelude.{◌≡◌, [], ◌∷◌, ℕ, None, IfOk, IsTrue, false};
 ghost use Rattle.std.proofs.Props.{props};
 ghost use Rattle.cap_bytes.specs.inner.SourceState.{source_of};
-ghost use Rattle.cap_source.specs.Feed.{FeedKeeps, GivesHead, KeepsItems, FindsPacket, FindsItem, IsPacket, FeedPasses};
+ghost use Rattle.cap_source.specs.Feed.{FeedKeeps, GivesHead, KeepsItems, FindsPacket, FindsItem, IsLast, IsPacket};
+ghost use Rattle.cap_source.specs.Feed.{FeedPasses};
 ghost use Rattle.cap_source.specs.Items.{file_items, file_ending, file_first};
 ghost use Rattle.cap_source.specs.inner.FileState.{file_feed, GivesFirst, KeepsFirst, IsSoundFile};
 ghost use Rattle.cap_source.specs.inner.FileState.{FileAnswers, FileKeeps, FileTakes, IfTaken, LearnsNext, ReadsTo};
@@ -11,14 +12,16 @@ ghost use Rattle.cap_source.specs.inner.Laws.{captures_lawful};
 ghost use Rattle.cap_source.specs.inner.Reached.{progress_of};
 ghost use Rattle.cap_source.specs.inner.Readers.{reader_file_state, is_there, reader_room};
 
-use crate::feeds::{Ending, FeedHeld, Head, PacketFeed};
+use crate::feeds::{Ending, FeedHeld, FileEnd, Head, PacketFeed};
 use crate::known::Known;
 use crate::opening::open;
 use crate::packets::Meta;
 use crate::pcap::next_of_pcap;
 use crate::pcapng::next_of_blocks;
 use crate::reached::{Reached, nothing_reached};
-use crate::readers::{Next, Reader, ending_of, failed_of, held_of, noted_of, number_of, part_of};
+use crate::readers::{
+    Next, Reader, ending_of, failed_of, held_of, last_of, noted_of, number_of, part_of,
+};
 use crate::{pcap, pcapng};
 use cap_bytes::{Fault, Source, Tail, Window};
 use cap_time::Interface;
@@ -88,6 +91,14 @@ impl<R: Source> Capture<R> {
     {
         self.learn()?;
         Ok(noted_of(&self.reader, &self.reached))
+    }
+
+    /// How the file ended, or how far it was read before it was refused.
+    pub fn file_end(&self) -> FileEnd
+        requires last { IsLast (⟦<Capture<R> as PacketFeed>⟧.feed self.now).known }
+        ensures end { (file : ℕ) → result ≡ (⟦<Capture<R> as PacketFeed>⟧.feed self.now).endings file }
+    {
+        last_of(self.next.get())
     }
 
     // Learns what comes next, unless it is known.

@@ -28,11 +28,13 @@ pub struct Ending {
     pub was_cut: bool,
 }
 
-/// How a file ended, and how many of its interfaces have a name.
-#[derive(Clone, Copy)]
+/// How a file ended, or was refused, and what it has of interfaces up to there.
+#[derive(Clone, Copy, Debug, PartialEq, Eq)]
 pub struct FileEnd {
     /// How it ended.
     pub ending: Ending,
+    /// How many interface blocks it has, of all its sections; 1 in a pcap file. draft-ietf-opsawg-pcapng, 4.2.
+    pub interfaces: u64,
     /// How many of its interface blocks have an `if_name`; 0 in a pcap file. draft-ietf-opsawg-pcapng, 4.2.
     pub named: u64,
 }

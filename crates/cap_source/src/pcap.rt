@@ -44,6 +44,7 @@ fn ending_of_pcap(was_cut: bool) -> FileEnd
             skipped: 0,
             was_cut,
         },
+        interfaces: 1,
         named: 0,
     }
 }

@@ -20,6 +20,7 @@ use cap_time::Interface;
 
 // How a pcapng file ended of which that much was read.
 fn ending_of_blocks(reached: &Reached, was_cut: bool) -> FileEnd
+    requires { counted_blocks (progress_of reached.now) ≤ 2 ^ 40 }
     ensures { result ≡ ending_with (progress_of reached.now) was_cut }
 {
     let skipped = reached.skipped;
@@ -30,6 +31,7 @@ fn ending_of_blocks(reached: &Reached, was_cut: bool) -> FileEnd
             skipped,
             was_cut,
         },
+        interfaces: reached.base + reached.interfaces.len() as u64,
         named,
     }
 }
@@ -136,7 +138,7 @@ fn set_packet(
     said: Result<Packet, Rule>,
     known: &mut Known,
 )
-    requires { reached.now.base < 2 ^ 63 }
+    requires { counted_blocks (progress_of reached.now) ≤ 2 ^ 40 }
     ensures { known.new ≡ next_at file (progress_of reached.now) block (of_body Content.Packet said) }
 {
     match said {
@@ -151,6 +153,7 @@ fn set_packet(
 // look at what a refusal keeps there.
 #[inline(never)]
 fn refuse(reached: &Reached, file: u32, block: Block, rule: Rule, known: &mut Known)
+    requires { counted_blocks (progress_of reached.now) ≤ 2 ^ 40 }
     ensures { known.new ≡ next_at file (progress_of reached.now) block (Err rule) }
 {
     known.set_refused(
@@ -174,6 +177,7 @@ fn take_block<R: Source>(
     requires unknown { known.old ≡ None }
     requires counted { counted_blocks (progress_of reached.old) ≤ reader.old.offset }
     requires free { reader.old.stop ≡ None }
+    requires limit { reader.old.offset ≤ 2 ^ 40 }
     ensures answer { FileSteps (pcapng_state reader.old (progress_of reached.old)) result known.new
         (pcapng_state reader.new (progress_of reached.new)) }
     ensures reaches { IfOk result (λ _. IfTaken known.new
@@ -211,6 +215,7 @@ fn step<R: Source>(
     requires unknown { known.old ≡ None }
     requires counted { counted_blocks (progress_of reached.old) ≤ reader.old.offset }
     requires free { reader.old.stop ≡ None }
+    requires limit { reader.old.offset ≤ 2 ^ 40 }
     requires room { IsTrue (has_room reader.old.broken reached.old) }
     ensures answer { FileSteps (pcapng_state reader.old (progress_of reached.old)) result known.new
         (pcapng_state reader.new (progress_of reached.new)) }

@@ -1,6 +1,6 @@
 //! What a reader of a file of either format is, and what it lends.
 ghost use Rattle.std.specs.Prelude.{◌≡◌, ◌≤◌, IsTrue, IsSome, Some};
-ghost use Rattle.cap_source.specs.Feed.{IsPacket};
+ghost use Rattle.cap_source.specs.Feed.{IsLast, IsPacket};
 ghost use Rattle.cap_source.specs.Items.{Progress};
 ghost use Rattle.cap_source.specs.inner.FileState.{next_head, lent_end, lent_length, next_frame, ending_by};
 ghost use Rattle.cap_source.specs.inner.Reached.{progress_of};
@@ -73,6 +73,17 @@ pub fn ending_of(next: Option<Next>) -> FileEnd
 {
     match next {
         Some(Next::End(ending)) => ending,
+        _ => unreachable!(),
+    }
+}
+
+/// How a file ended, or was refused, of which the end or a refusal comes next.
+pub fn last_of(next: Option<Next>) -> FileEnd
+    requires { IsLast (next_head next) }
+    ensures { (later : FileEnd) → result ≡ ending_by next later }
+{
+    match next {
+        Some(Next::End(ending)) | Some(Next::Refused(_, ending)) => ending,
         _ => unreachable!(),
     }
 }

@@ -46,7 +46,11 @@ list_feed file interface end place times known =
       files = file ∷ [];
       told = true;
       items = listed_items file interface end place times;
-      endings = λ f. record { ending = record { format = Pcap; skipped = 0; was_cut = false }; named = 0 };
+      endings = λ f. record {
+        ending = record { format = Pcap; skipped = 0; was_cut = false };
+        interfaces = 1;
+        named = 0;
+      };
       known = known;
       frame = [];
       broken = None;

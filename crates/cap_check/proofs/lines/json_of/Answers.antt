@@ -12,8 +12,9 @@ returns c =
       c.prepend_field-2.ensures.text,
       c.prepend_field.ensures.text,
       c.prepend_integer.ensures.text,
+      c.interfaces_of.ensures,
       c.end_json-line.ensures.text,
-      c.skipped_at.ensures,
-      c.format_at.ensures,
+      c.skipped_of.ensures,
+      c.format_of.ensures,
       c.from.ensures,
     ) refl

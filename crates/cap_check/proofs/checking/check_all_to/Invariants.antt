@@ -1,0 +1,18 @@
+use Rattle.std.proofs.Common.{◌≡◌, length, map, take, IsTrue, Some}
+use Rattle.std.specs.List.{list_all}
+use Rattle.cap_check.proofs.Following.{ArePrinted}
+use Rattle.cap_check.proofs.checking.check_all_to.Given as goal
+
+-- the files so far are checked, and their lines are printed
+abbrev pub invariant-loop-source : goal.invariant-loop-source
+invariant-loop-source g l = record {
+  number : l.files ≡ length l.yielded;
+  failed : g.W.Device.has_failed l.writer ≡ g.W.Device.has_failed l.fn.writer;
+  told : IsTrue (g.W.Sink.tells_held l.fn.writer) → IsTrue (g.W.Sink.tells_held l.writer);
+  cannot : IsTrue (g.W.Device.can_fail l.writer) → IsTrue (g.W.Device.can_fail l.fn.writer);
+  printed : IsTrue (list_all g.R.Source.tells_coming l.fn.sources.items) → IsTrue (g.W.Sink.tells_held l.fn.writer)
+      → ArePrinted l.form l.tail
+      (take (length l.yielded)
+      (map (λ s. Some (record { bytes = g.R.Source.coming s; can_fail = g.R.Device.can_fail s })) l.fn.sources.items))
+      l.are_whole (g.W.Sink.held l.fn.writer) (g.W.Sink.held l.writer);
+}
