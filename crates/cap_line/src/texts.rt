@@ -91,6 +91,25 @@ of those before are printed.
 Examples: capt digest trace.pcap trace.pcapng
           set -o pipefail; zcat trace.pcap.gz | capt digest -";
 
+pub(crate) const CHECK_ABOUT: &str = "Tests each capture to its end";
+
+pub(crate) const CHECK_HELP: &str = "Prints, for each capture, as soon as it is read:
+  check I FORMAT packets P backward B untimed U truncated Q skipped S
+    interfaces N END
+B packets have a time below the greatest before them in the capture, U have no
+time, Q were captured in part. S blocks are skipped. END is one of:
+  whole                         it was read to its end
+  whole cut                     likewise; --allow-cut dropped its cut end
+  refused offset O rule R NAME  it breaks rule R at O
+  read offset O                 a read failed
+  open                          it can't be opened
+If it isn't whole, the numbers are as of where it ends, FORMAT is - if it isn't
+known, and the captures after it are tested as ever. The status is 1 if any
+capture isn't whole.
+
+Examples: capt check morning.pcap evening.pcapng
+          set -o pipefail; zcat trace.pcap.gz | capt check -";
+
 pub(crate) const CONVERT_ABOUT: &str = "Writes the packets of a capture in either format";
 
 pub(crate) const CONVERT_HELP: &str =
@@ -173,3 +192,6 @@ pub(crate) const A_HELP: &str = "A capture, or - for standard input";
 pub(crate) const B_HELP: &str = "The capture that it is compared with, or -";
 
 pub(crate) const FILES_HELP: &str = "1 to 32 captures, of which one may be - for standard input";
+
+pub(crate) const CHECKED_FILES_HELP: &str =
+    "1 capture or more, of which one may be - for standard input";
