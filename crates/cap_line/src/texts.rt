@@ -96,16 +96,17 @@ pub(crate) const CHECK_ABOUT: &str = "Tests each capture to its end";
 pub(crate) const CHECK_HELP: &str = "Prints, for each capture, as soon as it is read:
   check I FORMAT packets P backward B untimed U truncated Q skipped S
     interfaces N END
-B packets have a time below the greatest before them in the capture, U have no
-time, Q were captured in part. S blocks are skipped. END is one of:
-  whole                         it was read to its end
-  whole cut                     likewise; --allow-cut dropped its cut end
-  refused offset O rule R NAME  it breaks rule R at O
-  read offset O                 a read failed
+Of its P packets B have a time below the greatest before them, U have no time,
+and Q were captured in part. S blocks are skipped; the capture has N interfaces.
+END is one of:
+  whole                         it is read to its end
+  whole cut                     likewise; --allow-cut dropped a cut rest
+  refused offset O rule R NAME  the record or block at O breaks rule R
+  read offset O                 the record or block at O can't be read
   open                          it can't be opened
-If it isn't whole, the numbers are as of where it ends, FORMAT is - if it isn't
-known, and the captures after it are tested as ever. The status is 1 if any
-capture isn't whole.
+Unless it is whole, the numbers are as of where it ends, and FORMAT is - if it
+isn't known. The captures after it are tested all the same. The status is 1 if
+any capture isn't whole.
 
 Examples: capt check morning.pcap evening.pcapng
           set -o pipefail; zcat trace.pcap.gz | capt check -";
