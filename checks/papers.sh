@@ -48,6 +48,8 @@ def kept_in(folder):
 
 def status_after(text):
     refused = text.startswith(("refused: ", '{"type":"refused"'))
+    checked = [line for line in text.split("\n") if line.startswith(("check ", '{"type":"check"'))]
+    refused = refused or any(" whole" not in line and '"whole":true' not in line for line in checked)
     return 1 if refused else 3 if text.startswith(("differ ", '{"type":"differ"')) else 0
 
 # A command goes on in the lines after it that begin with two spaces.
@@ -73,13 +75,14 @@ judged("docs/RULES.md", len(rules) == 21 and told == rules, f"other rules: {sort
 page = text_of("man/capt.1")
 told = {(int(number), name) for number, name in re.findall(r"^\.TP\n\.B (\d+) ([\w-]+)$", page, re.M)}
 judged("man/capt.1, rules", told == rules, f"other rules: {sorted(told ^ rules)}")
-# the lines that the helps show are lines of the manual page, letter by letter
+# the lines that the helps show, one of them on two, are lines of the manual page, letter by letter
 lines = set(re.sub(r"^\.B |\\f.", "", page, flags=re.M).replace("\\-", "-").split("\n"))
-shown = set(re.findall(r"^  ((?:files?|total|frames|joined|talks?|packet|block|same|differ|digest) \S.*)$", text_of("checks/says.txt"), re.M))
-judged("man/capt.1, lines", len(shown) == 12 and shown <= lines, f"lacks {sorted(shown - lines)}")
+whole = re.sub(r"\n    (?=\w)", " ", text_of("checks/says.txt"))
+shown = set(re.findall(r"^  ((?:files?|total|frames|joined|talks?|packet|block|same|differ|digest|check) \S.*)$", whole, re.M))
+judged("man/capt.1, lines", len(shown) == 13 and shown <= lines, f"lacks {sorted(shown - lines)}")
 
 # a pipe into or out of capt fails if any of its programs does
-TASK = "(?:report|info|list|blocks|diff|digest|convert|merge|join)"
+TASK = "(?:report|info|list|blocks|diff|digest|check|convert|merge|join)"
 for page in ("README.md", "docs/GUIDE.md", "docs/RULES.md", "docs/RECIPES.md", "man/capt.1", "checks/says.txt"):
     lines = text_of(page).split("\n")
     pipes = [n for n, line in enumerate(lines) if re.search(rf"\| capt {TASK} |\bcapt {TASK} [^|`]*\|(?!\|)", line)]

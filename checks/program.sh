@@ -401,6 +401,8 @@ completed '--json' capt info --j
 completed '--json' capt diff --j
 completed 'diff digest' capt help d
 completed '--json' capt digest --j
+completed check capt help ch
+completed '--json' capt check --j
 completed '--data' capt list --da
 completed '' capt list --json --data 1
 

@@ -1,7 +1,7 @@
 # Completion of capt for bash: source it, or install it as /usr/share/bash-completion/completions/capt.
 _capt() {
     local word=${COMP_WORDS[COMP_CWORD]} before=${COMP_WORDS[COMP_CWORD - 1]} options
-    local commands='report info list blocks diff digest convert merge join'
+    local commands='report info list blocks diff digest check convert merge join'
     if [ "$COMP_CWORD" = 1 ]; then
         mapfile -t COMPREPLY < <(compgen -W "$commands help --help --version" -- "$word")
         return

@@ -3,3 +3,4 @@ pub mod Parsing
 pub mod Rows
 pub mod Escapes
 pub mod Numbers
+pub mod Limits

@@ -111,6 +111,10 @@ diff_app =
 abbrev pub digest_app : App
 digest_app = with_rule (showing_app (codes "digest")) files_rule
 
+-- `check FILE..`
+abbrev pub check_app : App
+check_app = with_rule (showing_app (codes "check")) files_rule
+
 -- `info FILE..`
 abbrev pub info_app : App
 info_app = with_rule (showing_app (codes "info")) files_rule
@@ -172,12 +176,14 @@ AddsMade made sub new = IsOkAnd made (λ old. IsOkAnd sub (λ s. new ≡ with_su
 abbrev pub capt_alone : App
 capt_alone = on_top (λ s. record s { has_version = true; subcommand_required = true }) (new_app (codes "capt"))
 
--- `capt` with the subcommands that print one capture, with `diff` and `digest` too, with those that print, and with all
+-- `capt` with the subcommands that print one capture, with `diff`, `digest` and `check` too, with those that print, and
+-- with all
 abbrev pub listing_app : App
 listing_app = with_subcommand (with_subcommand capt_alone list_app.top) blocks_app.top
 
 abbrev pub comparing_app : App
-comparing_app = with_subcommand (with_subcommand listing_app diff_app.top) digest_app.top
+comparing_app =
+    with_subcommand (with_subcommand (with_subcommand listing_app diff_app.top) digest_app.top) check_app.top
 
 abbrev pub printing_app : App
 printing_app = with_subcommand (with_subcommand comparing_app info_app.top) report_app.top

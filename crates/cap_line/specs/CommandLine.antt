@@ -59,6 +59,11 @@ CannotShow name rows =
     ⊎ ((task : Task) × (json : Bool) × (count : Option ℕ) × (task_by name ≡ Some task)
     × Flags json (codes "json") rows × (data_in rows ≡ Ok count) × IsFalse (can_show task json count))
 
+-- The files or the output are refused by that fault.
+abbrev pub RefusesFiles : Text → List Row → LineFault → Type 0
+RefusesFiles name rows fault =
+    (task : Task) × (task_by name ≡ Some task) × (files_fault task (files_in rows) (out_in rows) ≡ Err fault)
+
 -- The job is what the rows say.
 pub record HasRows (task : Task) (rows : List Row) (job : Job) : Type 0 where
   pub task_is : job.task ≡ task
@@ -77,15 +82,15 @@ pub record HasRows (task : Task) (rows : List Row) (job : Job) : Type 0 where
 -- line.
 abbrev pub IsJobBy : Text → List Row → Result Job LineFault → Type 0
 IsJobBy name rows (Ok job) =
-    (task : Task) × (task_by name ≡ Some task) × (files_fault (files_in rows) (out_in rows) ≡ Ok tt)
+    (task : Task) × (task_by name ≡ Some task) × (files_fault task (files_in rows) (out_in rows) ≡ Ok tt)
     × HasRows task rows job × IsWholeJob job × IsShownJob job
 IsJobBy name rows (Err Help) = ⊥
 IsJobBy name rows (Err Line) =
     (task_by name ≡ None) ⊎ Lacks name rows ⊎ CannotReplace rows ⊎ CannotShow name rows
-    ⊎ (files_fault (files_in rows) (out_in rows) ≡ Err Line)
-IsJobBy name rows (Err Files) = files_fault (files_in rows) (out_in rows) ≡ Err Files
-IsJobBy name rows (Err Input) = files_fault (files_in rows) (out_in rows) ≡ Err Input
-IsJobBy name rows (Err Output) = files_fault (files_in rows) (out_in rows) ≡ Err Output
+    ⊎ RefusesFiles name rows Line
+IsJobBy name rows (Err Files) = RefusesFiles name rows Files
+IsJobBy name rows (Err Input) = RefusesFiles name rows Input
+IsJobBy name rows (Err Output) = RefusesFiles name rows Output
 IsJobBy name rows (Err Memory) = Unit {0}
 
 -- What the subcommand that was entered, with its rows, gives.

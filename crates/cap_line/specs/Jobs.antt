@@ -28,6 +28,7 @@ task_by name =
     if bytes_eq name (codes "blocks") then Some tasks.Blocks else
     if bytes_eq name (codes "diff") then Some tasks.Diff else
     if bytes_eq name (codes "digest") then Some tasks.Digest else
+    if bytes_eq name (codes "check") then Some tasks.Check else
     if bytes_eq name (codes "info") then Some tasks.Info else
     if bytes_eq name (codes "report") then Some tasks.Report else
     if bytes_eq name (codes "convert") then Some tasks.Convert else
@@ -45,12 +46,25 @@ format_by None = None
 format_by (Some name) =
     if bytes_eq name (codes "pcap") then Some Pcap else if bytes_eq name (codes "pcapng") then Some Pcapng else None
 
--- what the files and the output that are named are refused by, the first of these: no file, more than 32, standard
--- input twice, an output other than standard output that is one of them
-abbrev pub files_fault : List (List ℕ) → Option (List ℕ) → Result (Unit {0}) LineFault
-files_fault files out =
+-- how many files a task takes at most
+abbrev pub most_files : Task → ℕ
+most_files tasks.List = 32
+most_files tasks.Blocks = 32
+most_files tasks.Diff = 32
+most_files tasks.Digest = 32
+most_files tasks.Check = 4294967295
+most_files tasks.Info = 32
+most_files tasks.Report = 32
+most_files tasks.Convert = 32
+most_files tasks.Merge = 32
+most_files tasks.Join = 32
+
+-- what the files and the output that a task is given are refused by, the first of these: no file, more than the task
+-- takes, standard input twice, an output other than standard output that is one of them
+abbrev pub files_fault : Task → List (List ℕ) → Option (List ℕ) → Result (Unit {0}) LineFault
+files_fault task files out =
     if nat_lt (length files) 1 then Err Line else
-    if nat_lt 32 (length files) then Err Files else
+    if nat_lt (most_files task) (length files) then Err Files else
     if nat_lt 1 (count_by (λ f. bytes_eq f (codes "-")) files) then Err Input else
     if is_also_file out files then Err Output else Ok tt
 
@@ -61,6 +75,7 @@ is_whole_task tasks.List files to out = files == 1
 is_whole_task tasks.Blocks files to out = files == 1
 is_whole_task tasks.Diff files to out = files == 2
 is_whole_task tasks.Digest files to out = true
+is_whole_task tasks.Check files to out = true
 is_whole_task tasks.Info files to out = true
 is_whole_task tasks.Report files to out = true
 is_whole_task tasks.Convert files to out = (files == 1) && is_some to && is_some out
@@ -91,6 +106,7 @@ is_printing tasks.List = true
 is_printing tasks.Blocks = true
 is_printing tasks.Diff = true
 is_printing tasks.Digest = true
+is_printing tasks.Check = true
 is_printing tasks.Info = true
 is_printing tasks.Report = true
 is_printing tasks.Convert = false
@@ -108,10 +124,10 @@ abbrev pub can_show : Task → Bool → Option ℕ → Bool
 can_show task json None = not json || is_printing task
 can_show task json (Some count) = json && is_listing task
 
--- A job has 1 to 32 files, and all that its task takes.
+-- A job has 1 file or more, at most as many as its task takes, and all else that its task takes.
 pub record IsWholeJob (job : Job) : Type 0 where
   pub some : 1 ≤ vec_len job.files
-  pub most : vec_len job.files ≤ 32
+  pub most : vec_len job.files ≤ most_files job.task
   pub taken : IsTrue (is_whole_task job.task (vec_len job.files) job.to (option_map (λ o. o.now) job.out))
   pub replaced : IsTrue (can_replace job.whole (option_map (λ o. o.now) job.out))
 

@@ -4,9 +4,10 @@ ghost use Rattle.clap.specs.Words.{app_of, rule_of};
 ghost use Rattle.clap.specs.declared.builder.command.Command.TheViews.{out-Command as fields_of};
 ghost use Rattle.cap_line.specs.Command.{AddsMade, AddsRule, IsCapt, IsConvert, IsGathering, IsJoin, IsMerge};
 ghost use Rattle.cap_line.specs.Command.{IsOrderRule, IsRequiredToRule, IsToRule, IsWriting, blocks_app, capt_alone};
-ghost use Rattle.cap_line.specs.Command.{choice_rule, cutting_app, file_rule, files_rule, flag_rule, info_app};
-ghost use Rattle.cap_line.specs.Command.{comparing_app, data_rule, diff_app, digest_app, list_app, listing_app};
-ghost use Rattle.cap_line.specs.Command.{out_rule, printing_app, reading_app, report_app, required_rule, showing_app};
+ghost use Rattle.cap_line.specs.Command.{check_app, choice_rule, cutting_app, file_rule, files_rule, flag_rule};
+ghost use Rattle.cap_line.specs.Command.{comparing_app, data_rule, diff_app, digest_app, info_app, list_app};
+ghost use Rattle.cap_line.specs.Command.{listing_app, out_rule, printing_app, reading_app, report_app, required_rule};
+ghost use Rattle.cap_line.specs.Command.{showing_app};
 
 use crate::texts;
 use crate::usage::USAGE;
@@ -94,6 +95,14 @@ fn files<'a>(alloc: Global) -> Arg<'a>
     ensures local { result.global ≡ false }
 {
     file(alloc).num_args(1..).help(texts::FILES_HELP)
+}
+
+// `FILE..` of `check`, which takes more of them
+fn checked_files<'a>(alloc: Global) -> Arg<'a>
+    ensures rule { rule_of result ≡ files_rule }
+    ensures local { result.global ≡ false }
+{
+    files(alloc).help(texts::CHECKED_FILES_HELP)
 }
 
 // The option of that name, which takes one of those names
@@ -295,6 +304,17 @@ fn digest<'a>(alloc: Global) -> Result<Command<'a>, AllocError>
     )
 }
 
+// `check`
+fn check<'a>(alloc: Global) -> Result<Command<'a>, AllocError>
+    ensures app { IfOk result (λ c. app_of c ≡ check_app) }
+    ensures local { IfOk result (λ c. (fields_of c).has_globals ≡ false) }
+{
+    with_argument(
+        showing(alloc, "check", texts::CHECK_ABOUT, texts::CHECK_HELP),
+        checked_files(alloc),
+    )
+}
+
 // `info`
 fn info<'a>(alloc: Global) -> Result<Command<'a>, AllocError>
     ensures app { IfOk result (λ c. app_of c ≡ info_app) }
@@ -375,12 +395,13 @@ fn listing<'a>(alloc: Global) -> Result<Command<'a>, AllocError>
     with_subcommand(capt, blocks(alloc))
 }
 
-// `capt` with these, `diff` and `digest`
+// `capt` with these, `diff`, `digest` and `check`
 fn comparing<'a>(alloc: Global) -> Result<Command<'a>, AllocError>
     ensures { IfOk result (λ c. app_of c ≡ comparing_app) }
 {
     let capt = with_subcommand(listing(alloc), diff(alloc));
-    with_subcommand(capt, digest(alloc))
+    let capt = with_subcommand(capt, digest(alloc));
+    with_subcommand(capt, check(alloc))
 }
 
 // `capt` with the subcommands that print

@@ -4,14 +4,16 @@ ghost use Rattle.std.specs.Char.{is_ascii_digit};
 ghost use Rattle.std.specs.List.{list_all, list_any};
 ghost use Rattle.std.specs.Str.{bytes_eq};
 ghost use Rattle.cap_line.specs.Jobs.{can_replace, can_show, count_in, data_by, files_fault, format_by};
-ghost use Rattle.cap_line.specs.Jobs.{is_also_file, is_digits, is_whole_task, order_by, task_by};
+ghost use Rattle.cap_line.specs.Jobs.{is_also_file, is_digits, is_whole_task, most_files, order_by, task_by};
 
 use crate::faults::LineFault;
 use cap_bytes::Order;
 use cap_source::Format;
 
-// How many files a command reads at most.
+// How many files a command reads at most, and how many `check` does, which reads one after the other.
 const FILES_LIMIT: usize = 32;
+
+const CHECKED_LIMIT: usize = 4_294_967_295;
 
 // How many bytes of a packet are shown at most.
 const DATA_LIMIT: u32 = 262_144;
@@ -27,6 +29,8 @@ pub enum Task {
     Diff,
     /// Print a line for each of some files: the SHA-256 of its packets.
     Digest,
+    /// Print a line for each of some files, also for one that is refused: how it ends.
+    Check,
     /// Print a line for each of some files: what it holds.
     Info,
     /// Print what is counted of some files, and a line for each conversation.
@@ -45,7 +49,7 @@ pub enum Task {
 pub struct Job<'a> {
     /// What is to be done.
     pub task: Task,
-    /// The capture files, from 1 to 32, as they were named. `-` is standard input.
+    /// The capture files, as they were named: from 1 to 32, of `Check` to 4,294,967,295. `-` is standard input.
     pub files: Vec<&'a str>,
     /// Whether a cut end of a file is dropped, and not refused.
     pub allow_cut: bool,
@@ -65,8 +69,8 @@ pub struct Job<'a> {
     pub data: Option<u32>,
 }
 
-/// The task of that name, if it is one's: `list`, `blocks`, `diff`, `digest`, `info`, `report`, `convert`,
-/// `merge` or `join`.
+/// The task of that name, if it is one's: `list`, `blocks`, `diff`, `digest`, `check`, `info`, `report`,
+/// `convert`, `merge` or `join`.
 pub fn task_of(name: &str) -> Option<Task>
     ensures { result ≡ task_by name.now }
 {
@@ -75,6 +79,7 @@ pub fn task_of(name: &str) -> Option<Task>
         "blocks" => Some(Task::Blocks),
         "diff" => Some(Task::Diff),
         "digest" => Some(Task::Digest),
+        "check" => Some(Task::Check),
         "info" => Some(Task::Info),
         "report" => Some(Task::Report),
         "convert" => Some(Task::Convert),
@@ -113,7 +118,7 @@ pub fn is_whole(task: Task, files: usize, to: Option<Format>, out: Option<&str>)
     match task {
         Task::List | Task::Blocks => files == 1,
         Task::Diff => files == 2,
-        Task::Digest | Task::Info | Task::Report => true,
+        Task::Digest | Task::Check | Task::Info | Task::Report => true,
         Task::Convert => files == 1 && to.is_some() && out.is_some(),
         Task::Merge | Task::Join => out.is_some(),
     }
@@ -177,7 +182,8 @@ pub fn can_show(task: Task, json: bool, count: Option<u32>) -> bool
 {
     match task {
         Task::List => json || count.is_none(),
-        Task::Blocks | Task::Diff | Task::Digest | Task::Info | Task::Report => count.is_none(),
+        Task::Blocks | Task::Diff | Task::Digest | Task::Check | Task::Info | Task::Report =>
+            count.is_none(),
         Task::Convert | Task::Merge | Task::Join => !json && count.is_none(),
     }
 }
@@ -212,16 +218,27 @@ fn is_input(out: Option<&str>, files: &[&str]) -> bool
     }
 }
 
-/// Tests the files and the output that are named. Returns the first of these faults: `Line` if there is no
-/// file, `Files` if there are more than 32, `Input` if standard input, `-`, is named twice, `Output` if the output,
-/// other than `-`, is one of the files. Texts are compared.
-pub fn check_files(files: &[&str], out: Option<&str>) -> Result<(), LineFault>
-    ensures { result ≡ files_fault (map (λ f. f.now) files.now) (option_map (λ o. o.now) out.entry) }
+// How many files a task takes at most: 32, of `check` 4,294,967,295.
+fn files_limit(task: Task) -> usize
+    ensures { result ≡ most_files task }
+{
+    match task {
+        Task::Check => CHECKED_LIMIT,
+        Task::List | Task::Blocks | Task::Diff | Task::Digest | Task::Info => FILES_LIMIT,
+        Task::Report | Task::Convert | Task::Merge | Task::Join => FILES_LIMIT,
+    }
+}
+
+/// Tests the files and the output that a task is given. Returns the first of these faults: `Line` if there is no file,
+/// `Files` if there are more than the task takes, 32 or of `check` 4,294,967,295, `Input` if standard input, `-`, is
+/// named twice, `Output` if the output, other than `-`, is one of the files. Texts are compared.
+pub fn check_files(task: Task, files: &[&str], out: Option<&str>) -> Result<(), LineFault>
+    ensures { result ≡ files_fault task (map (λ f. f.now) files.now) (option_map (λ o. o.now) out.entry) }
 {
     if files.is_empty() {
         return Err(LineFault::Line);
     }
-    if files.len() > FILES_LIMIT {
+    if files.len() > files_limit(task) {
         return Err(LineFault::Files);
     }
     if standard_inputs(files) > 1 {

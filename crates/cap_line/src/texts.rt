@@ -91,6 +91,26 @@ of those before are printed.
 Examples: capt digest trace.pcap trace.pcapng
           set -o pipefail; zcat trace.pcap.gz | capt digest -";
 
+pub(crate) const CHECK_ABOUT: &str = "Tests each capture to its end";
+
+pub(crate) const CHECK_HELP: &str = "Prints, for each capture, as soon as it is read:
+  check I FORMAT packets P backward B untimed U truncated Q skipped S
+    interfaces N END
+Of its P packets B have a time below the greatest before them, U have no time,
+and Q were captured in part. S blocks are skipped; the capture has N interfaces.
+END is one of:
+  whole                         it is read to its end
+  whole cut                     likewise; --allow-cut dropped a cut rest
+  refused offset O rule R NAME  the record or block at O breaks rule R
+  read offset O                 the record or block at O can't be read
+  open                          it can't be opened
+Unless it is whole, the numbers are as of where it ends, and FORMAT is - if it
+isn't known. The captures after it are tested all the same. The status is 1 if
+any capture isn't whole.
+
+Examples: capt check morning.pcap evening.pcapng
+          set -o pipefail; zcat trace.pcap.gz | capt check -";
+
 pub(crate) const CONVERT_ABOUT: &str = "Writes the packets of a capture in either format";
 
 pub(crate) const CONVERT_HELP: &str =
@@ -173,3 +193,6 @@ pub(crate) const A_HELP: &str = "A capture, or - for standard input";
 pub(crate) const B_HELP: &str = "The capture that it is compared with, or -";
 
 pub(crate) const FILES_HELP: &str = "1 to 32 captures, of which one may be - for standard input";
+
+pub(crate) const CHECKED_FILES_HELP: &str =
+    "1 capture or more, of which one may be - for standard input";

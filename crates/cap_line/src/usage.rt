@@ -11,6 +11,7 @@ Usage: capt report [--allow-cut] FILE...
        capt blocks [--allow-cut] FILE
        capt diff [--allow-cut] A B
        capt digest [--allow-cut] FILE...
+       capt check [--allow-cut] FILE...
        capt convert [--allow-cut] [--order ORDER] --to FORMAT -o OUT FILE
        capt merge [--allow-cut] [--order ORDER] [--to FORMAT] -o OUT FILE...
        capt join [--allow-cut] [--order ORDER] [--to FORMAT] -o OUT FILE...
@@ -22,6 +23,7 @@ Commands:
   blocks   Prints a line for each block of a pcapng file
   diff     Compares the packets of two captures
   digest   Prints the SHA-256 of the packets of each capture
+  check    Tests each capture to its end
   convert  Writes the packets of a capture in either format
   merge    Writes the packets of captures as one, in the order of time
   join     Writes the whole IPv4 datagrams of captures, fragments joined
@@ -31,15 +33,16 @@ Options:
   -V, --version  Print version
       --explain  Of each command: name the file of a fault, and why, and count
                  what isn't carried on, as at a terminal
-      --json     Of report, info, list, blocks, diff, digest: print JSON Lines
+      --json     Of report, info, list, blocks, diff, digest, check: print
+                 JSON Lines
       --data N   Of list --json: show N bytes of each packet, default 16
       --whole    Of convert, merge and join: leave OUT as it was until all is
                  done
 
 A refusal names the file, the offset and the broken rule.
-Status 0: success; 1: a capture is refused, a file can't be opened, read,
-created or written, or memory ran out; 2: the command line is invalid; 3: diff
-found a difference.
+Status 0: success; 1: a capture is refused, or one that is checked isn't whole,
+a file can't be opened, read, created or written, or memory ran out; 2: the
+command line is invalid; 3: diff found a difference.
 ";
 
 /// What is printed for words that aren't all UTF-8.

@@ -156,7 +156,7 @@ fn job_of<'a>(alloc: Global, name: &str, matches: &ArgMatches<'a>) -> Result<Job
     if !can_show(task, json, data) {
         return Err(LineFault::Line);
     }
-    check_files(files.as_slice(), out)?;
+    check_files(task, files.as_slice(), out)?;
     Ok(Job {
         task,
         files,
@@ -183,8 +183,8 @@ fn job_entered<'a>(alloc: Global, matches: &ArgMatches<'a>) -> Result<Job<'a>, L
 
 /// Reads the words of a command line, the first of which is the program's name. If several faults
 /// hold, it is the first of `Help` and `Line`, as clap meets them, `Files`, `Input`, `Output`;
-/// `Memory` comes if a growth is refused. A job has 1 to 32 files and all that its task takes, and what it is to show
-/// its task can show.
+/// `Memory` comes if a growth is refused. A job has 1 file or more, at most as many as its task takes, and all else
+/// that its task takes; what it is to show its task can show.
 pub fn parse<'a, S: AsStr>(alloc: Global, words: &'a [S]) -> Result<Job<'a>, LineFault>
     ensures parses { Parses (map S.text words.entry.now) result }
     ensures whole { IfOk result IsWholeJob }

@@ -7,11 +7,12 @@ use cap_line::{
 };
 use cap_source::Format;
 
-const TASKS: [(&str, Option<Task>); 12] = [
+const TASKS: [(&str, Option<Task>); 13] = [
     ("list", Some(Task::List)),
     ("blocks", Some(Task::Blocks)),
     ("diff", Some(Task::Diff)),
     ("digest", Some(Task::Digest)),
+    ("check", Some(Task::Check)),
     ("info", Some(Task::Info)),
     ("report", Some(Task::Report)),
     ("convert", Some(Task::Convert)),
@@ -37,7 +38,7 @@ const FORMATS: [(Option<&str>, Option<Format>); 4] = [
 ];
 
 // Tasks with a number of files, a format and an output, and whether that is all that they take.
-const WHOLE: [(Task, usize, Option<Format>, Option<&str>, bool); 16] = [
+const WHOLE: [(Task, usize, Option<Format>, Option<&str>, bool); 19] = [
     (Task::List, 1, None, None, true),
     (Task::List, 2, None, None, false),
     (Task::Blocks, 1, None, None, true),
@@ -46,6 +47,9 @@ const WHOLE: [(Task, usize, Option<Format>, Option<&str>, bool); 16] = [
     (Task::Diff, 2, None, None, true),
     (Task::Diff, 3, None, None, false),
     (Task::Digest, 32, None, None, true),
+    (Task::Check, 1, None, None, true),
+    (Task::Check, 33, None, None, true),
+    (Task::Check, 4_294_967_295, None, None, true),
     (Task::Info, 32, None, None, true),
     (Task::Report, 2, None, None, true),
     (Task::Convert, 1, Some(Format::Pcap), Some("-"), true),
@@ -124,7 +128,7 @@ fn bytes_shown_are_a_number(rt: HostRuntime) {
 }
 
 // Tasks, whether JSON Lines are asked for, how many bytes, and whether the task can show that.
-const SHOWN: [(Task, bool, Option<u32>, bool); 14] = [
+const SHOWN: [(Task, bool, Option<u32>, bool); 17] = [
     (Task::List, false, None, true),
     (Task::List, true, None, true),
     (Task::List, true, Some(0), true),
@@ -135,6 +139,9 @@ const SHOWN: [(Task, bool, Option<u32>, bool); 14] = [
     (Task::Diff, true, Some(16), false),
     (Task::Digest, true, None, true),
     (Task::Digest, true, Some(16), false),
+    (Task::Check, false, None, true),
+    (Task::Check, true, None, true),
+    (Task::Check, true, Some(16), false),
     (Task::Info, true, None, true),
     (Task::Report, true, Some(16), false),
     (Task::Merge, false, None, true),
@@ -148,23 +155,41 @@ fn json_is_of_what_prints(rt: HostRuntime) {
     }
 }
 
-// Files and an output that are named, and what comes of them.
-static NAMED: [(&[&str], Option<&str>, Result<(), LineFault>); 10] = [
-    (&["a"], None, Ok(())),
-    (&["a", "a", "-"], Some("b"), Ok(())),
-    (&["a", "-"], Some("-"), Ok(())),
-    (&["a"; 32], None, Ok(())),
-    (&[], Some("b"), Err(LineFault::Line)),
-    (&["-"; 33], Some("-"), Err(LineFault::Files)),
-    (&["a", "-", "-"], Some("a"), Err(LineFault::Input)),
-    (&["a", "b"], Some("b"), Err(LineFault::Output)),
-    (&["a", "b"], Some("./b"), Ok(())),
-    (&["a", "b"], Some("B"), Ok(())),
+// A task, the files and the output that it is given, and what comes of them.
+static NAMED: [(Task, &[&str], Option<&str>, Result<(), LineFault>); 18] = [
+    (Task::List, &["a"], None, Ok(())),
+    (Task::Merge, &["a", "a", "-"], Some("b"), Ok(())),
+    (Task::Merge, &["a", "-"], Some("-"), Ok(())),
+    (Task::Report, &["a"; 32], None, Ok(())),
+    (Task::Digest, &["a"; 32], None, Ok(())),
+    (Task::Check, &["a"; 32], None, Ok(())),
+    (Task::Check, &["a"; 33], None, Ok(())),
+    (Task::Check, &["a"; 1000], None, Ok(())),
+    (Task::Merge, &[], Some("b"), Err(LineFault::Line)),
+    (Task::Check, &[], None, Err(LineFault::Line)),
+    (Task::Merge, &["-"; 33], Some("-"), Err(LineFault::Files)),
+    (Task::Report, &["a"; 33], None, Err(LineFault::Files)),
+    (Task::Digest, &["a"; 33], None, Err(LineFault::Files)),
+    (Task::Check, &["-"; 33], None, Err(LineFault::Input)),
+    (
+        Task::Join,
+        &["a", "-", "-"],
+        Some("a"),
+        Err(LineFault::Input),
+    ),
+    (
+        Task::Convert,
+        &["a", "b"],
+        Some("b"),
+        Err(LineFault::Output),
+    ),
+    (Task::Merge, &["a", "b"], Some("./b"), Ok(())),
+    (Task::Merge, &["a", "b"], Some("B"), Ok(())),
 ];
 
 #[test]
 fn files_that_are_named_are_tested_in_order(rt: HostRuntime) {
-    for (files, out, answer) in &NAMED {
-        same!(&rt; check_files(*files, *out), *answer, *files);
+    for (task, files, out, answer) in &NAMED {
+        same!(&rt; check_files(*task, *files, *out), *answer, *files);
     }
 }
