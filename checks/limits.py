@@ -198,7 +198,7 @@ def seconds(edges):
 
 
 def files(edges):
-    """Files: 32."""
+    """Files: 32, but of `check`."""
     out = os.path.join(edges.folder, "out")
     file = edges.file("one", vector("CARRY_PCAP"))
     edges.accepts("32 files, info", ["info", *[file] * 32], "files 32\n", "file 32 pcap packets 1 ")
@@ -206,6 +206,8 @@ def files(edges):
     edges.accepts("32 files, merge", ["merge", "-o", out, *[file] * 32])
     edges.accepts("32 files, merged", ["list", out], "packet 32 ")
     edges.accepts("32 files, join", ["join", "-o", out, *[file] * 32])
+    edges.accepts("33 files, check", ["check", *[file] * 33], "check 1 pcap packets 1 ", "check 33 pcap packets 1 ")
+    edges.accepts("1,000 files, check", ["check", *[file] * 1000], "check 1000 pcap packets 1 ")
     longest = edges.file("longest", SECTION, INTERFACE, packet(0, 1, b"\1", struct.pack("<HH", 1, 0) * ((524_288 - 36) // 4)))
     edges.takes("32 files with a block of 524,288 bytes", ["report", *[longest] * 32], 24)
     for words in (["info"], ["report"], ["digest"], ["merge", "-o", out], ["join", "-o", out]):

@@ -125,6 +125,21 @@ run digest "$one" "$work/folder"; check 'digest of a folder' 1 "digest 1 $digest
 run digest "$one" "$work/missing"; check 'digest of a missing file' 1 '' 'fault: open file 2'
 run digest - -; check 'digest of standard input twice' 2 '' 'fault: input'
 "$program" digest "$one" > /dev/full 2> "$work/err"; status=$?; : > "$work/out"; check 'digest on a full disk' 1 '' 'fault: write'
+# check: a line for each file, also for one that is refused, can't be read or can't be opened
+held='packets 1 backward 0 untimed 0 truncated 0 skipped 0 interfaces 1'
+none='packets 0 backward 0 untimed 0 truncated 0 skipped 0 interfaces'
+run check "$one" "$work/want.pcapng" "$work/big.pcap"; check 'check' 0 "check 1 pcap $held whole
+check 2 pcapng $held whole
+check 3 pcap $held whole" ''
+input=$one; run check -; check 'check of standard input' 0 "check 1 pcap $held whole" ''; input=
+run check "$one" "$work/cut.pcap" "$work/folder" "$work/missing" "$one"; check 'check of files that are not whole' 1 "check 1 pcap $held whole
+check 2 pcap $none 1 refused offset 24 rule 3 cut
+check 3 - $none 0 read offset 0
+check 4 - $none 0 open
+check 5 pcap $held whole" ''
+run check --allow-cut "$work/cut.pcap"; check 'check of a cut file, accepted' 0 "check 1 pcap $none 1 whole cut" ''
+run check - -; check 'check of standard input twice' 2 '' 'fault: input'
+"$program" check "$one" > /dev/full 2> "$work/err"; status=$?; : > "$work/out"; check 'check on a full disk' 1 '' 'fault: write'
 # merge: the packet twice, each behind an interface of its own
 { cat "$work/want.pcapng"; tail -c +29 "$work/want.pcapng" | head -c 32
   printf '\x06\0\0\0\x24\0\0\0\x01\0\0\0\0\0\0\0\xa0\x25\x26\0\x04\0\0\0\x04\0\0\0\x01\x02\x03\x04\x24\0\0\0'; } > "$work/twice"

@@ -509,6 +509,13 @@ def prints(text):
     return 0, text.encode(), b"", None
 
 
+def checked(*ends):
+    """The lines of files that are checked: CARRY_PCAPNG if it is whole, else it without its last byte, or no file."""
+    facts = {"whole": "pcapng packets 1 {} interfaces 1", "open": "- packets 0 {} interfaces 0"}
+    cut = "pcapng packets 0 {} interfaces 1"
+    return "".join(f"check {n} {facts.get(end, cut).format('backward 0 untimed 0 truncated 0 skipped 0')} {end}\n" for n, end in enumerate(ends, 1))
+
+
 def differs(text):
     """Prints a difference of two captures."""
     return 3, text.encode(), b"", None
@@ -533,6 +540,9 @@ ENDED_JSON = ('{"type":"differ","packet":1,"differs":["end"]}\n' + SIDE_JSON % (
 LATER_JSON = ('{"type":"differ","packet":1,"differs":["time","data"]}\n' + SIDE_JSON % ("-", (LISTED_JSON % "01020304").strip())
               + SIDE_JSON % ("+", (LISTED_JSON % "01020305").strip().replace("60", "24").replace("500000", "500001", 1)))
 DIGEST_JSON = f'{{"type":"digest","file":%d,"sha256":"{hashlib.sha256(bytes.fromhex(CARRIED_TEXT)).hexdigest()}","packets":1}}\n'
+CUT_AT_60 = "refused offset 60 rule 3 cut"
+CHECK_JSON = ('{"type":"check","file":%d,"format":"pcapng","packets":1,"backward":0,"untimed":0,"truncated":0,"skipped":0,"interfaces":1,'
+              '"whole":true,"cut":false}\n')
 BLOCKS_JSON = ('{"type":"block","n":1,"offset":0,"order":"little","kind":"0a0d0d0a","total":28}\n'
                '{"type":"block","n":2,"offset":28,"order":"little","kind":"00000001","total":32}\n'
                '{"type":"block","n":3,"offset":60,"order":"little","kind":"00000006","total":36}\n')
@@ -556,6 +566,10 @@ LINES = [
     ("digest --allow-cut - < cut", prints(digests([""], [0]))),
     ("digest a cut b", (1, digests([CARRIED_TEXT], [1]).encode(), b"refused: file 2 offset 60 rule 3 cut\n", None)),
     ("digest a none", (1, b"", b"fault: open file 2\n", None)), ("digest --json a b", prints(DIGEST_JSON % 1 + DIGEST_JSON % 2)),
+    ("check a b", prints(checked("whole", "whole"))), ("check -", prints(checked("whole"))), ("check - -", INPUT),
+    ("check --allow-cut - < cut", prints(checked("whole cut"))), (f"check {'a ' * 33}", prints(checked(*["whole"] * 33))),
+    (f"check {'a ' * 33}- -", INPUT), ("check a cut b", (1, checked("whole", CUT_AT_60, "whole").encode(), b"", None)),
+    ("check none a", (1, checked("open", "whole").encode(), b"", None)), ("check --json a b", prints(CHECK_JSON % 1 + CHECK_JSON % 2)),
     ("report a b", prints(f"{TWO}total packets 2 bytes 8 truncated 0\n{frames(short=2)}")), ("report - -", INPUT),
     ("report - --allow-cut < cut", prints(f"{TOLD_CUT}total packets 0 bytes 0 truncated 0\n{frames()}")),
     ("convert --to pcap -o c a", writes(CARRIED)), ("convert --order little --to pcap -o - -", gives(CARRIED)),
@@ -575,13 +589,14 @@ LINES = [
     ("report --json a none", (1, b"", b'{"type":"fault","fault":"open","file":2,"path":"none"}\n', None)), ("info --json - -", INPUT),
     ("merge --whole -o c a b -", writes(THRICE)), ("merge --whole -o c cut", (1, b"", b"refused: file 1 offset 60 rule 3 cut\n", None)),
     ("--version", prints(VERSION)), ("-V", prints(VERSION)),
-    *((words, HELP) for words in ("--help", "-h", "list --help", "list -h", "blocks -h", "digest -h", "info --help", "convert -h", "help",
+    *((words, HELP) for words in ("--help", "-h", "list --help", "list -h", "blocks -h", "digest -h", "check -h", "info --help", "convert -h", "help",
         "help merge")),
     *((words, FAULTY) for words in (
         "", "help frobnicate", "frobnicate a", "--allow-cut list a", "list", "list a b", "list --version", "list --allow-cut --allow-cut a",
         "diff", "diff a", "diff a b a", "diff a --order big b", "diff -o c a b", "diff --to pcap a b", "diff --whole a b", "diff --data 4 a b",
         "diff --json --data 4 a b", "diff --json --json a b",
-        "list --allow-cut=yes a", "list --order big a", "list -x a", "blocks", "blocks a b", "digest", "digest -o c a", "info", "info -o c a",
+        "list --allow-cut=yes a", "list --order big a", "list -x a", "blocks", "blocks a b", "digest", "digest -o c a", "check", "check -o c a",
+        "check --whole a", "check --order big a", "check --data 4 a", "info", "info -o c a",
         "report", "report -o c a",
         "convert -o c a", "convert --to pcap a", "convert --to pcap -o c", "convert --to tar -o c a", "convert --to pcap -o c a b",
         "convert --order middle --to pcap -o c a", "convert --to pcap --to pcap -o c a", "merge a b", "merge -o c", "merge --to tar -o c a",
@@ -589,7 +604,8 @@ LINES = [
         "merge --to pcap --to pcap -o c a", "report --to pcap a",
         "list --data 4 a", "list --data 4 --allow-cut a", "list --json --data", "list --json --data= a", "list --json --data +4 a",
         "list --json --data 4.0 a", "list --json --data -4 a", "list --json --data 262145 a", "list --json --data 4 --data 4 a",
-        "list --json --json a", "list --json=yes a", "blocks --json --data 4 a", "digest --json --data 4 a", "info --json --data 4 a",
+        "list --json --json a", "list --json=yes a", "blocks --json --data 4 a", "digest --json --data 4 a", "check --json --data 4 a",
+        "info --json --data 4 a",
         "report --json --data 4 a",
         "convert --json --to pcap -o c a", "merge --json -o c a", "join --json -o c a")),
 ]
