@@ -4,7 +4,6 @@ use Rattle.std.proofs.Common.{get_or, arith, Option, refl, sym, ap, subst, ◌�
 use Rattle.std.proofs.Common.{append_assoc, Ok, Err, length-append, map, suc, drop}
 use Rattle.std.proofs.Math.Seq.{take-append-add, take-append_seam}
 use Rattle.std.proofs.lemmas.List.{length-map, length-take-le}
-use Rattle.std.specs.List.{list_all}
 use Rattle.std.specs.Prelude.{◌&&◌}
 use Rattle.cap_bytes.specs.declared.faults.Fault.{Fault}
 use Rattle.cap_bytes.specs.declared.faults.Fault.TheVariants.{Memory, Read, Refused, Write}
@@ -133,17 +132,6 @@ printed-fault form tail files later opened whole Memory old mid new p wrote = (
 pub printed-all : (form : Form) (tail : Tail) (files : List (Option Opened)) (whole : Bool) (old new : List ℕ)
     → ArePrinted form tail files whole old new → WritesChecks form tail files old (Ok whole) new
 printed-all form tail files whole old new p = (p.checks, p.checked, p.whole_are, p.written)
-
--- what is true of all is true of the one at a place
-pub all-at : {R : Type 0} (test : R → Bool) (all : List R) (place : ℕ) (x : R) → x ≡ get_or all place x
-    → place < length all
-    → list_all test all ≡ true → test x ≡ true
-all-at test (y ∷ all) (suc place) x is within t =
-    all-at test all place x is (omega arith) (second (test y) (list_all test all) t)
-  where
-    second : (a b : Bool) → (a && b) ≡ true → b ≡ true
-    second a b h = grind arith
-all-at test all place x is within t = grind arith
 
 -- the first of some files, with the one after them
 taken-behind : {R : Type 0} (opened : R → Option Opened) (all : List R) (place : ℕ) (x : R)

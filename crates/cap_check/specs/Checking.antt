@@ -57,30 +57,38 @@ checked_after checked [] = checked
 checked_after checked (packet meta frame ∷ items) = checked_after (with_checked checked meta) items
 checked_after checked (refused refusal ∷ items) = checked
 
--- A file that was opened: its bytes, and whether a read of it can fail.
+-- A file that was opened: its bytes, if its device tells them, and whether a read of it can fail.
 pub record Opened : Type 0 where
+  pub told : Bool
   pub bytes : List ℕ
   pub can_fail : Bool
 
--- The file of that number, which could be opened, was checked: to its end, to its refusal, or to a read that failed,
--- after some of its packets.
-abbrev pub IsCounted : Tail → ℕ → Opened → Checked → CheckEnd → Type 0
-IsCounted tail file opened counts (Whole end) =
-    (refusal_of (file_items tail file opened.bytes) ≡ None)
-    × (counts ≡ checked_after nothing_checked (file_items tail file opened.bytes))
-    × (end ≡ file_ending tail file opened.bytes)
-IsCounted tail file opened counts (Refusing refusal end) =
-    (refusal_of (file_items tail file opened.bytes) ≡ Some refusal)
-    × (counts ≡ checked_after nothing_checked (file_items tail file opened.bytes))
-    × (end ≡ file_ending tail file opened.bytes)
-IsCounted tail file opened counts (Reading offset) =
-    IsTrue opened.can_fail × (n : ℕ)
-    × (counts ≡ checked_after nothing_checked (take n (file_items tail file opened.bytes)))
-IsCounted tail file opened counts Opening = ⊥
+-- A read fails only of a device that can fail, and a file that was opened ends otherwise than unopened.
+abbrev pub FailsIf : Bool → CheckEnd → Type 0
+FailsIf can_fail (Whole end) = Unit {0}
+FailsIf can_fail (Refusing refusal end) = Unit {0}
+FailsIf can_fail (Reading offset) = IsTrue can_fail
+FailsIf can_fail Opening = ⊥
+
+-- The file of that number with those bytes was read to its end, to its refusal, or to a read that failed, after some of
+-- its packets.
+abbrev pub IsCounted : Tail → ℕ → List ℕ → Checked → CheckEnd → Type 0
+IsCounted tail file bytes counts (Whole end) =
+    (refusal_of (file_items tail file bytes) ≡ None)
+    × (counts ≡ checked_after nothing_checked (file_items tail file bytes))
+    × (end ≡ file_ending tail file bytes)
+IsCounted tail file bytes counts (Refusing refusal end) =
+    (refusal_of (file_items tail file bytes) ≡ Some refusal)
+    × (counts ≡ checked_after nothing_checked (file_items tail file bytes))
+    × (end ≡ file_ending tail file bytes)
+IsCounted tail file bytes counts (Reading offset) =
+    (n : ℕ) × (counts ≡ checked_after nothing_checked (take n (file_items tail file bytes)))
+IsCounted tail file bytes counts Opening = ⊥
 
 -- The file of that number was checked, whether it could be opened or not.
 abbrev pub IsChecked : Tail → ℕ → Option Opened → Check → Type 0
-IsChecked tail file (Some opened) check = IsCounted tail file opened check.counts check.end
+IsChecked tail file (Some opened) check =
+    FailsIf opened.can_fail check.end × (IsTrue opened.told → IsCounted tail file opened.bytes check.counts check.end)
 IsChecked tail file None check = check ≡ record { counts = nothing_checked; end = Opening }
 
 -- Files that have the numbers from that one on were checked, each by itself.
@@ -90,13 +98,6 @@ AreChecked tail file [] (check ∷ checks) = ⊥
 AreChecked tail file (opened ∷ files) [] = ⊥
 AreChecked tail file (opened ∷ files) (check ∷ checks) =
     IsChecked tail file opened check × AreChecked tail (file + 1) files checks
-
--- a read fails only of a device that can fail
-abbrev pub FailsIf : Bool → CheckEnd → Type 0
-FailsIf can_fail (Whole end) = Unit {0}
-FailsIf can_fail (Refusing refusal end) = Unit {0}
-FailsIf can_fail (Reading offset) = IsTrue can_fail
-FailsIf can_fail Opening = ⊥
 
 -- whether a file was read whole
 abbrev pub is_whole_end : CheckEnd → Bool

@@ -1,13 +1,12 @@
 //! A file, checked: its packets counted to its end, to its refusal, or to a read that fails; and files, one after
 //! another.
-ghost use Rattle.std.specs.Prelude.{◌≡◌, ◌+◌, ◌≤◌, ◌^◌, Some, IfOk, IfSome, IsOk, IsOkUnless, IsTrue, false, map};
+ghost use Rattle.std.specs.Prelude.{◌≡◌, ◌⊎◌, ◌+◌, ◌≤◌, ◌^◌, Some, IfErr, IfOk, IsOkUnless, IsTrue, false, map};
 ghost use Rattle.std.specs.Prelude.{option_map, vec_len};
-ghost use Rattle.std.specs.List.{list_all};
 ghost use Rattle.cap_bytes.specs.Device.{WriterKeeps, writer_of};
 ghost use Rattle.cap_bytes.specs.Printing.{is_write};
 ghost use Rattle.cap_source.specs.Feed.{FeedKeeps};
 ghost use Rattle.cap_check.specs.CheckText.{WritesCheck, WritesChecks};
-ghost use Rattle.cap_check.specs.Checking.{FailsIf, IsChecked, nothing_checked};
+ghost use Rattle.cap_check.specs.Checking.{IsChecked, nothing_checked};
 ghost use Rattle.cap_check.specs.inner.Taking.{EndsAt, FailsHere, TakesPackets};
 
 use crate::checked::{Check, CheckEnd, Checked};
@@ -43,9 +42,11 @@ pub fn check_file<R: Source>(
     file: u32,
     tail: Tail,
 ) -> Result<Check, Fault>
-    ensures checked { IsTrue (R.tells_coming source)
-        → IfOk result (IsChecked tail file (Some (record { bytes = R.coming source; can_fail = R.can_fail source }))) }
-    ensures read { IfOk result (λ check. FailsIf (R.can_fail source) check.end) }
+    ensures checked { IfOk result (IsChecked tail file (Some (record {
+      told = R.tells_coming source;
+      bytes = R.coming source;
+      can_fail = R.can_fail source;
+    }))) }
     ensures fault { IsOkUnless result Fault.Memory }
 {
     let mut counts = Checked::new();
@@ -74,8 +75,11 @@ fn check_opened<R: Source>(
     file: u32,
     tail: Tail,
 ) -> Result<Check, Fault>
-    ensures checked { IfSome source (λ s. IsTrue (R.tells_coming s)) → IfOk result (IsChecked tail file
-        (option_map (λ s. record { bytes = R.coming s; can_fail = R.can_fail s }) source)) }
+    ensures checked { IfOk result (IsChecked tail file (option_map (λ s. record {
+      told = R.tells_coming s;
+      bytes = R.coming s;
+      can_fail = R.can_fail s;
+    }) source)) }
     ensures fault { IsOkUnless result Fault.Memory }
 {
     match source {
@@ -96,10 +100,14 @@ pub fn check_to<R: Source, W: Sink>(
     form: Form,
     writer: &mut W,
 ) -> Result<bool, Fault>
-    ensures text { IfSome source (λ s. IsTrue (R.tells_coming s)) → IsTrue (W.tells_held writer.old)
-        → WritesCheck form tail file (option_map (λ s. record { bytes = R.coming s; can_fail = R.can_fail s }) source)
-        (W.held writer.old) result (W.held writer.new) }
+    ensures text { IsTrue (W.tells_held writer.old) → WritesCheck form tail file (option_map (λ s. record {
+      told = R.tells_coming s;
+      bytes = R.coming s;
+      can_fail = R.can_fail s;
+    }) source) (W.held writer.old) result
+        (W.held writer.new) }
     ensures writer { WriterKeeps (writer_of W.Sink writer.old) (is_write result) (writer_of W.Sink writer.new) }
+    ensures fault { IfErr result (λ fault. (fault ≡ Fault.Memory) ⊎ (fault ≡ Fault.Write)) }
 {
     let check = check_opened(alloc, source, file, tail)?;
     let line = check_line(form, file, &check);
@@ -118,11 +126,14 @@ pub fn check_all_to<R: Source, W: Sink>(
     writer: &mut W,
 ) -> Result<bool, Fault>
     requires most { vec_len sources ≤ 4294967295 }
-    ensures text { IsTrue (list_all R.tells_coming sources.items) → IsTrue (W.tells_held writer.old)
-        → WritesChecks form tail
-        (map (λ s. Some (record { bytes = R.coming s; can_fail = R.can_fail s })) sources.items) (W.held writer.old)
+    ensures text { IsTrue (W.tells_held writer.old) → WritesChecks form tail (map (λ s. Some (record {
+      told = R.tells_coming s;
+      bytes = R.coming s;
+      can_fail = R.can_fail s;
+    })) sources.items) (W.held writer.old)
         result (W.held writer.new) }
     ensures writer { WriterKeeps (writer_of W.Sink writer.old) (is_write result) (writer_of W.Sink writer.new) }
+    ensures fault { IfErr result (λ fault. (fault ≡ Fault.Memory) ⊎ (fault ≡ Fault.Write)) }
 {
     let mut are_whole = true;
     let mut files = 0u32;

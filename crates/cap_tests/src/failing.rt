@@ -10,6 +10,7 @@ use crate::hex_vectors::{
 use crate::report::TAGGED_REPORT;
 use cap_blocks::{PacketFields, put_interface, put_packet, put_section};
 use cap_bytes::{Fault, Order, Pieces, Sink, Source, Tail, Tracked};
+use cap_check::check_all_to;
 use cap_line::Task;
 use cap_pcap::{PcapHeader, RecordTime, put_header, put_record};
 use cap_print::Form;
@@ -41,6 +42,10 @@ const DIGEST_LINES: &str = "digest 1 sha256 \
     ae7312267c797be18247384507fd1956f2af9397397bd84f72a62298f1352b4e packets 1\n\
     digest 2 sha256 \
     e3b0c44298fc1c149afbf4c8996fb92427ae41e4649b934ca495991b7852b855 packets 0\n";
+
+const CHECK_LINES: &str =
+    "check 1 pcap packets 2 backward 1 untimed 0 truncated 0 skipped 0 interfaces 1 whole\n\
+    check 2 pcap packets 0 backward 0 untimed 0 truncated 0 skipped 0 interfaces 1 whole\n";
 
 const FILE_LINES: &str = "files 2\n\
     file 1 pcap packets 2 bytes 0 truncated 0 skipped 0 first 1+0/1000000 last 5+0/1000000\n\
@@ -86,6 +91,7 @@ fn call<R: Source, W: Sink>(
             diff_to(alloc, sources.remove(0), second, tail, writer).map(|_| ())
         }
         Task::Digest => digests_to(alloc, sources, tail, Form::Text, writer),
+        Task::Check => check_all_to(alloc, sources, tail, Form::Text, writer).map(|_| ()),
         Task::Info => file_lines(alloc, sources, tail, writer),
         Task::Report => report(alloc, sources, tail, writer),
         Task::Convert => {
@@ -166,7 +172,7 @@ fn fails_after_each_byte(rt: &impl Abort, alloc: Global, row: Row, wanted: &[u8]
     }
 }
 
-const PRINTED: [(Row, &str); 7] = [
+const PRINTED: [(Row, &str); 8] = [
     ((Task::List, &[CARRY_PCAP]), LINE),
     ((Task::Blocks, &[OPTIONS_PCAPNG]), BLOCK_LINES),
     (
@@ -175,6 +181,7 @@ const PRINTED: [(Row, &str); 7] = [
     ),
     ((Task::Diff, &[CARRY_PCAP, ETHERNET_ALONE]), END_LINES),
     ((Task::Digest, &[CARRY_PCAP, HEADER_ONLY]), DIGEST_LINES),
+    ((Task::Check, &[RUNS_BACK, HEADER_ONLY]), CHECK_LINES),
     ((Task::Info, &[RUNS_BACK, OPTIONS_PCAPNG]), FILE_LINES),
     ((Task::Report, &[TAGGED_FRAMES]), TAGGED_REPORT),
 ];

@@ -173,7 +173,7 @@ fn a_packet_runs_back(rt: HostRuntime) {
 }
 
 // How a run ended, what is left, and what is known of it.
-const TOLD: [(Outcome, [u128; 3], &str); 11] = [
+const TOLD: [(Outcome, [u128; 3], &str); 12] = [
     (Outcome::Done, [0, 0, 0], ""),
     (Outcome::Done, [1, 0, 0], "not carried on: 1 block\n"),
     (Outcome::Done, [3, 0, 0], "not carried on: 3 blocks\n"),
@@ -201,6 +201,7 @@ const TOLD: [(Outcome, [u128; 3], &str); 11] = [
     (Outcome::Fault(CUT), [12, 1, 1], ""),
     (Outcome::Line(LineFault::Help), [12, 1, 1], ""),
     (Outcome::Differ, [12, 1, 1], ""),
+    (Outcome::NotWhole, [12, 1, 1], ""),
 ];
 
 // What is printed of what is left.

@@ -24,9 +24,10 @@ const SECOND_FILE: Refusal = Refusal {
 };
 
 // What is printed of each outcome.
-const OBJECTS: [(Outcome, &str); 10] = [
+const OBJECTS: [(Outcome, &str); 11] = [
     (Outcome::Done, ""),
     (Outcome::Differ, ""),
+    (Outcome::NotWhole, ""),
     (
         Outcome::Fault(Fault::Refused(SECOND_FILE)),
         "{\"type\":\"refused\",\"file\":2,\"offset\":24,\"rule\":6,\"name\":\"block-trailer\",\

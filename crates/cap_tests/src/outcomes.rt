@@ -17,9 +17,10 @@ const SECOND_FILE: Refusal = Refusal {
 };
 
 // What is printed of each outcome but the usage, and the status.
-const TOLD: [(Outcome, &str, u8); 12] = [
+const TOLD: [(Outcome, &str, u8); 13] = [
     (Outcome::Done, "", 0),
     (Outcome::Differ, "", 3),
+    (Outcome::NotWhole, "", 1),
     (
         Outcome::Fault(Fault::Refused(SECOND_FILE)),
         "refused: file 2 offset 24 rule 6 block-trailer\n",
@@ -56,7 +57,11 @@ fn displayed(alloc: Global, outcome: &Outcome) -> Option<String> {
     match outcome {
         Outcome::Fault(fault) => format!(in alloc; "{fault}\n").ok(),
         Outcome::Line(fault) => format!(in alloc; "{fault}\n").ok(),
-        Outcome::Done | Outcome::Differ | Outcome::Open(_) | Outcome::Create => None,
+        Outcome::Done
+        | Outcome::Differ
+        | Outcome::NotWhole
+        | Outcome::Open(_)
+        | Outcome::Create => None,
     }
 }
 
@@ -142,7 +147,7 @@ type Flushed = (Result<Finding, Fault>, bool, Result<(), Outcome>);
 
 const REFUSED: Fault = Fault::Refused(SECOND_FILE);
 
-const FLUSHED: [Flushed; 6] = [
+const FLUSHED: [Flushed; 8] = [
     (Ok(Finding::Nothing), false, Ok(())),
     (
         Ok(Finding::Nothing),
@@ -152,6 +157,12 @@ const FLUSHED: [Flushed; 6] = [
     (Ok(Finding::Difference), false, Err(Outcome::Differ)),
     (
         Ok(Finding::Difference),
+        true,
+        Err(Outcome::Fault(Fault::Write)),
+    ),
+    (Ok(Finding::NotWhole), false, Err(Outcome::NotWhole)),
+    (
+        Ok(Finding::NotWhole),
         true,
         Err(Outcome::Fault(Fault::Write)),
     ),

@@ -1,4 +1,5 @@
 pub mod Parting
+pub mod CheckedFiles
 pub mod DiffWords
 mod Merging
 mod Leaving

@@ -28,6 +28,7 @@ is_of_names lines.Memory = false
 abbrev pub is_of_file : Outcome → Bool
 is_of_file outcomes.Done = false
 is_of_file outcomes.Differ = false
+is_of_file outcomes.NotWhole = false
 is_of_file (outcomes.Line fault) = is_of_names fault
 is_of_file (outcomes.Fault fault) = is_of_files fault
 is_of_file (outcomes.Open n) = true

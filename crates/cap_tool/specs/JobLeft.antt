@@ -17,6 +17,7 @@ LeavesTask tasks.List tail files left = left ≡ nothing_left
 LeavesTask tasks.Blocks tail files left = left ≡ nothing_left
 LeavesTask tasks.Diff tail files left = left ≡ nothing_left
 LeavesTask tasks.Digest tail files left = left ≡ nothing_left
+LeavesTask tasks.Check tail files left = left ≡ nothing_left
 LeavesTask tasks.Info tail files left = left ≡ nothing_left
 LeavesTask tasks.Report tail files left = left ≡ nothing_left
 LeavesTask tasks.Convert tail files left = left ≡ left_of_file (file_ending tail 1 (only_of files))

@@ -56,6 +56,7 @@ left_text left =
 abbrev pub left_told : Outcome → Left → List ℕ
 left_told outcomes.Done left = left_text left
 left_told outcomes.Differ left = []
+left_told outcomes.NotWhole left = []
 left_told (outcomes.Line fault) left = []
 left_told (outcomes.Fault fault) left = []
 left_told (outcomes.Open file) left = []

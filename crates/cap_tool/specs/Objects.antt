@@ -53,6 +53,7 @@ fault_json Memory paths = codes "{\"type\":\"fault\",\"fault\":\"memory\"}\n"
 abbrev pub outcome_json : Outcome → List (List ℕ) → List ℕ
 outcome_json outcomes.Done paths = []
 outcome_json outcomes.Differ paths = []
+outcome_json outcomes.NotWhole paths = []
 outcome_json (outcomes.Line fault) paths = line_fault_text fault
 outcome_json (outcomes.Fault fault) paths = fault_json fault paths
 outcome_json (outcomes.Open file) paths = object_json (open_fields file) (path_of paths file)
@@ -62,6 +63,7 @@ outcome_json outcomes.Create paths = codes "{\"type\":\"fault\",\"fault\":\"crea
 abbrev pub told_json : List ℕ → Outcome → List (List ℕ) → List ℕ
 told_json said outcomes.Done paths = outcome_json outcomes.Done paths
 told_json said outcomes.Differ paths = outcome_json outcomes.Differ paths
+told_json said outcomes.NotWhole paths = outcome_json outcomes.NotWhole paths
 told_json said (outcomes.Line fault) paths = told_line said fault
 told_json said (outcomes.Fault fault) paths = outcome_json (outcomes.Fault fault) paths
 told_json said (outcomes.Open file) paths = outcome_json (outcomes.Open file) paths

@@ -9,7 +9,7 @@ use Rattle.cap_line.specs.declared.usage.TheConstants.{USAGE}
 use Rattle.cap_line.specs.declared.faults.LineFault.{LineFault}
 use Rattle.cap_line.specs.declared.faults.LineFault.TheVariants as lines
 use Rattle.cap_tool.specs.declared.outcomes.Finding.{Finding}
-use Rattle.cap_tool.specs.declared.outcomes.Finding.TheVariants.{Difference, Nothing}
+use Rattle.cap_tool.specs.declared.outcomes.Finding.TheVariants.{Difference, Nothing, NotWhole}
 use Rattle.cap_tool.specs.declared.outcomes.Outcome.{Outcome}
 use Rattle.cap_tool.specs.declared.outcomes.Outcome.TheVariants as outcomes
 
@@ -17,6 +17,7 @@ use Rattle.cap_tool.specs.declared.outcomes.Outcome.TheVariants as outcomes
 abbrev pub ends_by : Result Finding Fault → Result (Unit {0}) Outcome
 ends_by (Ok Nothing) = Ok tt
 ends_by (Ok Difference) = Err outcomes.Differ
+ends_by (Ok NotWhole) = Err outcomes.NotWhole
 ends_by (Err fault) = Err (outcomes.Fault fault)
 
 -- the status after a command line that wasn't run
@@ -32,6 +33,7 @@ status_after_line lines.Memory = 1
 abbrev pub status_after : Outcome → ℕ
 status_after outcomes.Done = 0
 status_after outcomes.Differ = 3
+status_after outcomes.NotWhole = 1
 status_after (outcomes.Line fault) = status_after_line fault
 status_after (outcomes.Fault fault) = 1
 status_after (outcomes.Open file) = 1
@@ -71,6 +73,7 @@ line_fault_text lines.Memory = codes "fault: memory\n"
 abbrev pub outcome_text : Outcome → List ℕ
 outcome_text outcomes.Done = []
 outcome_text outcomes.Differ = []
+outcome_text outcomes.NotWhole = []
 outcome_text (outcomes.Line fault) = line_fault_text fault
 outcome_text (outcomes.Fault fault) = fault_text fault
 outcome_text (outcomes.Open file) = open_text file
@@ -88,6 +91,7 @@ is_help_line lines.Memory = false
 abbrev pub is_help : Outcome → Bool
 is_help outcomes.Done = false
 is_help outcomes.Differ = false
+is_help outcomes.NotWhole = false
 is_help (outcomes.Line fault) = is_help_line fault
 is_help (outcomes.Fault fault) = false
 is_help (outcomes.Open file) = false
@@ -105,6 +109,7 @@ told_line said lines.Memory = line_fault_text lines.Memory
 abbrev pub told_text : List ℕ → Outcome → List ℕ
 told_text said outcomes.Done = outcome_text outcomes.Done
 told_text said outcomes.Differ = outcome_text outcomes.Differ
+told_text said outcomes.NotWhole = outcome_text outcomes.NotWhole
 told_text said (outcomes.Line fault) = told_line said fault
 told_text said (outcomes.Fault fault) = outcome_text (outcomes.Fault fault)
 told_text said (outcomes.Open file) = outcome_text (outcomes.Open file)
@@ -114,6 +119,7 @@ told_text said outcomes.Create = outcome_text outcomes.Create
 abbrev pub HelpEnds : List ℕ → List ℕ → List ℕ → Outcome → Type 0
 HelpEnds said old new outcomes.Done = ⊥
 HelpEnds said old new outcomes.Differ = ⊥
+HelpEnds said old new outcomes.NotWhole = ⊥
 HelpEnds said old new (outcomes.Line fault) = (fault ≡ lines.Help) × (new ≡ old ++ said)
 HelpEnds said old new (outcomes.Fault fault) = (fault ≡ Write) × PrintsFront said old new
 HelpEnds said old new (outcomes.Open file) = ⊥

@@ -43,6 +43,7 @@ StopsCreating outcome = outcome ≡ outcomes.Create
 abbrev pub StopsAtDash : List (List ℕ) → Outcome → Type 0
 StopsAtDash names outcomes.Done = ⊥
 StopsAtDash names outcomes.Differ = ⊥
+StopsAtDash names outcomes.NotWhole = ⊥
 StopsAtDash names (outcomes.Line fault) = ⊥
 StopsAtDash names (outcomes.Fault fault) = ⊥
 StopsAtDash names (outcomes.Open n) = (1 ≤ n) × (n ≤ length names) × IsTrue (is_dash (get_or names (n - 1) []))
@@ -52,6 +53,7 @@ StopsAtDash names outcomes.Create = ⊥
 abbrev pub StopsOpening : List (List ℕ) → Outcome → Type 0
 StopsOpening names outcomes.Done = ⊥
 StopsOpening names outcomes.Differ = ⊥
+StopsOpening names outcomes.NotWhole = ⊥
 StopsOpening names (outcomes.Line fault) = ⊥
 StopsOpening names (outcomes.Fault fault) = fault ≡ faults.Memory
 StopsOpening names (outcomes.Open n) = (1 ≤ n) × (n ≤ length names) × IsFalse (is_dash (get_or names (n - 1) []))

@@ -76,7 +76,7 @@ impl Closed {
 /// Refuses to read standard input, `-`, if it was closed: returns `Outcome::Open` with the number, from 1, of the
 /// file that is so named.
 pub fn check_input(has_no_input: bool, names: &[&str]) -> Result<(), Outcome>
-    requires most { length names.now ≤ 32 }
+    requires most { length names.now ≤ 4294967295 }
     ensures open { IsFalse has_no_input → result ≡ Ok tt }
     ensures stops { IfErr result (StopsAtDash (map (λ n. n.now) names.now)) }
 {

@@ -1,11 +1,12 @@
 //! What the command line asks for, done over readers and a writer.
-ghost use Rattle.std.specs.Prelude.{◌≡◌, ◌∷◌, [], IfOk, IsTrue, OnErr, OnOk, map, vec_len};
+ghost use Rattle.std.specs.Prelude.{◌≡◌, ◌≤◌, ◌∷◌, [], Bool, IfOk, IsTrue, OnErr, OnOk, map, vec_len};
+ghost use Rattle.cap_check.specs.CheckText.{WritesChecks};
 ghost use Rattle.std.specs.List.{list_all};
 ghost use Rattle.cap_line.specs.Jobs.{IsWholeJob};
 ghost use Rattle.cap_talks.specs.talks.Telling.{Tells};
 ghost use Rattle.cap_tool.specs.DiffText.{comparison_of, diff_refusal, diff_text_in, is_same};
-ghost use Rattle.cap_tool.specs.Jobs.{Does, blocks_in, done_of, finding_by, form_by, format_in, job_finding, listed_in};
-ghost use Rattle.cap_tool.specs.Jobs.{shown_by, tail_of};
+ghost use Rattle.cap_tool.specs.Jobs.{Does, Finds, blocks_in, done_of, finding_by, form_by, format_in, found_in};
+ghost use Rattle.cap_tool.specs.Jobs.{listed_in, opened_files, shown_by, tail_of, whole_by, whole_finding};
 ghost use Rattle.cap_tool.specs.BlockText.{block_refusal};
 ghost use Rattle.cap_tool.specs.JobLeft.{JobLeaves};
 ghost use Rattle.cap_tool.specs.Left.{nothing_left};
@@ -22,14 +23,15 @@ use crate::left::Left;
 use crate::list::{list_json_to, list_to};
 use crate::outcomes::Finding;
 use cap_bytes::{Fault, Sink, Source, Tail};
+use cap_check::check_all_to;
 use cap_line::{Job, Task};
 use cap_print::Form;
 use cap_source::Format;
 use cap_talks::{file_lines_in, report_in};
 use std::alloc::Global;
 
-// What is done with a cut end.
-fn tail_of(allow_cut: bool) -> Tail
+/// What is done with a cut end.
+pub fn tail_of(allow_cut: bool) -> Tail
     ensures { result ≡ tail_of allow_cut }
 {
     if allow_cut {
@@ -39,8 +41,8 @@ fn tail_of(allow_cut: bool) -> Tail
     }
 }
 
-// The form of what is printed.
-fn form_of(json: bool) -> Form
+/// The form of what is printed.
+pub fn form_of(json: bool) -> Form
     ensures { result ≡ form_by json }
 {
     if json { Form::Json } else { Form::Text }
@@ -139,6 +141,7 @@ fn compare<R: Source, W: Sink>(
         (W.held writer.new) }
     ensures finding { OnOk result (IsTrue (R.tells_coming sources.0) → IsTrue (R.tells_coming sources.1)
         → finding.new ≡ finding_by (is_same (comparison_of tail (R.coming sources.0) (R.coming sources.1)))) }
+    ensures fault { OnErr result (finding.new ≡ finding.old) }
     ensures writer { WriterKeeps (writer_of W.Sink writer.old) (is_write result) (writer_of W.Sink writer.new) }
     ensures read { FailsOf (R.can_fail sources.0 ∷ R.can_fail sources.1 ∷ []) result }
 {
@@ -146,6 +149,45 @@ fn compare<R: Source, W: Sink>(
     match diff_in(alloc, first, second, tail, form, writer) {
         Ok(is_same) => {
             *finding = finding_of(is_same);
+            Ok(())
+        }
+        Err(fault) => Err(fault),
+    }
+}
+
+/// What is found by whether all files that were checked are whole.
+pub fn whole_finding(are_whole: bool) -> Finding
+    ensures { result ≡ whole_finding are_whole }
+{
+    if are_whole {
+        Finding::Nothing
+    } else {
+        Finding::NotWhole
+    }
+}
+
+// `check` in a form, and what it finds.
+fn check<R: Source, W: Sink>(
+    alloc: Global,
+    sources: Vec<R>,
+    tail: Tail,
+    form: Form,
+    writer: &mut W,
+    finding: &mut Finding,
+) -> Result<(), Fault>
+    requires most { vec_len sources ≤ 4294967295 }
+    requires nothing { finding.old ≡ Finding.Nothing }
+    ensures text { IsTrue (list_all R.tells_coming sources.items) → IsTrue (W.tells_held writer.old)
+        → WritesChecks form tail (opened_files (map R.can_fail sources.items) (map R.coming sources.items))
+        (W.held writer.old) (whole_by result finding.new) (W.held writer.new) }
+    ensures finding { OnOk result ((are_whole : Bool) × (finding.new ≡ whole_finding are_whole)) }
+    ensures fault { OnErr result (finding.new ≡ Finding.Nothing) }
+    ensures writer { WriterKeeps (writer_of W.Sink writer.old) (is_write result) (writer_of W.Sink writer.new) }
+    ensures read { FailsOf (map R.can_fail sources.items) result }
+{
+    match check_all_to(alloc, sources, tail, form, writer) {
+        Ok(are_whole) => {
+            *finding = whole_finding(are_whole);
             Ok(())
         }
         Err(fault) => Err(fault),
@@ -177,14 +219,15 @@ fn job_with<R: Source, W: Sink>(
     requires whole { IsWholeJob job.now }
     requires sources { vec_len sources ≡ vec_len job.now.files }
     ensures text { IsTrue (list_all R.tells_coming sources.items) → IsTrue (W.tells_held writer.old)
-        → Does job.now (map R.coming sources.items) (W.held writer.old) result (W.held writer.new) }
+        → Does job.now (map R.can_fail sources.items) (map R.coming sources.items) finding.new (W.held writer.old)
+        result (W.held writer.new) }
     ensures writer { WriterKeeps (writer_of W.Sink writer.old) (is_write result) (writer_of W.Sink writer.new) }
     ensures read { FailsOf (map R.can_fail sources.items) result }
     ensures left { OnOk result (IsTrue (list_all R.tells_coming sources.items)
         → JobLeaves job.now (map R.coming sources.items) left.new) }
-    ensures fault { OnErr result (left.new ≡ nothing_left) }
+    ensures fault { OnErr result ((left.new ≡ nothing_left) × (finding.new ≡ Finding.Nothing)) }
     ensures finding { OnOk result (IsTrue (list_all R.tells_coming sources.items)
-        → finding.new ≡ job_finding job.now (map R.coming sources.items)) }
+        → Finds job.now (map R.coming sources.items) finding.new) }
 {
     *left = NOTHING_LEFT;
     *finding = Finding::Nothing;
@@ -198,6 +241,7 @@ fn job_with<R: Source, W: Sink>(
         Task::Blocks => blocks_in(alloc, only(sources), tail, form, writer),
         Task::Diff => compare(alloc, pair(sources), tail, form, writer, finding),
         Task::Digest => digests_to(alloc, sources, tail, form, writer),
+        Task::Check => check(alloc, sources, tail, form, writer, finding),
         Task::Info => file_lines_in(alloc, sources, tail, form, writer),
         Task::Report => report_in(alloc, sources, tail, form, writer),
         Task::Convert => {
@@ -221,9 +265,10 @@ pub fn job_and_count<R: Source, W: Sink>(
     requires whole { IsWholeJob job.now }
     requires sources { vec_len sources ≡ vec_len job.now.files }
     ensures text { IsTrue (list_all R.tells_coming sources.items) → IsTrue (W.tells_held writer.old)
-        → Does job.now (map R.coming sources.items) (W.held writer.old) (done_of result) (W.held writer.new) }
+        → Does job.now (map R.can_fail sources.items) (map R.coming sources.items) (found_in result)
+        (W.held writer.old) (done_of result) (W.held writer.new) }
     ensures finding { IsTrue (list_all R.tells_coming sources.items)
-        → IfOk result (λ found. found ≡ job_finding job.now (map R.coming sources.items)) }
+        → IfOk result (Finds job.now (map R.coming sources.items)) }
     ensures writer { WriterKeeps (writer_of W.Sink writer.old) (is_write result) (writer_of W.Sink writer.new) }
     ensures read { FailsOf (map R.can_fail sources.items) result }
     ensures left { OnOk result (IsTrue (list_all R.tells_coming sources.items)
@@ -239,7 +284,8 @@ pub fn job_and_count<R: Source, W: Sink>(
 
 /// Does a job over the files that it names, of which `sources` gives the bytes in their order, and writes to
 /// what it names as its output: each task is the command of its name, with the tail, the form, the order and the
-/// format that the job has. It returns what it found: `Difference` exactly if it is `diff` of captures that differ.
+/// format that the job has. It returns what it found: `Difference` exactly if it is `diff` of captures that differ,
+/// `NotWhole` exactly if it is `check` of files that aren't all whole.
 /// `info`, `report` and `diff` write all of their text, or nothing if they return `Refused`, `Read` or `Memory`; the
 /// others write up to the first refusal, which they return, and a prefix of their text if they return another fault.
 /// It returns `Read` if a read fails, `Write` if a write does, and `Memory` if a growth is refused.
@@ -252,9 +298,10 @@ pub fn job_to<R: Source, W: Sink>(
     requires whole { IsWholeJob job.now }
     requires sources { vec_len sources ≡ vec_len job.now.files }
     ensures text { IsTrue (list_all R.tells_coming sources.items) → IsTrue (W.tells_held writer.old)
-        → Does job.now (map R.coming sources.items) (W.held writer.old) (done_of result) (W.held writer.new) }
+        → Does job.now (map R.can_fail sources.items) (map R.coming sources.items) (found_in result)
+        (W.held writer.old) (done_of result) (W.held writer.new) }
     ensures finding { IsTrue (list_all R.tells_coming sources.items)
-        → IfOk result (λ found. found ≡ job_finding job.now (map R.coming sources.items)) }
+        → IfOk result (Finds job.now (map R.coming sources.items)) }
     ensures writer { WriterKeeps (writer_of W.Sink writer.old) (is_write result) (writer_of W.Sink writer.new) }
     ensures read { FailsOf (map R.can_fail sources.items) result }
 {

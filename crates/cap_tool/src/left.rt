@@ -86,6 +86,7 @@ pub fn left_lines(outcome: &Outcome, left: &Left) -> Line
     match outcome {
         Outcome::Done => count_lines(left),
         Outcome::Differ
+        | Outcome::NotWhole
         | Outcome::Line(_)
         | Outcome::Fault(_)
         | Outcome::Open(_)

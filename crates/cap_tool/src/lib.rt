@@ -3,6 +3,7 @@
 #![tactic(auto)]
 
 mod blocks;
+mod checks;
 mod closed;
 mod commands;
 mod counting;
@@ -27,6 +28,7 @@ mod watched;
 mod whole;
 
 pub use crate::blocks::{blocks_json_to, blocks_to};
+pub use crate::checks::check_named;
 pub use crate::closed::{Closed, check_input};
 pub use crate::commands::{convert_to, join_to, join_to_pcap, merge_to, merge_to_pcap};
 pub use crate::counting::{convert_and_count, join_and_count, merge_and_count};

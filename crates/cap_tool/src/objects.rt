@@ -173,7 +173,9 @@ pub fn outcome_object<W: Sink>(
             put_all(writer, b"{\"type\":\"fault\",\"fault\":\"memory\"}\n")
         }
         Outcome::Create => put_all(writer, b"{\"type\":\"fault\",\"fault\":\"create\"}\n"),
-        Outcome::Done | Outcome::Differ | Outcome::Line(_) => outcome_line(outcome, writer),
+        Outcome::Done | Outcome::Differ | Outcome::NotWhole | Outcome::Line(_) => outcome_line(
+            outcome, writer,
+        ),
     }
 }
 

@@ -19,6 +19,8 @@ pub enum Outcome {
     Done,
     /// All was done, and two captures that were compared differ.
     Differ,
+    /// All was done, and a file that was checked isn't whole.
+    NotWhole,
     /// The command line was not run.
     Line(LineFault),
     /// An input was refused, or a device or memory failed.
@@ -36,6 +38,8 @@ pub enum Finding {
     Nothing,
     /// Two captures differ.
     Difference,
+    /// A file that was checked isn't whole.
+    NotWhole,
 }
 
 /// Why a run ended other than by `Outcome::Done`.
@@ -63,6 +67,7 @@ fn ended(answer: Result<Finding, Fault>) -> Result<(), Outcome>
     match answer {
         Ok(Finding::Nothing) => Ok(()),
         Ok(Finding::Difference) => Err(Outcome::Differ),
+        Ok(Finding::NotWhole) => Err(Outcome::NotWhole),
         Err(fault) => Err(Outcome::Fault(fault)),
     }
 }
@@ -79,16 +84,19 @@ pub fn end_of(answer: Result<Finding, Fault>, flushed: io::Result<()>) -> Result
     }
 }
 
-/// The status that the process ends with: 0 for a run that is done and for help, 1 if an input
-/// is refused, or a device, an opening, a creation or memory fails, 2 for an invalid command line, 3 for captures that
-/// differ.
+/// The status that the process ends with: 0 for a run that is done and for help, 1 if an input is refused, if a file
+/// that is checked isn't whole, or if a device, an opening, a creation or memory fails, 2 for an invalid command line,
+/// 3 for captures that differ.
 pub fn status_of(outcome: &Outcome) -> u8
     ensures { result ≡ status_after outcome.now }
 {
     match outcome {
         Outcome::Done | Outcome::Line(LineFault::Help) => 0,
-        Outcome::Fault(_) | Outcome::Open(_) | Outcome::Create | Outcome::Line(LineFault::Memory) =>
-            1,
+        Outcome::NotWhole
+        | Outcome::Fault(_)
+        | Outcome::Open(_)
+        | Outcome::Create
+        | Outcome::Line(LineFault::Memory) => 1,
         Outcome::Line(LineFault::Line)
         | Outcome::Line(LineFault::Files)
         | Outcome::Line(LineFault::Input)
@@ -177,7 +185,7 @@ pub fn outcome_line<W: Sink>(outcome: &Outcome, writer: &mut W) -> Result<(), Fa
     ensures fault { IsOkUnless result Fault.Write }
 {
     match outcome {
-        Outcome::Done | Outcome::Differ => Ok(()),
+        Outcome::Done | Outcome::Differ | Outcome::NotWhole => Ok(()),
         Outcome::Line(fault) => put_all(writer, line_fault_text(*fault)),
         Outcome::Fault(fault) => put_all(writer, fault_line(*fault).as_slice()),
         Outcome::Open(file) => put_all(writer, open_line(*file).as_slice()),

@@ -216,7 +216,7 @@ pub fn open_all<R: Files<File = File>>(
     standard: Stdin,
     names: &[&str],
 ) -> Result<Inputs, Outcome>
-    requires most { length names.now ≤ 32 }
+    requires most { length names.now ≤ 4294967295 }
     ensures all { IfOk result (λ inputs. standards_of inputs.sources.items ≡ map (λ n. is_dash n.now) names.now) }
     ensures len { IfOk result (λ inputs. vec_len inputs.sources ≡ length names.now) }
     ensures stops { IfErr result (StopsOpening (map (λ n. n.now) names.now)) }

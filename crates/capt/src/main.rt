@@ -9,11 +9,11 @@ ghost use Rattle.cap_line.specs.declared.jobs.Job.{Job};
 ghost use Rattle.cap_tool.specs.Outcomes.{is_help};
 
 use cap_bytes::{Fault, Source, Tracked, put_all};
-use cap_line::{Job, LineFault, NOT_UTF_8, USAGE, message, parse};
+use cap_line::{Job, LineFault, NOT_UTF_8, Task, USAGE, message, parse};
 use cap_print::Form;
 use cap_tool::{
     Beside, Closed, FileId, Inputs, Left, Outcome, Output, Progress, Remembered, Shared,
-    SharedOutput, Stop, Watched, check_input, check_terminal, create_beside, create_output, end_of,
+    SharedOutput, Stop, Watched, check_input, check_named, check_terminal, create_beside, create_output, end_of,
     hint, job_and_count, job_to, left_lines, open_all, status_of, tell, tell_in, watch_all,
 };
 use std::alloc::Global;
@@ -71,6 +71,17 @@ impl Told {
     }
 }
 
+// How a run ended, and the number of the error that the output returned, if one did.
+fn stop_if(ended: Result<(), Outcome>, output: &SharedOutput) -> Result<(), Stop> {
+    match ended {
+        Ok(()) => Ok(()),
+        Err(outcome) => Err(Stop {
+            outcome,
+            error: output.error(),
+        }),
+    }
+}
+
 // Does a job, and flushes what waits in the output's buffer.
 fn run_job<R: Source, C: Clock>(
     alloc: Global,
@@ -89,13 +100,7 @@ fn run_job<R: Source, C: Clock>(
     } else {
         job_to(alloc, job, sources, &mut writer)
     };
-    match end_of(answer, output.flush()) {
-        Ok(()) => Ok(()),
-        Err(outcome) => Err(Stop {
-            outcome,
-            error: output.error(),
-        }),
-    }
+    stop_if(end_of(answer, output.flush()), output)
 }
 
 // The standard streams.
@@ -181,7 +186,32 @@ fn open<R: Files<File = File> + AllocGlobal>(
     open_all(rt, rt.alloc(), standard, job.files.as_slice())
 }
 
-// Does a job. Every file is opened before the output is created.
+// Checks the files of a job, each of which is opened once those before it are checked.
+fn run_checks<R: Files<File = File> + Clock + AllocGlobal>(
+    rt: &R,
+    job: &Job<'_>,
+    streams: StandardStreams,
+    has_no_input: bool,
+) -> Result<(), Stop>
+    requires { IsWholeJob job.now }
+{
+    let output = Output::Standard(streams.output);
+    let screen = screen_of(rt, streams.faults, &output);
+    let is_terminal = output.is_terminal();
+    let output = match shared(rt.alloc(), output) {
+        Ok(output) => output,
+        Err(outcome) => return Err(Stop::from(outcome)),
+    };
+    let progress = Progress::new(rt, screen, is_terminal, None).with_output(&output);
+    let mut writer = Watched::new(Tracked::new(Shared::new(&output)), &progress);
+    let alloc = rt.alloc();
+    let answer = check_named(rt, alloc, streams.input, has_no_input, job, &progress, &mut writer);
+    let ended = stop_if(end_of(answer, output.flush()), &output);
+    progress.wipe();
+    ended
+}
+
+// Does a job whose files are all opened before the output is created.
 fn run<R: Files<File = File> + Clock + AllocGlobal>(
     rt: &R,
     job: &Job<'_>,
@@ -283,7 +313,11 @@ fn do_job<R: Files<File = File> + Clock + AllocGlobal>(
     requires { IsWholeJob job.now }
 {
     let mut told = Told::new(job.explain || streams.faults.is_terminal());
-    let stop = stop_of(run(rt, job, streams, has_no_input, &mut told));
+    let answer = match job.task {
+        Task::Check => run_checks(rt, job, streams, has_no_input),
+        _ => run(rt, job, streams, has_no_input, &mut told),
+    };
+    let stop = stop_of(answer);
     finish(rt, streams, Some(job), stop, USAGE.as_bytes(), &told)
 }
 

@@ -1,6 +1,6 @@
 //! The command line, and what its commands do over readers and writers.
 
-pub use cap_check::{CheckEnd, Checked, check_file, check_line, check_to};
+pub use cap_check::{Check, CheckEnd, Checked, check_all_to, check_file, check_line, check_to};
 pub use cap_line::Task;
 pub use cap_tool::{
     Finding, Job, Left, LineFault, Outcome, TimeWatched, blocks_json_to, blocks_to,

@@ -4,10 +4,11 @@ ghost use Rattle.std.specs.Prelude.{◌≤◌};
 use crate::checks::same;
 use crate::files::{bytes_of, reader_of, room_of};
 use crate::hex_vectors::{
-    CARRY_PCAP, CUT_PCAP, File, OPTIONS_PCAPNG, RUNS_BACK, SIMPLE_PACKET, TAGGED_FRAMES,
+    CARRY_PCAP, CUT_PCAP, File, INTERFACE, OPTIONS_PCAPNG, PACKET, RUNS_BACK, SECTION, SIMPLE_PACKET,
+    TAGGED_FRAMES,
 };
 use cap_bytes::{Fault, Pieces, Tail};
-use cap_check::{CheckEnd, Checked, check_line, check_to};
+use cap_check::{Check, CheckEnd, check_file, check_line, check_to};
 use cap_print::Form;
 use std::alloc::Global;
 use std::process::Abort;
@@ -15,7 +16,13 @@ use std::process::Abort;
 // A file, what is done with a cut end, the form, the line that is printed, and whether the file is whole.
 type Row = (File, Tail, Form, &'static str, bool);
 
-const CHECKED: [Row; 8] = [
+// A file that is no capture.
+const UNKNOWN: File = &["000102030405060708090a0b0c0d0e0f1011121314151617"];
+
+// A capture of two sections: one interface with a packet, and two without.
+const SILENT: File = &[SECTION, INTERFACE, PACKET, SECTION, INTERFACE, INTERFACE];
+
+const CHECKED: [Row; 10] = [
     (
         TAGGED_FRAMES,
         Tail::Refuse,
@@ -48,16 +55,31 @@ const CHECKED: [Row; 8] = [
         CUT_PCAP,
         Tail::Accept,
         Form::Text,
-        "check 7 pcap packets 0 backward 0 untimed 0 truncated 0 skipped 0 interfaces 0 whole cut\n",
+        "check 7 pcap packets 0 backward 0 untimed 0 truncated 0 skipped 0 interfaces 1 whole cut\n",
         true,
     ),
     (
         CUT_PCAP,
         Tail::Refuse,
         Form::Text,
-        "check 7 - packets 0 backward 0 untimed 0 truncated 0 skipped 0 interfaces 0 \
+        "check 7 pcap packets 0 backward 0 untimed 0 truncated 0 skipped 0 interfaces 1 \
         refused offset 24 rule 3 cut\n",
         false,
+    ),
+    (
+        UNKNOWN,
+        Tail::Refuse,
+        Form::Text,
+        "check 7 - packets 0 backward 0 untimed 0 truncated 0 skipped 0 interfaces 0 \
+        refused offset 0 rule 1 magic\n",
+        false,
+    ),
+    (
+        SILENT,
+        Tail::Refuse,
+        Form::Text,
+        "check 7 pcapng packets 1 backward 0 untimed 0 truncated 0 skipped 0 interfaces 3 whole\n",
+        true,
     ),
     (
         CARRY_PCAP,
@@ -71,8 +93,8 @@ const CHECKED: [Row; 8] = [
         CUT_PCAP,
         Tail::Refuse,
         Form::Json,
-        "{\"type\":\"check\",\"file\":7,\"format\":null,\"packets\":0,\"backward\":0,\"untimed\":0,\
-        \"truncated\":0,\"skipped\":0,\"interfaces\":0,\
+        "{\"type\":\"check\",\"file\":7,\"format\":\"pcap\",\"packets\":0,\"backward\":0,\
+        \"untimed\":0,\"truncated\":0,\"skipped\":0,\"interfaces\":1,\
         \"refused\":{\"offset\":24,\"rule\":3,\"name\":\"cut\"}}\n",
         false,
     ),
@@ -85,7 +107,7 @@ fn checks(rt: &impl Abort, alloc: Global, row: &Row, piece: usize)
     let (file, tail, form, text, is_whole) = *row;
     let mut writer = room_of(rt, alloc, 512);
     let source = reader_of(rt, alloc, file, piece);
-    let answer = check_to(alloc, source, 7, tail, form, &mut writer);
+    let answer = check_to(alloc, Some(source), 7, tail, form, &mut writer);
     same!(rt; (answer, writer.bytes()), (Ok(is_whole), text.as_bytes()));
 }
 
@@ -103,7 +125,7 @@ fn always_memory_files_are_checked(rt: HostRuntime) {
 fn a_read_that_fails_is_checked(rt: HostRuntime) {
     let mut writer = room_of(&rt, rt.alloc(), 512);
     let source = Pieces::new(bytes_of(&rt, rt.alloc(), RUNS_BACK), 1, Some(45));
-    let answer = check_to(rt.alloc(), source, 1, Tail::Refuse, Form::Text, &mut writer);
+    let answer = check_to(rt.alloc(), Some(source), 1, Tail::Refuse, Form::Text, &mut writer);
     let line = "check 1 pcap packets 1 backward 0 untimed 0 truncated 0 skipped 0 interfaces 1 \
         read offset 40\n";
     same!(&rt; (answer, writer.bytes()), (Ok(false), line.as_bytes()));
@@ -114,9 +136,26 @@ fn a_read_that_fails_is_checked(rt: HostRuntime) {
 fn a_check_is_written_or_fails(rt: HostRuntime) {
     let mut writer = room_of(&rt, rt.alloc(), 4);
     let source = reader_of(&rt, rt.alloc(), CARRY_PCAP, 4096);
-    let answer = check_to(rt.alloc(), source, 1, Tail::Refuse, Form::Text, &mut writer);
+    let answer = check_to(rt.alloc(), Some(source), 1, Tail::Refuse, Form::Text, &mut writer);
     same!(&rt; (answer, writer.bytes()), (Err(Fault::Write), b"chec".as_slice()));
-    let line = check_line(Form::Text, 3, &Checked::new(), &CheckEnd::Opening);
     let text = "check 3 - packets 0 backward 0 untimed 0 truncated 0 skipped 0 interfaces 0 open\n";
-    same!(&rt; line.as_slice(), text.as_bytes());
+    same!(&rt; check_line(Form::Text, 3, &Check::unopened()).as_slice(), text.as_bytes());
+    let mut writer = room_of(&rt, rt.alloc(), 512);
+    let unopened: Option<Pieces> = None;
+    let answer = check_to(rt.alloc(), unopened, 3, Tail::Refuse, Form::Text, &mut writer);
+    same!(&rt; (answer, writer.bytes()), (Ok(false), text.as_bytes()));
+}
+
+// What is found of a file, without its line.
+#[test]
+fn a_check_counts_a_file(rt: HostRuntime) {
+    let source = reader_of(&rt, rt.alloc(), SILENT, 1);
+    let Ok(check) = check_file(rt.alloc(), source, 1, Tail::Refuse) else {
+        panic!(&rt; "memory");
+    };
+    same!(&rt; (check.counts.packets, check.counts.interfaces), (1, 1));
+    let CheckEnd::Whole(end) = check.end else {
+        panic!(&rt; "not whole");
+    };
+    same!(&rt; (end.interfaces, end.named, end.ending.was_cut), (3, 0, false));
 }

@@ -24,6 +24,14 @@ const ENDED: &str = "differ packet 1 end\n\
 const DIGEST: &str = "digest 1 sha256 \
     ae7312267c797be18247384507fd1956f2af9397397bd84f72a62298f1352b4e packets 1\n";
 
+const CHECK: &str =
+    "check 1 pcap packets 1 backward 0 untimed 0 truncated 0 skipped 0 interfaces 1 whole\n";
+
+// Of a capture whose record is cut, and of one that is whole.
+const CHECKS: &str = "check 1 pcap packets 0 backward 0 untimed 0 truncated 0 skipped 0 interfaces 1 \
+    refused offset 24 rule 3 cut\n\
+    check 2 pcap packets 1 backward 0 untimed 0 truncated 0 skipped 0 interfaces 1 whole\n";
+
 const INFO: &str = "files 1\n\
     file 1 pcap packets 1 bytes 4 truncated 0 skipped 0 first 2+500000/1000000 last 2+500000/1000000\n";
 
@@ -37,7 +45,7 @@ const REPORT: &str = "files 1\n\
 // A task, whether a cut end is dropped, the capture, in hex, and what is printed.
 type Printed = (Task, bool, &'static str, &'static str);
 
-const PRINTED: [Printed; 6] = [
+const PRINTED: [Printed; 7] = [
     (Task::List, false, CARRY_PCAP, LINE),
     (Task::List, true, CUT_PCAP, ""),
     (
@@ -47,6 +55,7 @@ const PRINTED: [Printed; 6] = [
         "block 1 offset 0 order little kind 0a0d0d0a total 28\n",
     ),
     (Task::Digest, false, CARRY_PCAP, DIGEST),
+    (Task::Check, false, CARRY_PCAP, CHECK),
     (Task::Info, false, CARRY_PCAP, INFO),
     (Task::Report, false, CARRY_PCAP, REPORT),
 ];
@@ -157,8 +166,15 @@ fn prints(rt: &impl Abort, alloc: Global, row: &Printed) {
 }
 
 // What a job of two captures finds.
-fn finds(rt: &impl Abort, alloc: Global, captures: &[&str], text: &str, finding: Finding) {
-    let mut job = printing(rt, alloc, Task::Diff, false);
+fn finds(
+    rt: &impl Abort,
+    alloc: Global,
+    task: Task,
+    captures: &[&str],
+    text: &str,
+    finding: Finding,
+) {
+    let mut job = printing(rt, alloc, task, false);
     job.files.push("b").expect(rt, "memory");
     let mut writer = room_of(rt, alloc, 1024);
     let answer = does(rt, alloc, &job, captures, &mut writer);
@@ -169,15 +185,16 @@ fn finds(rt: &impl Abort, alloc: Global, captures: &[&str], text: &str, finding:
 fn a_job_finds_a_difference(rt: HostRuntime) {
     let alloc = rt.alloc();
     let same = [CARRY_PCAP, CARRY_PCAPNG];
-    finds(
-        &rt,
-        alloc,
-        same.as_slice(),
-        "same packets 1\n",
-        Finding::Nothing,
-    );
+    let text = "same packets 1\n";
+    finds(&rt, alloc, Task::Diff, same.as_slice(), text, Finding::Nothing);
     let other = [CARRY_PCAP, SECTION];
-    finds(&rt, alloc, other.as_slice(), ENDED, Finding::Difference);
+    finds(&rt, alloc, Task::Diff, other.as_slice(), ENDED, Finding::Difference);
+}
+
+#[test]
+fn a_job_finds_a_file_that_is_not_whole(rt: HostRuntime) {
+    let files = [CUT_PCAP, CARRY_PCAP];
+    finds(&rt, rt.alloc(), Task::Check, files.as_slice(), CHECKS, Finding::NotWhole);
 }
 
 // What a job writes.
@@ -250,6 +267,7 @@ fn leaves(rt: &impl Abort, alloc: Global, task: Task, skipped: u128) {
 fn always_memory_a_job_counts_what_it_leaves(rt: HostRuntime) {
     for (task, skipped) in [
         (Task::Digest, 0),
+        (Task::Check, 0),
         (Task::Info, 0),
         (Task::Report, 0),
         (Task::Merge, 2),

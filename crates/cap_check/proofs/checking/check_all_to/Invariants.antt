@@ -1,5 +1,4 @@
 use Rattle.std.proofs.Common.{◌≡◌, length, map, take, IsTrue, Some}
-use Rattle.std.specs.List.{list_all}
 use Rattle.cap_check.proofs.Following.{ArePrinted}
 use Rattle.cap_check.proofs.checking.check_all_to.Given as goal
 
@@ -10,9 +9,11 @@ invariant-loop-source g l = record {
   failed : g.W.Device.has_failed l.writer ≡ g.W.Device.has_failed l.fn.writer;
   told : IsTrue (g.W.Sink.tells_held l.fn.writer) → IsTrue (g.W.Sink.tells_held l.writer);
   cannot : IsTrue (g.W.Device.can_fail l.writer) → IsTrue (g.W.Device.can_fail l.fn.writer);
-  printed : IsTrue (list_all g.R.Source.tells_coming l.fn.sources.items) → IsTrue (g.W.Sink.tells_held l.fn.writer)
-      → ArePrinted l.form l.tail
-      (take (length l.yielded)
-      (map (λ s. Some (record { bytes = g.R.Source.coming s; can_fail = g.R.Device.can_fail s })) l.fn.sources.items))
+  printed : IsTrue (g.W.Sink.tells_held l.fn.writer) → ArePrinted l.form l.tail
+      (take (length l.yielded) (map (λ s. Some (record {
+        told = g.R.Source.tells_coming s;
+        bytes = g.R.Source.coming s;
+        can_fail = g.R.Device.can_fail s;
+      })) l.fn.sources.items))
       l.are_whole (g.W.Sink.held l.fn.writer) (g.W.Sink.held l.writer);
 }

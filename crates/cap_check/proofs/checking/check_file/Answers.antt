@@ -4,19 +4,25 @@ use Rattle.cap_check.specs.Checking.{checked_after, nothing_checked}
 use Rattle.cap_check.proofs.checking.check_file.Goals as goal
 
 pub returns-in-Ok-clause-checked : goal.returns-in-Ok-clause-checked
-returns-in-Ok-clause-checked g c = λ t.
-    let e = c.new-capture.ensures in
-    let took = c.in-Ok.ensures.counts (rw e.told t) in (
-      sym (ap refusal_of e.items) ∙ took.0,
-      took.1 ∙ ap (checked_after nothing_checked) e.items,
-      c.file_end.ensures.end c.args.file ∙ (took.2 c.args.file ∙ e.endings c.args.file),
-    )
+returns-in-Ok-clause-checked g c = (
+  tt,
+  λ t.
+      let e = c.new-capture.ensures in
+      let took = c.in-Ok.ensures.counts (rw e.told t) in (
+        sym (ap refusal_of e.items) ∙ took.0,
+        took.1 ∙ ap (checked_after nothing_checked) e.items,
+        c.file_end.ensures.end c.args.file ∙ (took.2 c.args.file ∙ e.endings c.args.file),
+      ),
+)
 
 pub returns-in-Err-Refused-clause-checked : goal.returns-in-Err-Refused-clause-checked
-returns-in-Err-Refused-clause-checked g c = λ t.
-    let e = c.new-capture.ensures in
-    let took = rw c.in-Err-Refused.field-0-is at (c.in-Err-Refused.ensures.counts (rw e.told t)) in (
-      sym (ap refusal_of e.items) ∙ took.0,
-      took.1 ∙ ap (checked_after nothing_checked) e.items,
-      c.file_end-in-Err-Refused.ensures.end c.args.file ∙ (took.2 c.args.file ∙ e.endings c.args.file),
-    )
+returns-in-Err-Refused-clause-checked g c = (
+  tt,
+  λ t.
+      let e = c.new-capture.ensures in
+      let took = rw c.in-Err-Refused.field-0-is at (c.in-Err-Refused.ensures.counts (rw e.told t)) in (
+        sym (ap refusal_of e.items) ∙ took.0,
+        took.1 ∙ ap (checked_after nothing_checked) e.items,
+        c.file_end-in-Err-Refused.ensures.end c.args.file ∙ (took.2 c.args.file ∙ e.endings c.args.file),
+      ),
+)

@@ -1,0 +1,16 @@
+use Rattle.std.proofs.Common.{◌≡◌, ◌≤◌, length, map, IsTrue}
+use Rattle.cap_tool.proofs.CheckedFiles.{AreNamed}
+use Rattle.cap_tool.specs.Jobs.{form_by, tail_of}
+use Rattle.cap_tool.proofs.checks.check_named.Given as goal
+
+-- the files of the names so far are checked, and their lines are printed
+abbrev pub invariant-loop-place : goal.invariant-loop-place
+invariant-loop-place g l = record {
+  within : l.place ≤ length l.job.files.items;
+  failed : g.W.Device.has_failed l.writer ≡ g.W.Device.has_failed l.fn.writer;
+  told : IsTrue (g.W.Sink.tells_held l.fn.writer) → IsTrue (g.W.Sink.tells_held l.writer);
+  cannot : IsTrue (g.W.Device.can_fail l.writer) → IsTrue (g.W.Device.can_fail l.fn.writer);
+  printed : IsTrue (g.W.Sink.tells_held l.fn.writer)
+      → AreNamed l.is_closed (form_by l.job.json) (tail_of l.job.allow_cut) (map (λ n. n.now) l.job.files.items) l.place
+      l.are_whole (g.W.Sink.held l.fn.writer) (g.W.Sink.held l.writer);
+}
