@@ -7,9 +7,10 @@ An edit is refused if its function fails at a goal: it doesn't count that a func
 names what the edit took away. And no function may fail that no edit names: that shows that the edits are apart.
 
 Asked are the edits that edits.txt has, each with the function that it changes, as a check prints it after the crate's name. Those that aren't
-there change a definition.
+there change a definition: such an edit is tried only if it is named, by a check of the whole crate.
 
-Use: checks/edits.py [CRATE..]     over the libraries below as `rt ci` or `rt check` left them
+Use: checks/edits.py [CRATE | CRATE/EDIT]..     over the libraries below as `rt ci` or `rt check` left them; of an edit that is named, it
+                                                prints the goals at which it is refused
 """
 import sys
 
@@ -54,7 +55,8 @@ def read_text(path):
 FUNCTIONS = dict(line.split() for line in read_text(f"{TOP}/checks/edits.txt").splitlines())
 
 
-def edits_of(crate):
+def edits_of(crate, names=()):
+    """The edits of these names, or else those that edits.txt has."""
     folder = f"{TOP}/crates/{crate}/must-fail"
     edits = []
     for name in sorted(os.listdir(folder)) if os.path.isdir(folder) else []:
@@ -68,7 +70,7 @@ def edits_of(crate):
                 old = rest
             elif word in ("new", "new:"):
                 edit.changes.append((path, old, rest))
-        if edit.function:
+        if edit.name in names or not names and edit.function:
             edits.append(edit)
     return edits
 
@@ -154,7 +156,8 @@ def failures(crate, said):
 
 
 def try_together(crate, edits, room, rlibs):
-    """Tries as many of the edits as can be made at once: how many were refused, what is to be said of the others, and which are left for another check."""
+    """Tries as many of the edits as can be made at once, and one of a definition by itself: the goals at which each was refused, what is to be
+    said of the others, and which are left for another check."""
     texts, functions, made, left, wrong = {}, set(), [], [], []
     for edit in edits:
         for path in {path for path, _, _ in edit.changes} - {*texts}:
@@ -165,34 +168,37 @@ def try_together(crate, edits, room, rlibs):
         then = edit.applied(texts)
         if not edit.changes or edit.applied(whole) in (None, whole):
             wrong.append(f"{crate}/{edit.name}: it changes nothing, or an `old:` doesn't stand in its file once")
-        elif edit.function in functions or then is None:
+        elif edit.function in functions or then is None or made and "" in (edit.function, made[0].function):
             left.append(edit)
         else:
             texts = then
             functions.add(edit.function)
             made.append(edit)
-    said = checked(crate, texts, sorted(functions), room, rlibs) if made else ""
+    said = checked(crate, texts, sorted(functions - {""}), room, rlibs) if made else ""
     told, failed = failures(crate, said)
     if made and not told:
         first = next((it for it in said.splitlines() if "error" in it), said[-200:])
-        return 0, [*wrong, *(f"{crate}/{it.name}: not tried, since no check came to an end: {first[:200]}" for it in made)], left
+        return {}, [*wrong, *(f"{crate}/{it.name}: not tried, since no check came to an end: {first[:200]}" for it in made)], left
+    if "" in functions:
+        failed = {"": [f"{function}: {goal}" for function, goals in failed.items() for goal in goals]}
     for edit in made:
         if not failed.get(edit.function):
             why = "only because a proof file names what the edit took away" if edit.function in failed else told.get(edit.function, "it is no function of the check")
             wrong.append(f"{crate}/{edit.name}: NOT REFUSED at a goal of {edit.function}: {why}")
     for function in failed.keys() - functions:
         wrong.append(f"{crate}: {function} fails too, which no edit names: {failed[function][:1]}")
-    return sum(bool(failed.get(it.function)) for it in made), wrong, left
+    return {it.name: failed[it.function] for it in made if failed.get(it.function)}, wrong, left
 
 
-def tried(crate, rlibs):
-    """Tries all edits of a crate: how many were refused, and what is to be said of the others."""
-    passed, wrong, left = 0, [], edits_of(crate)
+def tried(crate, names, rlibs):
+    """Tries the edits of these names, or all of a crate: the goals at which each was refused, and what is to be said of the others."""
+    refused, left = {}, edits_of(crate, names)
+    wrong = [f"{crate}/{it}: there is no such edit" for it in sorted({*names} - {edit.name for edit in left})]
     with tempfile.TemporaryDirectory(prefix="capt-edits-") as room:
         while left:
-            refused, said, left = try_together(crate, left, room, rlibs)
-            passed, wrong = passed + refused, wrong + said
-    return passed, wrong
+            goals, said, left = try_together(crate, left, room, rlibs)
+            refused, wrong = refused | goals, wrong + said
+    return refused, wrong
 
 
 def link_or_copy(one, other):
@@ -210,12 +216,15 @@ def take_library(crate, rlibs):
 
 
 def main(words):
-    wanted = words or [it for it in LIBRARIES if edits_of(it)]
+    wanted = {crate: [] for crate in LIBRARIES if not words and edits_of(crate)}
+    for word in words:
+        crate, _, name = word.removesuffix(".edit").removeprefix("crates/").replace("/must-fail/", "/").partition("/")
+        wanted.setdefault(crate, []).extend([name] if name else [])
     waiting, ready, results = set(wanted), PriorityQueue(), {}
 
     def work():
         while crate := ready.get()[1]:
-            results[crate] = tried(crate, rlibs)
+            results[crate] = tried(crate, wanted[crate], rlibs)
 
     def begin():
         for crate in [it for it in waiting if all(os.path.isdir(f"{rlibs}/{it}.rlib") for it in below(it))]:
@@ -235,9 +244,11 @@ def main(words):
             worker.join()
     passed = failed = 0
     for crate in wanted:
-        refused, wrong = results.get(crate, (0, [f"{crate}: not tried, since no library below it is built, or the check broke off"]))
-        print(*[f"edits.py: {it}" for it in wrong], sep="\n", end="\n" * bool(wrong))
-        passed, failed = passed + refused, failed + len(wrong)
+        refused, wrong = results.get(crate, ({}, [f"{crate}: not tried, since no library below it is built, or the check broke off"]))
+        wrong = [f"edits.py: {it}" for it in wrong]
+        goals = [f"{crate}/{name}: refused at {goal[:250]}" for name in wanted[crate] for goal in refused.get(name, [])]
+        print(*goals, *wrong, sep="\n", end="\n" * bool(goals + wrong))
+        passed, failed = passed + len(refused), failed + len(wrong)
     print(f"{passed} passed, {failed} failed")
     return failed > 0
 
