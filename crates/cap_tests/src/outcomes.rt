@@ -57,11 +57,8 @@ fn displayed(alloc: Global, outcome: &Outcome) -> Option<String> {
     match outcome {
         Outcome::Fault(fault) => format!(in alloc; "{fault}\n").ok(),
         Outcome::Line(fault) => format!(in alloc; "{fault}\n").ok(),
-        Outcome::Done
-        | Outcome::Differ
-        | Outcome::NotWhole
-        | Outcome::Open(_)
-        | Outcome::Create => None,
+        Outcome::Done | Outcome::Differ | Outcome::NotWhole | Outcome::Open(_) | Outcome::Create =>
+            None,
     }
 }
 

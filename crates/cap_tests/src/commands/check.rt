@@ -4,8 +4,8 @@ ghost use Rattle.std.specs.Prelude.{◌≤◌};
 use crate::checks::same;
 use crate::files::{bytes_of, reader_of, room_of};
 use crate::hex_vectors::{
-    CARRY_PCAP, CUT_PCAP, File, INTERFACE, OPTIONS_PCAPNG, PACKET, RUNS_BACK, SECTION, SIMPLE_PACKET,
-    TAGGED_FRAMES,
+    CARRY_PCAP, CUT_PCAP, File, INTERFACE, OPTIONS_PCAPNG, PACKET, RUNS_BACK, SECTION,
+    SIMPLE_PACKET, TAGGED_FRAMES,
 };
 use cap_bytes::{Fault, Pieces, Tail};
 use cap_check::{Check, CheckEnd, check_file, check_line, check_to};
@@ -125,7 +125,14 @@ fn always_memory_files_are_checked(rt: HostRuntime) {
 fn a_read_that_fails_is_checked(rt: HostRuntime) {
     let mut writer = room_of(&rt, rt.alloc(), 512);
     let source = Pieces::new(bytes_of(&rt, rt.alloc(), RUNS_BACK), 1, Some(45));
-    let answer = check_to(rt.alloc(), Some(source), 1, Tail::Refuse, Form::Text, &mut writer);
+    let answer = check_to(
+        rt.alloc(),
+        Some(source),
+        1,
+        Tail::Refuse,
+        Form::Text,
+        &mut writer,
+    );
     let line = "check 1 pcap packets 1 backward 0 untimed 0 truncated 0 skipped 0 interfaces 1 \
         read offset 40\n";
     same!(&rt; (answer, writer.bytes()), (Ok(false), line.as_bytes()));
@@ -136,13 +143,27 @@ fn a_read_that_fails_is_checked(rt: HostRuntime) {
 fn a_check_is_written_or_fails(rt: HostRuntime) {
     let mut writer = room_of(&rt, rt.alloc(), 4);
     let source = reader_of(&rt, rt.alloc(), CARRY_PCAP, 4096);
-    let answer = check_to(rt.alloc(), Some(source), 1, Tail::Refuse, Form::Text, &mut writer);
+    let answer = check_to(
+        rt.alloc(),
+        Some(source),
+        1,
+        Tail::Refuse,
+        Form::Text,
+        &mut writer,
+    );
     same!(&rt; (answer, writer.bytes()), (Err(Fault::Write), b"chec".as_slice()));
     let text = "check 3 - packets 0 backward 0 untimed 0 truncated 0 skipped 0 interfaces 0 open\n";
     same!(&rt; check_line(Form::Text, 3, &Check::unopened()).as_slice(), text.as_bytes());
     let mut writer = room_of(&rt, rt.alloc(), 512);
     let unopened: Option<Pieces> = None;
-    let answer = check_to(rt.alloc(), unopened, 3, Tail::Refuse, Form::Text, &mut writer);
+    let answer = check_to(
+        rt.alloc(),
+        unopened,
+        3,
+        Tail::Refuse,
+        Form::Text,
+        &mut writer,
+    );
     same!(&rt; (answer, writer.bytes()), (Ok(false), text.as_bytes()));
 }
 

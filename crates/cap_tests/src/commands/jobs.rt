@@ -28,7 +28,8 @@ const CHECK: &str =
     "check 1 pcap packets 1 backward 0 untimed 0 truncated 0 skipped 0 interfaces 1 whole\n";
 
 // Of a capture whose record is cut, and of one that is whole.
-const CHECKS: &str = "check 1 pcap packets 0 backward 0 untimed 0 truncated 0 skipped 0 interfaces 1 \
+const CHECKS: &str =
+    "check 1 pcap packets 0 backward 0 untimed 0 truncated 0 skipped 0 interfaces 1 \
     refused offset 24 rule 3 cut\n\
     check 2 pcap packets 1 backward 0 untimed 0 truncated 0 skipped 0 interfaces 1 whole\n";
 
@@ -186,15 +187,36 @@ fn a_job_finds_a_difference(rt: HostRuntime) {
     let alloc = rt.alloc();
     let same = [CARRY_PCAP, CARRY_PCAPNG];
     let text = "same packets 1\n";
-    finds(&rt, alloc, Task::Diff, same.as_slice(), text, Finding::Nothing);
+    finds(
+        &rt,
+        alloc,
+        Task::Diff,
+        same.as_slice(),
+        text,
+        Finding::Nothing,
+    );
     let other = [CARRY_PCAP, SECTION];
-    finds(&rt, alloc, Task::Diff, other.as_slice(), ENDED, Finding::Difference);
+    finds(
+        &rt,
+        alloc,
+        Task::Diff,
+        other.as_slice(),
+        ENDED,
+        Finding::Difference,
+    );
 }
 
 #[test]
 fn a_job_finds_a_file_that_is_not_whole(rt: HostRuntime) {
     let files = [CUT_PCAP, CARRY_PCAP];
-    finds(&rt, rt.alloc(), Task::Check, files.as_slice(), CHECKS, Finding::NotWhole);
+    finds(
+        &rt,
+        rt.alloc(),
+        Task::Check,
+        files.as_slice(),
+        CHECKS,
+        Finding::NotWhole,
+    );
 }
 
 // What a job writes.
