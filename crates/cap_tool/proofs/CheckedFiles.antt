@@ -75,8 +75,8 @@ known-written told coming inner source form tail file old (Err Write) new wrote 
 known-written told coming inner source form tail file old (Err Memory) new wrote = wrote
 
 -- The first files of some names were opened or could not be, and were checked, and their lines are printed.
-pub record AreNamed (is_closed : Bool) (form : Form) (tail : Tail) (names : List (List ℕ)) (place : ℕ) (whole : Bool) (old held : List ℕ)
-    : Type 0 where
+pub record AreNamed (is_closed : Bool) (form : Form) (tail : Tail) (names : List (List ℕ)) (place : ℕ) (whole : Bool)
+    (old held : List ℕ) : Type 0 where
   pub inputs : List (Option Input)
   pub opened : AreOpenedBy is_closed names inputs
   pub count : length inputs ≡ place
@@ -111,8 +111,8 @@ named-more is_closed form tail names place whole one old mid new within a next =
     }
 
 -- a growth is refused or a write fails
-pub named-fault : (is_closed : Bool) (form : Form) (tail : Tail) (names : List (List ℕ)) (place : ℕ) (whole : Bool) (fault : Fault)
-    (old mid new : List ℕ)
+pub named-fault : (is_closed : Bool) (form : Form) (tail : Tail) (names : List (List ℕ)) (place : ℕ) (whole : Bool)
+    (fault : Fault) (old mid new : List ℕ)
     → place < length names → AreNamed is_closed form tail names place whole old mid
     → ChecksName is_closed form tail names place mid (Err fault) new
     → ChecksNames is_closed form tail names old (Err fault) new
@@ -133,7 +133,8 @@ named-fault is_closed form tail names place whole fault old mid new within a nex
     }
 
 -- all are
-pub named-all : (is_closed : Bool) (form : Form) (tail : Tail) (names : List (List ℕ)) (place : ℕ) (whole : Bool) (old new : List ℕ)
+pub named-all : (is_closed : Bool) (form : Form) (tail : Tail) (names : List (List ℕ)) (place : ℕ) (whole : Bool)
+    (old new : List ℕ)
     → place ≡ length names → AreNamed is_closed form tail names place whole old new
     → ChecksNames is_closed form tail names old (Ok (whole_finding whole)) new
 named-all is_closed form tail names place whole old new over a =

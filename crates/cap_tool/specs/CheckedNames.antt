@@ -1,6 +1,6 @@
 -- `capt check`, whose files are opened one after another.
-use Rattle.std.specs.Prelude.{◌≡◌, ◌&&◌, ◌||◌, not, IsTrue, ◌+◌, ℕ, get_or, List, [], ◌∷◌, length, map, option_map, Option, Some, None, IsFalse, Bool, true, false}
-use Rattle.std.specs.Prelude.{Result, Ok, Err}
+use Rattle.std.specs.Prelude.{◌≡◌, ◌&&◌, ◌||◌, not, IsTrue, IsFalse, ◌+◌, ℕ, get_or, List, [], ◌∷◌, length, map}
+use Rattle.std.specs.Prelude.{option_map, Option, Some, None, Bool, true, false, Result, Ok, Err}
 use Rattle.cap_bytes.specs.declared.faults.Fault.{Fault}
 use Rattle.cap_bytes.specs.declared.faults.Tail.{Tail}
 use Rattle.cap_check.specs.CheckText.{WritesCheck, WritesChecks}

@@ -95,17 +95,18 @@ DoesTask tasks.Digest tail form shown order to fails files finding =
     Prints (digests_text form tail files) (first_refusal tail 1 files)
 DoesTask tasks.Check tail form shown order to fails files finding =
     λ old result new. WritesChecks form tail (opened_files fails files) old (whole_by result finding) new
-DoesTask tasks.Info tail form shown order to fails files finding = Tells (info_text_in form tail files) (first_refusal tail 1 files)
+DoesTask tasks.Info tail form shown order to fails files finding =
+    Tells (info_text_in form tail files) (first_refusal tail 1 files)
 DoesTask tasks.Report tail form shown order to fails files finding =
     Tells (report_text_in form (length files) (endings_of_files tail files) (clocked_run tail files))
     (report_refusal (clocked_run tail files))
 DoesTask tasks.Convert tail form shown order None fails files finding = λ old result new. ⊥
 DoesTask tasks.Convert tail form shown order (Some format) fails files finding =
     Prints (convert_text format order tail (only_of files)) (convert_refusal format tail (only_of files))
-DoesTask tasks.Merge tail form shown order to fails files finding = Prints (merge_text_in (format_in to) order tail files)
-    (merge_refusal_in (format_in to) tail files)
-DoesTask tasks.Join tail form shown order to fails files finding = Prints (join_text_in (format_in to) order tail files)
-    (join_refusal_in (format_in to) tail files)
+DoesTask tasks.Merge tail form shown order to fails files finding =
+    Prints (merge_text_in (format_in to) order tail files) (merge_refusal_in (format_in to) tail files)
+DoesTask tasks.Join tail form shown order to fails files finding =
+    Prints (join_text_in (format_in to) order tail files) (join_refusal_in (format_in to) tail files)
 
 -- What is written, found and returned by a job: what its task is, with its tail, its form, its order and its format.
 abbrev pub Does : Job → List Bool → List (List ℕ) → Finding → List ℕ → Result Unit Fault → List ℕ → Type 0

@@ -41,7 +41,7 @@ fn open_watched<'a, F: Files<File = File>, C: Clock>(
     }
 }
 
-// Opens the file of that name, which has that number, and checks it as `check_to` does.
+// Opens the file at that place of those that a job names, and checks it as `check_to` does.
 fn check_next<'a, F: Files<File = File>, C: Clock, W: Sink>(
     files: &F,
     alloc: Global,
@@ -55,8 +55,8 @@ fn check_next<'a, F: Files<File = File>, C: Clock, W: Sink>(
     requires place { place < vec_len job.now.files }
     requires most { vec_len job.now.files ≤ 4294967295 }
     ensures text { IsTrue (W.tells_held writer.old)
-        → ChecksName is_closed (form_by job.now.json) (tail_of job.now.allow_cut) (map (λ n. n.now) job.now.files.items) place
-        (W.held writer.old) result (W.held writer.new) }
+        → ChecksName is_closed (form_by job.now.json) (tail_of job.now.allow_cut)
+        (map (λ n. n.now) job.now.files.items) place (W.held writer.old) result (W.held writer.new) }
     ensures writer { WriterKeeps (writer_of W.Sink writer.old) (is_write result) (writer_of W.Sink writer.new) }
 {
     let source = open_watched(
@@ -73,8 +73,9 @@ fn check_next<'a, F: Files<File = File>, C: Clock, W: Sink>(
 
 /// Checks the files that a job names, which have the numbers from 1 on, and prints the line of each as `check_to` does:
 /// opens one after another, standard input if its name is `-`, and closes it before the next. Standard input that is
-/// closed can't be opened. It returns `NotWhole` if one of the files isn't whole, also if it could not be opened. It returns `Memory` if a growth is refused, after the lines
-/// of the files before, and `Write` if a write fails, after a prefix of the lines.
+/// closed can't be opened. It returns `NotWhole` if one of the files isn't whole, also if it could not be opened. It
+/// returns `Memory` if a growth is refused, after the lines of the files before, and `Write` if a write fails, after a
+/// prefix of the lines.
 pub fn check_named<'a, F: Files<File = File>, C: Clock, W: Sink>(
     files: &F,
     alloc: Global,
@@ -86,8 +87,8 @@ pub fn check_named<'a, F: Files<File = File>, C: Clock, W: Sink>(
 ) -> Result<Finding, Fault>
     requires most { vec_len job.now.files ≤ 4294967295 }
     ensures text { IsTrue (W.tells_held writer.old)
-        → ChecksNames is_closed (form_by job.now.json) (tail_of job.now.allow_cut) (map (λ n. n.now) job.now.files.items)
-        (W.held writer.old) result (W.held writer.new) }
+        → ChecksNames is_closed (form_by job.now.json) (tail_of job.now.allow_cut)
+        (map (λ n. n.now) job.now.files.items) (W.held writer.old) result (W.held writer.new) }
     ensures writer { WriterKeeps (writer_of W.Sink writer.old) (is_write result) (writer_of W.Sink writer.new) }
 {
     let mut are_whole = true;
