@@ -1,7 +1,7 @@
-use Rattle.std.proofs.Common.{arith, length, map, refl, ◌≡◌}
+use Rattle.std.proofs.Common.{arith, refl}
 use Rattle.std.proofs.lemmas.List.{length-map}
 use Rattle.std.proofs.lemmas.Result.{err_from_is_err_and}
-use Rattle.cap_tool.proofs.CheckedFiles.{named-all, named-fault, named-more, named-none}
+use Rattle.cap_tool.proofs.CheckedFiles.{named-fault, named-more, named-none}
 use Rattle.cap_tool.proofs.checks.check_named.Goals as goal
 
 pub loop-place-init : goal.loop-place-init

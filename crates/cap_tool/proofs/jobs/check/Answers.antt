@@ -1,4 +1,4 @@
-use Rattle.std.proofs.Common.{Ok, Err, arith, subst, sym}
+use Rattle.std.proofs.Common.{Err, arith, subst, sym}
 use Rattle.cap_check.specs.CheckText.{WritesChecks}
 use Rattle.cap_tool.proofs.CheckedFiles.{opened-are, whole-is}
 use Rattle.cap_tool.proofs.jobs.check.Goals as goal
