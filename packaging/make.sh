@@ -4,7 +4,8 @@
 # of SOURCE_DATE_EPOCH. packaging/check.sh tries that.
 #
 # Use: packaging/make.sh FOLDER [PROGRAM]     (after ./build.sh or `rt run` in crates/capt, which leave PROGRAM and PROGRAM.o; it wants
-#                                              git, tar, gzip, dpkg-deb, and a C compiler with a static C library)
+#                                              the kit's `rt`, git, tar, gzip, strip, dpkg-deb, and a C compiler with a static
+#                                              C library)
 set -euo pipefail
 folder=$(realpath -m "$1")
 program=$(realpath "${2:-$(dirname "$0")/../crates/capt/out/capt}")
