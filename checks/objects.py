@@ -1,8 +1,8 @@
 #!/usr/bin/env python3
-"""JSON Lines: what `list`, `blocks`, `diff`, `info`, `report`, `digest` and `check` print with --json is, object for object
-and byte for byte, what the text lines of the model say of the same files, and Python's json reads each line as those values.
-Over the files of checks/corpus/, the examples, the worked captures, and captures made at random, some of them damaged; `list`
-also with --data. A refusal and a fault are an object too, with the file's path.
+"""JSON Lines: what `list`, `blocks`, `diff`, `info`, `report`, `digest` and `check` print with --json is, object for
+object and byte for byte, what the text lines of the model say of the same files, and Python's json reads each line as
+those values. Over the files of checks/corpus/, the examples, the worked captures, and captures made at random, some of
+them damaged; `list` also with --data. A refusal and a fault are an object too, with the file's path.
 
 Use: checks/objects.py [PROGRAM [CAPTURES]]     (as after `rt run` or `rt ci` in crates/capt; 10,000 random captures in about a minute)
 """

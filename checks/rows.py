@@ -428,6 +428,7 @@ UNKNOWN = facts("-", interfaces=0)
 ONE_PCAP, ONE_PCAPNG, NO_PCAP = facts("pcap", 1), facts("pcapng", 1), facts("pcap")
 CARRY, SKIPPED = vector("CARRY_PCAP").hex(), "01000040 10000000 00000000 10000000"
 CUT_AT_24 = f"{NO_PCAP} refused offset 24 rule 3 cut"
+BEFORE_1970 = interface("0e00 0800 ffffffffffffffff")       # by a second
 REFUSED_AT = {0: UNKNOWN, 24: NO_PCAP, 28: facts("pcapng", interfaces=0), 48: facts("pcapng")}
 IN_1024 = interface("0900 0100 8a000000")       # 28 bytes
 
@@ -439,7 +440,7 @@ def units(number, interface=0):
 
 # Captures, whether a cut end is accepted, and the line of each that is checked, from the format on.
 CHECKED = [
-    # the files of `info` above: an obsolete packet, a simple one in part and without a time, a skipped block, no packets
+    # the files of `info` above: an obsolete packet, a simple one in part and without a time, a skipped block, no packet
     ([OBSOLETE], False, [f"{ONE_PCAPNG} whole"]),
     ([TOLD_OF[1][0]], False, [f"{facts('pcapng', 1, untimed=1, truncated=1)} whole"]),
     ([TOLD_OF[2][0]], False, [f"{facts('pcapng', 1, skipped=1)} whole"]),
@@ -449,9 +450,9 @@ CHECKED = [
     *(([""], allow_cut, [f"{UNKNOWN} refused offset 0 rule 3 cut"]) for allow_cut in (False, True)),
     ([CARRY, "00000000", CUT], False, [f"{ONE_PCAP} whole", f"{UNKNOWN} refused offset 0 rule 1 magic", CUT_AT_24]),
     ([CARRY, CUT, "00000000"], False, [f"{ONE_PCAP} whole", CUT_AT_24, f"{UNKNOWN} refused offset 0 rule 1 magic"]),
-    *(([CARRY] * (number - 1) + [CUT] + [CARRY] * (32 - number), False,
-       [f"{ONE_PCAP} whole"] * (number - 1) + [CUT_AT_24] + [f"{ONE_PCAP} whole"] * (32 - number)) for number in range(1, 33)),
-    # those that `list` refuses: in the file header, in the first record, in the first block after the section, behind an interface
+    *(([CARRY] * before + [CUT] + [CARRY] * (31 - before), False,
+       [f"{ONE_PCAP} whole"] * before + [CUT_AT_24] + [f"{ONE_PCAP} whole"] * (31 - before)) for before in range(32)),
+    # those that `list` refuses: in the file header, the first record, the block after the section or after an interface
     *(([content], allow_cut, [f"{REFUSED_AT[int(told.split()[0])]} refused offset {told}"])
       for content, allow_cut, told in NOT_LISTED),
     # those that it lists: two sections with an interface each, and packets at one time; and one packet each
@@ -465,7 +466,7 @@ CHECKED = [
     ([f"{SECTION} {PLAIN} {IN_1024} {units(2_500_000)} {units(2_560, 1)} {units(2_559, 1)} {units(2_500_000)}"], False,
      [f"{facts('pcapng', 4, 1, interfaces=2)} whole"]),
     # a microsecond before 1970, and half a second before that one
-    ([f"{SECTION} {interface('0e00 0800 ffffffffffffffff')} {units(999_999)} {units(499_999)} {units(1_000_000)}"], False,
+    ([f"{SECTION} {BEFORE_1970} {units(999_999)} {units(499_999)} {units(1_000_000)}"], False,
      [f"{facts('pcapng', 3, 1)} whole"]),
     # packets without a time, first and between others: the last is below the first that has one
     ([f"{SECTION} {PLAIN} {SIMPLE} {units(5)} {SIMPLE} {units(4)}"], False, [f"{facts('pcapng', 4, 1, 2)} whole"]),
@@ -475,17 +476,20 @@ CHECKED = [
     ([sections(3, 0, 2)], False, [f"{facts('pcapng', interfaces=5)} whole"]),
     ([f"{sections(3)} {units(1, 1)} {SKIPPED} {sections(2)} {SKIPPED} {units(2, 0)}"], False,
      [f"{facts('pcapng', 2, skipped=2, interfaces=5)} whole"]),
-    # as of a refusal: a packet of interface 2 if there are 0 and 1, behind 28 + 3 * 20 + 32 + 16 + 28 + 2 * 20 bytes; an
-    # interface that is too fine, behind another; a section of version 1.1, behind a packet and a skipped block
+    # as of a refusal: a packet of interface 2 if there are 0 and 1, behind 28 + 3 * 20 + 32 + 16 + 28 + 2 * 20 bytes;
+    # an interface whose units are too fine, behind another; a section of version 1.1, behind a packet and a skipped block
     ([f"{sections(3)} {units(1, 1)} {SKIPPED} {sections(2)} {units(2, 2)} {SKIPPED}", CARRY], False,
-     [f"{facts('pcapng', 1, skipped=1, interfaces=5)} refused offset 204 rule 9 interface-unknown", f"{ONE_PCAP} whole"]),
-    ([f"{sections(1)} {interface('0900 0100 14000000')} {PLAIN}"], False, [f"{facts('pcapng')} refused offset 48 rule 12 resolution"]),
+     [f"{facts('pcapng', 1, skipped=1, interfaces=5)} refused offset 204 rule 9 interface-unknown",
+      f"{ONE_PCAP} whole"]),
+    ([f"{sections(1)} {interface('0900 0100 14000000')} {PLAIN}"], False,
+     [f"{facts('pcapng')} refused offset 48 rule 12 resolution"]),
     ([f"{sections(1)} {units(1)} {SKIPPED} {SECTION.replace('01000000 ff', '01000100 ff')}"], False,
      [f"{facts('pcapng', 1, skipped=1)} refused offset 96 rule 2 version"]),
     # of a record that is cut, of an interface, of a skipped block, and of a second section: what came before it
     ([of_link(1, at(5, ""), at(1, "", 9)) + "00"], True, [f"{facts('pcap', 2, 1, truncated=1)} whole cut"]),
     *(([f"{sections(2)} {units(1)} {rest[:-2]}"], allow_cut, [f"{facts('pcapng', 1, interfaces=2)} {end}"])
-      for rest in (PLAIN, SKIPPED, SECTION) for allow_cut, end in ((True, "whole cut"), (False, "refused offset 100 rule 3 cut"))),
+      for rest in (PLAIN, SKIPPED, SECTION)
+      for allow_cut, end in ((True, "whole cut"), (False, "refused offset 100 rule 3 cut"))),
     # a first section that is cut is none
     *(([SECTION[:-2]], allow_cut, [f"{UNKNOWN} refused offset 0 rule 3 cut"]) for allow_cut in (False, True)),
 ]
