@@ -415,7 +415,7 @@ def checked(file):
 
 def unread(number, content, offset):
     """The line of a file of which a read fails in the header, record or block at that offset. The packets before that
-    tell the format, the skipped blocks up to the last of them, and the interfaces up to the last that has one of them."""
+    tell the format, the skipped blocks up to the last one, and the interfaces up to the last that has one of them."""
     packets = [packet for packet in File(number, content, False).packets if packet.offset < offset]
     if not packets:
         return check_line(number, f"read offset {offset}")

@@ -477,7 +477,7 @@ CHECKED = [
     ([f"{sections(3)} {units(1, 1)} {SKIPPED} {sections(2)} {SKIPPED} {units(2, 0)}"], False,
      [f"{facts('pcapng', 2, skipped=2, interfaces=5)} whole"]),
     # as of a refusal: a packet of interface 2 if there are 0 and 1, behind 28 + 3 * 20 + 32 + 16 + 28 + 2 * 20 bytes;
-    # an interface whose units are too fine, behind another; a section of version 1.1, behind a packet and a skipped block
+    # an interface whose units are too fine, behind another; a section of version 1.1, behind a packet and a skipped one
     ([f"{sections(3)} {units(1, 1)} {SKIPPED} {sections(2)} {units(2, 2)} {SKIPPED}", CARRY], False,
      [f"{facts('pcapng', 1, skipped=1, interfaces=5)} refused offset 204 rule 9 interface-unknown",
       f"{ONE_PCAP} whole"]),
