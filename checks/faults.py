@@ -191,10 +191,10 @@ def growths(count, bench, shim, pool):
 
 
 def places_of(content):
-    """Where a file's header, records or blocks begin, and its end."""
+    """Where a file's header, records or blocks begin, and its end, or where it is refused."""
     file = model.File(1, content, False, content[:1] == b"\x0a")
     starts = [block.offset for block in file.blocks] or [0, *[packet.offset for packet in file.packets]]
-    return [*starts, len(content)]
+    return [*starts, file.refusal.offset if file.refusal else len(content)]
 
 
 def reads_of(count, bench, shim, out, task, row):

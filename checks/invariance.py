@@ -7,8 +7,8 @@ All lines but those of the files are the same, byte for byte; after `convert --t
 they may have another form. The line of `digest` is the same after both conversions. A capture that isn't written whole is refused by the
 rule that is said here.
 
-After a conversion `check` counts as many packets, and as many that run back, have no time or were captured in part; after
-a merge the sums of these.
+After a conversion `check` counts as many packets, and as many that run back, have no time or were captured in part;
+after a merge the sums of these.
 
 Use: checks/invariance.py [PROGRAM]     (as after `rt run` or `rt ci` in crates/capt)"""
 import sys
