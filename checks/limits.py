@@ -219,8 +219,13 @@ def files(edges):
     edges.accepts("32 files, join", ["join", "-o", out, *[file] * 32])
     edges.accepts("33 files, check", ["check", *[file] * 33], "check 1 pcap packets 1 ", "check 33 pcap packets 1 ")
     edges.accepts("1,000 files, check", ["check", *[file] * 1000], "check 1000 pcap packets 1 ")
+    seen = run(["-c", 'ulimit -n 16; exec "$@"', "bash", edges.program, "check", *[file] * 100], "bash")
+    is_so = (seen[0], seen[1].count(b" whole\n"), seen[2]) == (0, 100, b"")
+    edges.count.check("100 files, of which a process can't hold 16 open, check", is_so, seen)
+    edges.takes("10,000 files, check", ["check", *[file] * 10_000], 8)
     longest = edges.file("longest", SECTION, INTERFACE, packet(0, 1, b"\1", struct.pack("<HH", 1, 0) * ((524_288 - 36) // 4)))
     edges.takes("32 files with a block of 524,288 bytes", ["report", *[longest] * 32], 24)
+    edges.takes("32 files with a block of 524,288 bytes, check", ["check", *[longest] * 32], 4)
     for words in (["info"], ["report"], ["digest"], ["merge", "-o", out], ["join", "-o", out]):
         edges.refuses(f"33 files, {words[0]}", [*words, *[file] * 33], "fault: files", 2)
 
