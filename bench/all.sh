@@ -20,7 +20,8 @@
 #   far.pcap     800,000 fragments of 8 bytes, each of which opens a group of 65,512 bytes, 47 MB
 #   part1 to 8   1,200,000 packets of 64 to 1,514 bytes, whose times come in turn, 1 GB together
 # and mixed.pcapng and small.pcapng, which capt makes of the first two. Holds the conversations that capt prints to those
-# of count.c, and what it prints of a file to what info.c counts. A row has the processor seconds of capt (user and system,
+# of count.c, and what it prints of a file to what info.c counts: `info` all of it, `check` the packets and the truncated
+# ones. A row has the processor seconds of capt (user and system,
 # the best of several runs), its peak of resident memory, and its processor seconds as a ratio to those of each other
 # program in the same run, whose runs come in turn. Aims, as ratios: report at most 1.5 of count.c (2 on many), info 1.5 of
 # info.c, diff 1.5 of info of both files, convert and merge 2 of `cat FILE > OUT` on mixed sizes, a third of editcap and half of mergecap on small ones.
@@ -81,6 +82,8 @@ for name in ("mixed", "small", "turns", "many"):
     assert lines([program, "report", f"{name}.pcap"], b"talks ") == lines(["./count", f"{name}.pcap"], b"talks "), name
 for name in ("mixed.pcap", "small.pcap", "mixed.pcapng", "small.pcapng"):
     assert lines([program, "info", name], b"file 1").replace(b" skipped 0", b"") == lines(["./info", name], b"file 1"), name
+    counted, checked = lines(["./info", name], b"file 1").split(), lines([program, "check", name], b"check 1").split()
+    assert [checked[place] for place in (4, 10, -1)] == [counted[4], counted[8], b"whole"], name
 
 def text_of(*words):
     with open("text", "wb") as out:
@@ -117,6 +120,8 @@ print(f"{'':22} {more:.0f} bytes of memory for each further conversation")
 for file in ("mixed.pcap", "small.pcap", "mixed.pcapng", "small.pcapng"):
     row(f"info {file}", [program, "info", file],
         {"cat": ["cat", file], "info.c": ["./info", file], "capinfos -Tmtcdae": ["capinfos", "-Tmtcdae", file]})
+for file in ("mixed.pcap", "small.pcap", "mixed.pcapng", "small.pcapng"):
+    row(f"check {file}", [program, "check", file], {"info": [program, "info", file], "info.c": ["./info", file]})
 for file in ("mixed.pcap", "small.pcap", "mixed.pcapng"):
     row(f"digest {file}", [program, "digest", file], {"sha256sum": ["sha256sum", file]})
 for words in (["list", "small.pcap"], ["list", "small.pcapng"], ["blocks", "small.pcapng"]):

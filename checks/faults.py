@@ -7,7 +7,8 @@ have written nothing, and the other commands a prefix, and has given all memory 
 `Fault::Memory`, each has to pass, whichever request is refused.
 
 Devices: each read of each file failing in turn, which is told with the header, record or block that it is of (`list`, `blocks` and a
-merge: after all that comes before it, `digest`: after the lines of the files before); a writer
+merge: after all that comes before it, `digest`: after the lines of the files before; `check` prints it on the file's
+line, and goes on); a writer
 that fails, or takes nothing, after any number of bytes, which has just these (one that a signal interrupts is asked
 again); a file without end, which rule 14 stops, and a read of it that fails beyond byte 2^32.
 
@@ -51,6 +52,8 @@ ROWS = {
     "carry-pcapng": [vector("CARRY_PCAPNG")],
     "options": [vector("OPTIONS_PCAPNG")],
     "cut": [vector("TAGGED_FRAMES")[:-1]],
+    "simple and two sections": [SECTION + interface(6) * 2 + block(3, struct.pack("<I", 0)) + packet(1, 5, b"")
+                                + SECTION + block(5, b"") + interface(6) * 2 + packet(1, 4, b"") + packet(0, 6, b"")],
     "longest": [pcap_header(1) + record(1, bytes(262_144)) + record(2, b"\1")],
     "longest, twice": [pcap_header(1) + record(1, bytes(262_144)) + record(2, b"\1")] * 2,
     "carried": [vector("CARRY_PCAP"), vector("CARRY_PCAPNG")],
@@ -63,6 +66,7 @@ GROWTHS = {
                "conversations", "groups", "interfaces", "longest"],
     "info": ["runs-back and options", "cut"],
     "digest": ["runs-back and options", "cut"],
+    "check": ["runs-back and options", "cut", "interfaces", "longest, twice"],
     "merge": ["runs-back", "interfaces"],
     "merge-pcap": ["runs-back"],
     "join": ["overlapped-fragments", "interfaces"],
@@ -77,6 +81,7 @@ DEVICES = {
     "report": ["tagged-frames", "overlapped-fragments", "runs-back and options"],
     "info": ["runs-back and options"],
     "digest": ["runs-back and options"],
+    "check": ["runs-back and options", "tagged-frames", "cut", "simple and two sections"],
     "merge": ["runs-back", "runs-back and options"],
     "merge-pcap": ["runs-back", "runs-back and options"],
     "join": ["overlapped-fragments", "runs-back"],
@@ -105,20 +110,22 @@ MEMORY, WRITE = b"fault: memory\n", b"fault: write\n"
 
 def told_as(task, seen, wanted, fault):
     """Whether a run that met a fault told it, has given all memory back, and has written nothing, or a prefix of what was
-    wanted."""
+    wanted: of `check` whole lines."""
     status, text, error, _, _, blocks = seen
-    return (status, error, blocks) == (1, fault, 0) and (text == b"" if task in ("diff", "report", "info") else wanted[1].startswith(text))
+    is_front = text == b"" if task in ("diff", "report", "info") else wanted[1].startswith(text)
+    return (status, error, blocks) == (1, fault, 0) and is_front and (task != "check" or text[-1:] in (b"", b"\n"))
 
 
 def growths_before_files(bench, shim, out, task):
     """Refuses each growth of a run whose file is missing: those of the command line. The first number that meets none, and
     what was wrong."""
     words = words_of(task, [os.path.join(bench.folder, "missing")] * (2 if task == "diff" else 1), out=out)
+    ended = (1, model.unopened(1).encode(), b"") if task == "check" else (1, b"", b"fault: open file 1\n")
     for n in range(1, 10_000):
         seen = run(words, bench.program, (shim, {"GROWTHS": f"{n}-{n + 1}"}))
         if seen[3] == 0:
-            return n, None if seen[:3] == (1, b"", b"fault: open file 1\n") else f"no growth refused: {seen}"
-        if seen[:3] not in ((1, b"", MEMORY), (1, b"", b"fault: open file 1\n")):
+            return n, None if seen[:3] == ended else f"no growth refused: {seen}"
+        if seen[:3] not in ((1, b"", MEMORY), ended):
             return n, f"growth {n}: {seen}"
     return n, "there is no end of growths"
 
@@ -161,6 +168,8 @@ def growths(count, bench, shim, pool):
     for task, rows in GROWTHS.items():
         first, wrong = lines[task].result()
         runs += first
+        if task == "check":
+            first = 1       # it goes on behind a missing file, so these weren't those of the command line alone
         count.check(f"the command line of {task}", wrong is None, wrong)
         for row in rows:
             for width in (1, 2, ALL) if row != "groups" else (1,):      # which makes more than 1,024
@@ -182,10 +191,10 @@ def growths(count, bench, shim, pool):
 
 
 def places_of(content):
-    """Where a file's header, records or blocks begin, and its end."""
+    """Where a file's header, records or blocks begin, and its end, or where it is refused."""
     file = model.File(1, content, False, content[:1] == b"\x0a")
     starts = [block.offset for block in file.blocks] or [0, *[packet.offset for packet in file.packets]]
-    return [*starts, len(content)]
+    return [*starts, file.refusal.offset if file.refusal else len(content)]
 
 
 def reads_of(count, bench, shim, out, task, row):
@@ -209,6 +218,22 @@ def reads_of(count, bench, shim, out, task, row):
             count.check(f"{task} of {row}, read {call} of file {number}", is_so, seen)
 
 
+def checked_reads_of(count, bench, shim, out, task, row):
+    """The same of `check`, which prints it on the file's line and goes on. It opens one file after another, and each of
+    them is the open file 3."""
+    contents, call = ROWS[row], 0
+    lines = wanted_of(task, contents)[1].splitlines(True)
+    for number, content in enumerate(contents, 1):
+        places = places_of(content)
+        for read in range(len(content) + 1):
+            call += 1
+            seen = bench.run(task, contents, faults=(shim, {"READ": f"3-{call}", "PIECE": 1}))
+            told = model.unread(number, content, max(place for place in places if place <= read))
+            wanted = b"".join([*lines[:number - 1], told.encode(), *lines[number:]])
+            is_so = seen[:4] == (1, wanted, b"", 1) and seen[5] == 0
+            count.check(f"{task} of {row}, read {read + 1} of file {number}", is_so, wanted, seen)
+
+
 def writes_of(count, bench, shim, out, task, row):
     """A writer that takes nothing, or fails, after each number of bytes; one that a signal interrupts is asked again."""
     wanted = wanted_of(task, ROWS[row])
@@ -222,6 +247,10 @@ def writes_of(count, bench, shim, out, task, row):
 def endless(count, bench, shim, out):
     """A section, and then blocks of 2^32 - 4 bytes without end: 256 of them end by byte 2^40, and the next begins there."""
     offset = 28 + 256 * (2**32 - 4)
+    seen = bench.run("check", [SECTION], faults=(shim, {"ENDLESS": 1}))
+    told = f"refused offset {offset} rule 14 file-limit"
+    is_so = seen[:3] == (1, model.check_line(1, told, format="pcapng", skipped=256).encode(), b"") and seen[4] < 16_384
+    count.check("check of a file without end", is_so, seen)
     for task in ("list", "blocks", "info", "report", "digest", "pcap", "pcapng", "merge", "join", "merge-pcap", "join-pcap"):
         seen = bench.run(task, [SECTION], task == "list", out=out, faults=(shim, {"ENDLESS": 1}))
         is_so = (seen[0], seen[2]) == (1, f"refused: file 1 offset {offset} rule 14 file-limit\n".encode())
@@ -239,13 +268,21 @@ def standard(count, bench, shim, out):
     for call in range(1, len(content) + 2):
         with open(bench.name(content), "rb") as file:
             seen = run(["list", "-"], bench.program, (shim, {"READ": f"0-{call}", "PIECE": 1}), stdin=file)
-        told = f"fault: read file 1 offset {max(place for place in places if place <= call - 1)}\n"
+        offset = max(place for place in places if place <= call - 1)
+        told = f"fault: read file 1 offset {offset}\n"
         count.check(f"list of standard input, read {call}", (seen[0], seen[2], seen[3]) == (1, told.encode(), 1), seen)
+        with open(bench.name(content), "rb") as file:
+            seen = run(["check", "-"], bench.program, (shim, {"READ": f"0-{call}", "PIECE": 1}), stdin=file)
+        is_so = seen[:4] == (1, model.unread(1, content, offset).encode(), b"", 1)
+        count.check(f"check of standard input, read {call}", is_so, seen)
 
 
 def far(count, bench, shim, out):
     """A read that fails beyond byte 2^32 of such a file, in the second of its blocks, is told with all of that block's offset."""
     offset = 28 + (2**32 - 4)
+    seen = bench.run("check", [SECTION], faults=(shim, {"ENDLESS": 1, "READ": "3-99999"}))
+    is_so = seen[:4] == (1, model.check_line(1, f"read offset {offset}").encode(), b"", 1)
+    count.check("check, a read that fails beyond byte 2^32", is_so, seen)
     for task in ("list", "blocks", "info", "report", "digest", "pcap", "pcapng", "merge", "join", "merge-pcap", "join-pcap"):
         seen = bench.run(task, [SECTION], out=out, faults=(shim, {"ENDLESS": 1, "READ": "3-99999"}))
         is_so = (seen[0], seen[2], seen[3]) == (1, f"fault: read file 1 offset {offset}\n".encode(), 1)
@@ -256,7 +293,7 @@ def devices(count, bench, shim, pool):
     jobs = []
     for task, rows in DEVICES.items():
         for row in rows:
-            for check in (reads_of, writes_of):
+            for check in (checked_reads_of if task == "check" else reads_of, writes_of):
                 jobs.append(pool.submit(check, count, bench, shim, os.path.join(bench.folder, f"{check.__name__}-{task}-{row}"), task, row))
     for check in (endless, far, standard):
         jobs.append(pool.submit(check, count, bench, shim, os.path.join(bench.folder, check.__name__)))

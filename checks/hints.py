@@ -1,8 +1,9 @@
 #!/usr/bin/env python3
 """What a terminal shows beside a refusal, for each rule that a small capture breaks (14 and 16, whose captures are large, are explained in
-faults.py and limits.py; 15 is never answered), and how much of two regular files was read, of a run that takes over two seconds.
+faults.py and limits.py; 15 is never answered): with `check` nothing but the file's line. And how much of two regular
+files was read, of a run that takes over two seconds.
 
-Use: checks/hints.py [PROGRAM]     (as after `rt run` or `rt ci` in crates/capt; some four seconds)"""
+Use: checks/hints.py [PROGRAM]     (as after `rt run` or `rt ci` in crates/capt; some seven seconds)"""
 import sys
 
 sys.dont_write_bytecode = True
@@ -95,6 +96,10 @@ def main():
             text, status = rest_of(*begun(words, folder, program))
             wanted = rf"(?:packet .*\n)*refused: file 1 offset \d+ rule {rule}\n  capture: {re.escape(said)}\n"
             count.check(f"rule {rule} at a terminal", status == 1 and re.fullmatch(wanted, text), status, text)
+            if command == "list":
+                text, status = rest_of(*begun(["check", "capture"], folder, program))
+                found = re.fullmatch(rf"check 1 .* interfaces \d+ refused offset \d+ rule {rule}\n", text)
+                count.check(f"rule {rule} of check at a terminal", status == 1 and found, status, text)
         with open(os.path.join(folder, "no packet"), "wb") as file:
             file.write(ETHERNET)
         for command in ("merge", "join"):
@@ -108,19 +113,25 @@ def main():
         seen = rest_of(*begun(["info", "a", "b", " c"], folder, program))
         wanted = "refused: file 3 offset 0 rule 3 cut\n   c: it is cut off: --allow-cut drops a last record or block, but not a file header\n"
         count.check("the third of three files, with a space in front of its name", seen == (wanted, 1), seen)
+        text, status = rest_of(*begun(["check", "--explain", "a", "none", " c", "."], folder, program))
+        ends = re.findall(r"^check \d .* interfaces \d (.*)$", text, re.M)
+        wanted = ["whole", "open", "refused offset 0 rule 3 cut", "read offset 0"]
+        count.check("a check at a terminal", (status, ends, text.count("\n")) == (1, wanted, 4), status, text)
         # Stopped for over two seconds once it has read 2 MB: what it shows after that is how much of both files it has read.
         write_sparse(os.path.join(folder, "a"), 300_000_000)
         write_sparse(os.path.join(folder, "b"), 500_000_000)
-        run, seen = begun(["info", "a", "b"], folder, program)
-        while run.poll() is None and was_read(run) < 2_500_000:
-            pass
-        run.send_signal(signal.SIGSTOP)
-        time.sleep(2.2)
-        run.send_signal(signal.SIGCONT)
-        text, _ = rest_of(run, seen)
-        told = re.findall(r"\r\x1b\[K\x1b\[\?7l  ([\d.]+) MB of ([^,]*), ", text)
-        is_so = bool(told) and all(float(read) >= 2 and whole == "800.0 MB" for read, whole in told)
-        count.check("how much was read of both files", is_so and "files 2\n" in text, text)
+        # `check`, which opens the second file once the first is read, doesn't say of how much.
+        for command, of_all, ends in (("info", " of 800.0 MB", "files 2\n"), ("check", "", "interfaces 0 whole\n")):
+            run, seen = begun([command, "a", "b"], folder, program)
+            while run.poll() is None and was_read(run) < 2_500_000:
+                pass
+            run.send_signal(signal.SIGSTOP)
+            time.sleep(2.2)
+            run.send_signal(signal.SIGCONT)
+            text, _ = rest_of(run, seen)
+            told = re.findall(r"\r\x1b\[K\x1b\[\?7l  ([\d.]+) MB( of [^,]*)?, ", text)
+            is_so = bool(told) and all(float(read) >= 2 and whole == of_all for read, whole in told)
+            count.check(f"how much {command} read of both files", is_so and ends in text, text)
     count.end()
 
 

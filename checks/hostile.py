@@ -16,8 +16,9 @@ import multiprocessing, os, tempfile
 import model
 from captures import PROGRAM, VECTORS, Bench, Count, block, make_shim, vector
 
-ONE = ["list", "blocks", "info", "report", "digest", "pcapng", "pcap", "merge", "join", "merge-pcap", "join-pcap"]
-MANY = ["diff", "info", "report", "digest", "merge", "join", "merge-pcap", "join-pcap"]
+ONE = ["list", "blocks", "info", "report", "digest", "check", "pcapng", "pcap", "merge", "join", "merge-pcap",
+       "join-pcap"]
+MANY = ["diff", "info", "report", "digest", "check", "merge", "join", "merge-pcap", "join-pcap"]
 
 # The lengths at which `list` accepts a worked file that is cut; at every other it is refused by rule 3, at the greatest of
 # these and 0 that isn't above the length.
@@ -50,11 +51,16 @@ FRAGMENT_REPORT = ("files 1\n"
                    "total packets 4 bytes 112 truncated 0\n"
                    "frames other-link 0 not-ipv4 0 short 0 cut 0 bad 0 unjoined 0 counted 4\n"
                    "joined 1 given-up 0\ntalks 1\n" + TALK.format(1001, 2001, "forward 4 112 backward 0 0", 4))
+# The line of a file of which a section was read.
+CHECKED = "check 1 pcapng packets 0 backward 0 untimed 0 truncated 0 skipped 0 interfaces 0 {}\n"
+WHOLE = "check 1 {} packets {} backward 0 untimed 0 truncated 0 skipped {} interfaces 1 whole\n"
 # What is written of worked files, worked out by hand: the model is held to it.
 WORKED = [("pcapng", "CARRY_PCAP", vector("CARRY_PCAPNG")), ("pcap", "CARRY_PCAPNG", vector("CARRIED_PCAP")),
           ("merge", "CARRY_PCAP", vector("CARRY_PCAPNG")), ("join", "FRAGMENT_FRAMES", vector("JOINED")),
           ("merge-pcap", "CARRY_PCAPNG", vector("CARRIED_PCAP")), ("join-pcap", "FRAGMENT_FRAMES", vector("JOINED_PCAP")),
-          ("report", "TAGGED_FRAMES", TAGGED_REPORT), ("report", "FRAGMENT_FRAMES", FRAGMENT_REPORT)]
+          ("report", "TAGGED_FRAMES", TAGGED_REPORT), ("report", "FRAGMENT_FRAMES", FRAGMENT_REPORT),
+          ("check", "TAGGED_FRAMES", WHOLE.format("pcap", 3, 0)),
+          ("check", "OPTIONS_PCAPNG", WHOLE.format("pcapng", 1, 1))]
 
 
 def lying_lengths():
@@ -90,7 +96,9 @@ def all_runs():
                     for task in MANY:
                         yield label, task, contents, len(content) % 2 == 0
         for n, (label, content) in enumerate(lies):
-            yield label, ONE[n % len(ONE)], [content], n % 3 == 0
+            # in each round one further, so that each command meets each number
+            yield label, ONE[(n + n // len(ONE)) % len(ONE)], [content], n % 3 == 0
+            yield label, "check", [content], n % 2 == 1
             yield label, "report", [content], n % 2 == 0
             yield label, "diff", [content, whole] if n % 2 else [whole, content], n % 3 == 0
 
@@ -122,9 +130,11 @@ def main():
         section = vector("CARRY_PCAPNG")[:28]
         for content, offset, rule in lying_lengths():
             refusal = f"refused: file 1 offset {offset} rule {rule} {model.RULES[rule]}\n".encode()
+            line = CHECKED.format(f"refused offset {offset} rule {rule} {model.RULES[rule]}").encode()
             for task in ONE:
                 seen = bench.run(task, [section + content], out=os.path.join(folder, "out"))
-                count.check(f"{task} of a block that lies", seen[0] == 1 and seen[2] == refusal, content[:12], seen)
+                is_so = seen == (1, line, b"") if task == "check" else seen[0] == 1 and seen[2] == refusal
+                count.check(f"{task} of a block that lies", is_so, content[:12], seen)
                 if task in ("info", "report"):
                     count.check(f"{task} writes nothing", seen[1] == b"", seen)
 

@@ -7,6 +7,9 @@ All lines but those of the files are the same, byte for byte; after `convert --t
 they may have another form. The line of `digest` is the same after both conversions. A capture that isn't written whole is refused by the
 rule that is said here.
 
+After a conversion `check` counts as many packets, and as many that run back, have no time or were captured in part;
+after a merge the sums of these.
+
 Use: checks/invariance.py [PROGRAM]     (as after `rt run` or `rt ci` in crates/capt)"""
 import sys
 
@@ -61,6 +64,12 @@ def body(text):
     return [line for line in text.splitlines() if not line.startswith(("files ", "file "))]
 
 
+def counts(line):
+    """How many packets a line of `check` has, of a whole file, and how many run back, have no time or are in part."""
+    found = re.fullmatch(r"check \d+ \w+ packets (\d+) backward (\d+) untimed (\d+) truncated (\d+) .* whole\n", line)
+    return found and [int(number) for number in found.groups()]
+
+
 def as_fractions(lines):
     """The same, their times as fractions."""
     time = r"(-?\d+)\+(\d+)/(\d+)"
@@ -85,10 +94,15 @@ def main():
                     file.write(content)
             status, told, error = done(["report", *files])
             count.check(f"{name}: report", (status, error) == (0, ""), status, error)
+            status, lines, error = done(["check", *files])
+            checked = [counts(line) for line in lines.splitlines(True)]
+            count.check(f"{name}: check", (status, error, len(checked)) == (0, "", len(files)) and all(checked), lines)
+            sums = [sum(numbers) for numbers in zip(*checked)]
             for order in ("little", "big"):
                 count.check(f"{name}: merge", done(["merge", "--order", order, "-o", out, *files]) == (0, "", ""))
                 count.check(f"{name}: merged, {order}", body(done(["report", out])[1]) == body(told), told)
-            for file, rule in zip(files, rules):
+                count.check(f"{name}: merged, {order}, checked", counts(done(["check", out])[1]) == sums, sums)
+            for file, rule, numbers in zip(files, rules, checked):
                 alone, digest = done(["report", file])[1], done(["digest", file])
                 count.check(f"{name}: digest", digest[0] == 0 and digest[1].startswith("digest 1 sha256 "), digest)
                 count.check(f"{name}: pcapng", done(["convert", "--to", "pcapng", "-o", out, file]) == (0, "", ""))
@@ -96,6 +110,7 @@ def main():
                 same = (0, f"same packets {re.search('packets ([0-9]+)', alone)[1]}\n", "")
                 count.check(f"{name}: diff of pcapng", done(["diff", file, out]) == same == done(["diff", out, file]), same)
                 count.check(f"{name}: digest of pcapng", done(["digest", out]) == digest, digest)
+                count.check(f"{name}: check of pcapng", counts(done(["check", out])[1]) == numbers, numbers)
                 status, _, error = done(["convert", "--to", "pcap", "-o", out, file])
                 if rule:
                     count.check(f"{name}: pcap", status == 1 and f" rule {rule} " in error, status, error)
@@ -103,6 +118,7 @@ def main():
                     count.check(f"{name}: pcap", (status, error) == (0, ""), status, error)
                     count.check(f"{name}: diff of pcap", done(["diff", file, out]) == same == done(["diff", out, file]), same)
                     count.check(f"{name}: digest of pcap", done(["digest", out]) == digest, digest)
+                    count.check(f"{name}: check of pcap", counts(done(["check", out])[1]) == numbers, numbers)
                     again = body(done(["report", out])[1])
                     count.check(f"{name}: report of pcap", as_fractions(again) == as_fractions(body(alone)), again, alone)
     count.end()

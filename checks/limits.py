@@ -52,11 +52,19 @@ class Edges:
         print(f"{name}: {memory / 1024:.1f} MiB resident")
         return out
 
+    def checks(self, name, file, told):
+        """`check` prints how a file is refused on its line, and nothing else."""
+        status, out, error = run(["check", file], self.program)
+        end = told.replace("refused: file 1 ", " refused ") + "\n"
+        is_so = out.startswith(b"check 1 ") and out.endswith(end.encode()) and out.count(b"\n") == 1
+        self.count.check(name, (status, error) == (1, b"") and is_so, status, out, error)
+
     def everywhere(self, name, file, told, text=None):
-        """Every command refuses a file; `list` prints a text before."""
+        """Every command refuses a file; `list` prints a text before, and `check` goes on."""
         out = os.path.join(self.folder, "out")
         self.refuses(f"list of {name}", ["list", file], told, out=text or b"")
         self.refuses(f"diff of {name}", ["diff", file, file], told)
+        self.checks(f"check of {name}", file, told)
         for words in (["info"], ["report"], ["digest"], ["merge", "-o", out], ["join", "-o", out], ["convert", "--to", "pcap", "-o", out],
                       ["convert", "--to", "pcapng", "-o", out]):
             self.refuses(f"{words[0]} of {name}", [*words, file], told)
@@ -127,6 +135,9 @@ def interfaces(edges):
     for words in (["merge"], ["convert", "--to", "pcapng"], ["convert", "--to", "pcap"]):
         edges.accepts(f"1,024 interfaces, {words[0]}", [*words, "-o", out, file])
         edges.accepts(f"1,024 interfaces, {words[0]}, read again", ["list", out], "packet 1024 ")
+    edges.accepts("1,024 interfaces, check", ["check", file], "check 1 pcapng packets 1024 ", " interfaces 1024 whole\n")
+    file = edges.file("3072", *[SECTION, INTERFACE * 1_024] * 3)
+    edges.accepts("3,072 interfaces of three sections, check", ["check", file], " interfaces 3072 whole\n")
     file = edges.file("1025", SECTION, INTERFACE * 1_025)
     edges.everywhere("1,025 interfaces", file, "refused: file 1 offset 20508 rule 13 interface-limit")
     # written: 512 of one section, or file, and 512 or 513 of another
@@ -208,8 +219,13 @@ def files(edges):
     edges.accepts("32 files, join", ["join", "-o", out, *[file] * 32])
     edges.accepts("33 files, check", ["check", *[file] * 33], "check 1 pcap packets 1 ", "check 33 pcap packets 1 ")
     edges.accepts("1,000 files, check", ["check", *[file] * 1000], "check 1000 pcap packets 1 ")
+    seen = run(["-c", 'ulimit -n 16; exec "$@"', "bash", edges.program, "check", *[file] * 100], "bash")
+    is_so = (seen[0], seen[1].count(b" whole\n"), seen[2]) == (0, 100, b"")
+    edges.count.check("100 files, of which a process can't hold 16 open, check", is_so, seen)
+    edges.takes("10,000 files, check", ["check", *[file] * 10_000], 8)
     longest = edges.file("longest", SECTION, INTERFACE, packet(0, 1, b"\1", struct.pack("<HH", 1, 0) * ((524_288 - 36) // 4)))
     edges.takes("32 files with a block of 524,288 bytes", ["report", *[longest] * 32], 24)
+    edges.takes("32 files with a block of 524,288 bytes, check", ["check", *[longest] * 32], 4)
     for words in (["info"], ["report"], ["digest"], ["merge", "-o", out], ["join", "-o", out]):
         edges.refuses(f"33 files, {words[0]}", [*words, *[file] * 33], "fault: files", 2)
 

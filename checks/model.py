@@ -6,7 +6,7 @@ not from capt's code. The scripts of this folder hold the built program to it.
 import hashlib, struct
 from collections import namedtuple
 from fractions import Fraction
-from itertools import zip_longest
+from itertools import accumulate, zip_longest
 
 RULES = {1: "magic", 2: "version", 3: "cut", 4: "packet-long", 5: "block-length", 6: "block-trailer", 7: "order-magic",
          8: "captured", 9: "interface-unknown", 10: "option-end", 11: "option-length", 12: "resolution", 13: "interface-limit",
@@ -390,6 +390,48 @@ def digest(files):
     return "".join(lines), None
 
 
+def check_line(number, end, packets=(), format="-", skipped=0, interfaces=0):
+    """The line of a file that is checked, with the packets that are counted of it."""
+    times = [time_of(packet) for packet in packets]
+    timed = [time for time in times if time is not None]
+    backward = sum(time < greatest for greatest, time in zip(accumulate(timed, max), timed[1:]))
+    return (f"check {number} {format} packets {len(packets)} backward {backward} untimed {times.count(None)} "
+            f"truncated {sum(packet.captured < packet.original for packet in packets)} skipped {skipped} "
+            f"interfaces {interfaces} {end}\n")
+
+
+def checked(file):
+    """The line of a file of which no read fails; a pcap file has one interface, once its header is read."""
+    refusal = file.refusal
+    if refusal:
+        end = f"refused offset {refusal.offset} rule {refusal.rule} {RULES[refusal.rule]}"
+    else:
+        end = "whole cut" if file.ending.cut else "whole"
+    if refusal and refusal.offset == 0:
+        return check_line(file.number, end)
+    interfaces = 1 if file.format == "pcap" else file.instances
+    return check_line(file.number, end, file.packets, file.format, file.skipped, interfaces)
+
+
+def unread(number, content, offset):
+    """The line of a file of which a read fails in the header, record or block at that offset. The packets before that
+    tell the format, the skipped blocks up to the last one, and the interfaces up to the last that has one of them."""
+    packets = [packet for packet in File(number, content, False).packets if packet.offset < offset]
+    if not packets:
+        return check_line(number, f"read offset {offset}")
+    last, interfaces = packets[-1], 1 + max(packet.instance for packet in packets)
+    return check_line(number, f"read offset {offset}", packets, last.format, last.skipped, interfaces)
+
+
+def unopened(number):
+    """The line of a file that can't be opened."""
+    return check_line(number, "open")
+
+
+def check(files):
+    return "".join(checked(file) for file in files), None
+
+
 def end_text(protocol, end):
     address = ".".join(str(byte) for byte in struct.pack(">I", end[0]))
     return address if end[1] is None else f"{address}:{end[1]}"
@@ -572,9 +614,12 @@ def answer(task, contents, allow_cut=False, order="<"):
         return to_pcap(order, files[0])
     if task in ("join", "join-pcap"):
         return join(to, order, files)
-    return {"list": list_, "blocks": blocks, "diff": diff, "info": info, "report": report, "digest": digest}[task](files)
+    return {"list": list_, "blocks": blocks, "diff": diff, "info": info, "report": report, "digest": digest,
+            "check": check}[task](files)
 
 
 def status_of(task, text, refusal):
     """The status after such an answer."""
+    if task == "check":
+        return 0 if all(" whole" in line for line in text.splitlines()) else 1
     return 1 if refusal else 3 if task == "diff" and text.startswith("differ") else 0

@@ -1,7 +1,8 @@
 #!/usr/bin/env python3
-"""JSON Lines: what `list`, `blocks`, `diff`, `info`, `report` and `digest` print with --json is, object for object and byte for byte, what the text lines of the
-model say of the same files, and Python's json reads each line as those values. Over the files of checks/corpus/, the examples, the worked captures,
-and captures made at random, some of them damaged; `list` also with --data. A refusal and a fault are an object too, with the file's path.
+"""JSON Lines: what `list`, `blocks`, `diff`, `info`, `report`, `digest` and `check` print with --json is, object for
+object and byte for byte, what the text lines of the model say of the same files, and Python's json reads each line as
+those values. Over the files of checks/corpus/, the examples, the worked captures, and captures made at random, some of
+them damaged; `list` also with --data. A refusal and a fault are an object too, with the file's path.
 
 Use: checks/objects.py [PROGRAM [CAPTURES]]     (as after `rt run` or `rt ci` in crates/capt; 10,000 random captures in about a minute)
 """
@@ -16,7 +17,7 @@ import model
 from captures import PROGRAM, TOP, VECTORS, Bench, Count, make_shim, run, vector, wanted_of
 from soak import mutated, some_capture, some_pair
 
-TASKS = ("list", "blocks", "info", "report", "digest")
+TASKS = ("list", "blocks", "info", "report", "digest", "check")
 PROTOCOLS = {"udp": 17, "tcp": 6}
 TIME = re.compile(r"(-?\d+)\+(\d+)/(\d+)")
 
@@ -34,6 +35,16 @@ def end_of(word):
 def pairs_of(words):
     """Words by turns a name and a number."""
     return {name.replace("-", "_"): int(number) for name, number in zip(words[::2], words[1::2])}
+
+
+def check_end_of(words):
+    """The members that tell how a file ends that is checked."""
+    if words[0] == "whole":
+        return {"whole": True, "cut": words[1:] == ["cut"]}
+    if words[0] == "open":
+        return {"open": True}
+    place = {"offset": int(words[2])}
+    return {"read": place} if words[0] == "read" else {"refused": {**place, "rule": int(words[4]), "name": words[5]}}
 
 
 def object_of(line):
@@ -62,6 +73,10 @@ def object_of(line):
     if kind == "digest":
         number, _, digits, _, packets = words
         return {"type": kind, "file": int(number), "sha256": digits, "packets": int(packets)}
+    if kind == "check":
+        number, form, *sums = words[:14]
+        return {"type": kind, "file": int(number), "format": None if form == "-" else form, **pairs_of(sums),
+                **check_end_of(words[14:])}
     if kind in ("files", "talks", "joined"):
         words = [kind, *words]
     return {"type": kind, **pairs_of(words)}
@@ -128,7 +143,7 @@ def main():
             for place, content in enumerate(contents):
                 for _ in range(rng.choice([0, 0, 0, 1, 2])):
                     contents[place] = mutated(rng, content, rng.choice(contents))
-            task, allow_cut = rng.choice(("info", "report", "digest", "blocks")), rng.random() < 0.5
+            task, allow_cut = rng.choice(("info", "report", "digest", "check", "blocks")), rng.random() < 0.5
             holds(bench, task, contents[:1] if task == "blocks" else contents, allow_cut)
             holds(bench, "list", contents[:1], allow_cut, rng.choice((None, None, 0, 20, 262_144)))
             holds(bench, "diff", some_pair(rng, contents), allow_cut)
@@ -153,6 +168,12 @@ def main():
         seen = run(["info", "--json", f"{folder}/none"], program)
         wanted = {"type": "fault", "fault": "open", "file": 1, "path": f"{folder}/none"}
         count.check("a file that isn't there", seen == (1, b"", spelled(wanted).encode()), seen)
+        checked = [model.unopened(1), model.checked(model.File(2, vector("CARRY_PCAP")[:-1], False))]
+        seen = run(["check", "--json", f"{folder}/none", place], program)
+        count.check("a check of both", seen == (1, objects_of("".join(checked)).encode(), b""), seen)
+        seen = run(["check", "--json", place], program, (shim, {"READ": "3-1"}))[:3]
+        wanted = objects_of(model.unread(1, b"", 0)).encode()
+        count.check("a check whose read fails", seen == (1, wanted, b""), seen)
         seen = run(["list", "--json", place], program, (shim, {"READ": "3-1"}))[:3]
         wanted = {"type": "fault", "fault": "read", "file": 1, "offset": 0, "path": place}
         count.check("a read that fails", seen == (1, b"", spelled(wanted).encode()), seen)
@@ -160,8 +181,10 @@ def main():
             whole = os.path.join(folder, "whole.pcap")
             with open(whole, "wb") as file:
                 file.write(vector("CARRY_PCAP"))
-            seen = run(["list", "--json", whole], program, stdout=full)
-            count.check("a full disk", (seen[0], seen[2]) == (1, spelled({"type": "fault", "fault": "write"}).encode()), seen)
+            for task in ("list", "check"):
+                seen = run([task, "--json", whole], program, stdout=full)
+                told = spelled({"type": "fault", "fault": "write"}).encode()
+                count.check(f"{task} on a full disk", (seen[0], seen[2]) == (1, told), seen)
     count.end()
 
 

@@ -138,8 +138,15 @@ check 3 - $none 0 read offset 0
 check 4 - $none 0 open
 check 5 pcap $held whole" ''
 run check --allow-cut "$work/cut.pcap"; check 'check of a cut file, accepted' 0 "check 1 pcap $none 1 whole cut" ''
+run check --explain "$one" "$work/cut.pcap" '' "$one/a"; check 'check, explained' 1 "check 1 pcap $held whole
+check 2 pcap $none 1 refused offset 24 rule 3 cut
+check 3 - $none 0 open
+check 4 - $none 0 open" ''
 run check - -; check 'check of standard input twice' 2 '' 'fault: input'
-"$program" check "$one" > /dev/full 2> "$work/err"; status=$?; : > "$work/out"; check 'check on a full disk' 1 '' 'fault: write'
+for file in "$one" "$work/cut.pcap" "$work/missing"; do
+    "$program" check "$file" > /dev/full 2> "$work/err"; status=$?; : > "$work/out"
+    check "check of $file on a full disk" 1 '' 'fault: write'
+done
 # merge: the packet twice, each behind an interface of its own
 { cat "$work/want.pcapng"; tail -c +29 "$work/want.pcapng" | head -c 32
   printf '\x06\0\0\0\x24\0\0\0\x01\0\0\0\0\0\0\0\xa0\x25\x26\0\x04\0\0\0\x04\0\0\0\x01\x02\x03\x04\x24\0\0\0'; } > "$work/twice"
@@ -257,6 +264,9 @@ left 'whole, after all' 'cut one out'; cd "$work" || exit 1
 # a closed standard stream is none of the files that are opened
 "$program" merge -o x "$one" - <&- > "$work/out" 2> "$work/err"; status=$?; check 'closed standard input' 1 '' 'fault: open file 2'; absent 'closed standard input' x
 "$program" list "$one" 2> "$work/err" >&-; status=$?; : > "$work/out"; check 'closed standard output' 1 '' 'fault: write'
+"$program" check - "$one" <&- > "$work/out" 2> "$work/err"; status=$?
+check 'check of closed standard input' 1 "check 1 - $none 0 open
+check 2 pcap $held whole" ''
 "$program" convert --to pcapng -o "$work/new" - < "$work/empty.pcap" > "$work/out" 2>&-; status=$?; : > "$work/err"; check 'closed standard error' 1 '' ''; same 'closed standard error' "$work/new" "$work/section"
 # With --explain lines tell after work that is done how many blocks and names of interfaces aren't carried on, of all files, and
 # how many packets ran back; without it nothing does, nor after a refusal.
@@ -364,6 +374,18 @@ fi
 { cat "$one"; for _ in $(seq 100); do [ -e "$work/piped" ] && break; sleep 0.1; done; } | "$program" list - | cat > "$work/shown" &
 for _ in $(seq 100); do grep -q '^packet 1 ' "$work/shown" && break; sleep 0.1; done
 if grep -q '^packet 1 ' "$work/shown" && [ ! -e "$work/piped" ]; then passed=$((passed + 1)); else failed=$((failed + 1)); echo 'a line through a pipe'; fi
+: > "$work/piped"
+wait
+# and so is the line of a file that is checked, while the next one stays open
+rm "$work/piped"
+{ for _ in $(seq 100); do [ -e "$work/piped" ] && break; sleep 0.1; done; } |
+    "$program" check "$one" - | cat > "$work/shown" &
+for _ in $(seq 50); do grep -q '^check 1 ' "$work/shown" && break; sleep 0.1; done
+if [ "$(cat "$work/shown")" = "check 1 pcap $held whole" ]; then
+    passed=$((passed + 1))
+else
+    failed=$((failed + 1)); echo 'a line of check through a pipe'
+fi
 : > "$work/piped"
 wait
 # What is said of the program, and of words that give no job, is what says.txt has: a line of standard error begins with

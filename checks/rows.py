@@ -10,7 +10,7 @@ sys.dont_write_bytecode = True
 import hashlib, itertools, json, os, re, struct, tempfile
 
 from captures import (CARRIED as PACKET, INTERFACE, MICRO_LITTLE, PROGRAM, SECTION, Bench, Count, datagram, make_shim, packet, pcap_header,
-                      record, run, vector)
+                      record, run, vector, wanted_of)
 from objects import object_of
 
 ETHERNET = f"{MICRO_LITTLE} 01000000"
@@ -411,6 +411,89 @@ NOT_DIGESTED = [
     ([CARRIED, CARRIED, CUT], 2, "file 3 offset 24 rule 3 cut"), ([CARRIED] * 31 + [CUT], 31, "file 32 offset 24 rule 3 cut"),
 ]
 
+
+
+def facts(form, packets=0, backward=0, untimed=0, truncated=0, skipped=0, interfaces=1):
+    """What the line of a file that is checked has between its number and its end."""
+    return (f"{form} packets {packets} backward {backward} untimed {untimed} truncated {truncated} skipped {skipped} "
+            f"interfaces {interfaces}")
+
+
+def sections(*numbers):
+    """A section for each number, with that many interfaces."""
+    return " ".join(f"{SECTION} {PLAIN * number}" for number in numbers)
+
+
+UNKNOWN = facts("-", interfaces=0)
+ONE_PCAP, ONE_PCAPNG, NO_PCAP = facts("pcap", 1), facts("pcapng", 1), facts("pcap")
+CARRY, SKIPPED = vector("CARRY_PCAP").hex(), "01000040 10000000 00000000 10000000"
+CUT_AT_24 = f"{NO_PCAP} refused offset 24 rule 3 cut"
+BEFORE_1970 = interface("0e00 0800 ffffffffffffffff")       # by a second
+REFUSED_AT = {0: UNKNOWN, 24: NO_PCAP, 28: facts("pcapng", interfaces=0), 48: facts("pcapng")}
+IN_1024 = interface("0900 0100 8a000000")       # 28 bytes
+
+
+def units(number, interface=0):
+    """A packet without bytes, of an interface of a section, 32 bytes."""
+    return packet(interface, number, b"").hex()
+
+
+# Captures, whether a cut end is accepted, and the line of each that is checked, from the format on.
+CHECKED = [
+    # the files of `info` above: an obsolete packet, a simple one in part and without a time, a skipped block, no packet
+    ([OBSOLETE], False, [f"{ONE_PCAPNG} whole"]),
+    ([TOLD_OF[1][0]], False, [f"{facts('pcapng', 1, untimed=1, truncated=1)} whole"]),
+    ([TOLD_OF[2][0]], False, [f"{facts('pcapng', 1, skipped=1)} whole"]),
+    ([TOLD_OF[3][0]], False, [f"{facts('pcapng', interfaces=0)} whole"]), ([ETHERNET], False, [f"{NO_PCAP} whole"]),
+    # and those that `info` refuses: each has its line, and so has each file after it
+    ([CUT], False, [CUT_AT_24]), ([CUT], True, [f"{NO_PCAP} whole cut"]),
+    *(([""], allow_cut, [f"{UNKNOWN} refused offset 0 rule 3 cut"]) for allow_cut in (False, True)),
+    ([CARRY, "00000000", CUT], False, [f"{ONE_PCAP} whole", f"{UNKNOWN} refused offset 0 rule 1 magic", CUT_AT_24]),
+    ([CARRY, CUT, "00000000"], False, [f"{ONE_PCAP} whole", CUT_AT_24, f"{UNKNOWN} refused offset 0 rule 1 magic"]),
+    *(([CARRY] * before + [CUT] + [CARRY] * (31 - before), False,
+       [f"{ONE_PCAP} whole"] * before + [CUT_AT_24] + [f"{ONE_PCAP} whole"] * (31 - before)) for before in range(32)),
+    # those that `list` refuses: in the file header, the first record, the block after the section or after an interface
+    *(([content], allow_cut, [f"{REFUSED_AT[int(told.split()[0])]} refused offset {told}"])
+      for content, allow_cut, told in NOT_LISTED),
+    # those that it lists: two sections with an interface each, and packets at one time; and one packet each
+    ([LISTED[0][0]], False, [f"{facts('pcapng', 2, interfaces=2)} whole"]),
+    *(([content], False, [f"{ONE_PCAPNG} whole"]) for content, *_ in LISTED[1:4]),
+    # seconds 5, 1, 5, 2, 6, 6: 1 and 2 are below the greatest before them
+    ([of_link(1, *(at(second, "") for second in (5, 1, 5, 2, 6, 6)))], False, [f"{facts('pcap', 6, 2)} whole"]),
+    # of each file by itself
+    ([of_link(1, at(5, "")), of_link(1, at(1, ""))], False, [f"{ONE_PCAP} whole"] * 2),
+    # 2.5 seconds, and on another interface 2 + 512/1,024, and then 2 + 511/1,024, which alone is below
+    ([f"{SECTION} {PLAIN} {IN_1024} {units(2_500_000)} {units(2_560, 1)} {units(2_559, 1)} {units(2_500_000)}"], False,
+     [f"{facts('pcapng', 4, 1, interfaces=2)} whole"]),
+    # a microsecond before 1970, and half a second before that one
+    ([f"{SECTION} {BEFORE_1970} {units(999_999)} {units(499_999)} {units(1_000_000)}"], False,
+     [f"{facts('pcapng', 3, 1)} whole"]),
+    # packets without a time, first and between others: the last is below the first that has one
+    ([f"{SECTION} {PLAIN} {SIMPLE} {units(5)} {SIMPLE} {units(4)}"], False, [f"{facts('pcapng', 4, 1, 2)} whole"]),
+    # captured in part: 1 of 60 bytes and 0 of 1; 2 of 1 bytes aren't
+    ([of_link(1, at(1, "0a", 60), at(1, "0a0b", 1), at(1, "", 1))], False, [f"{facts('pcap', 3, truncated=2)} whole"]),
+    # interfaces of all sections, of which none has a packet
+    ([sections(3, 0, 2)], False, [f"{facts('pcapng', interfaces=5)} whole"]),
+    ([f"{sections(3)} {units(1, 1)} {SKIPPED} {sections(2)} {SKIPPED} {units(2, 0)}"], False,
+     [f"{facts('pcapng', 2, skipped=2, interfaces=5)} whole"]),
+    # as of a refusal: a packet of interface 2 if there are 0 and 1, behind 28 + 3 * 20 + 32 + 16 + 28 + 2 * 20 bytes;
+    # an interface whose units are too fine, behind another; a section of version 1.1, behind a packet and a skipped one
+    ([f"{sections(3)} {units(1, 1)} {SKIPPED} {sections(2)} {units(2, 2)} {SKIPPED}", CARRY], False,
+     [f"{facts('pcapng', 1, skipped=1, interfaces=5)} refused offset 204 rule 9 interface-unknown",
+      f"{ONE_PCAP} whole"]),
+    ([f"{sections(1)} {interface('0900 0100 14000000')} {PLAIN}"], False,
+     [f"{facts('pcapng')} refused offset 48 rule 12 resolution"]),
+    ([f"{sections(1)} {units(1)} {SKIPPED} {SECTION.replace('01000000 ff', '01000100 ff')}"], False,
+     [f"{facts('pcapng', 1, skipped=1)} refused offset 96 rule 2 version"]),
+    # of a record that is cut, of an interface, of a skipped block, and of a second section: what came before it
+    ([of_link(1, at(5, ""), at(1, "", 9)) + "00"], True, [f"{facts('pcap', 2, 1, truncated=1)} whole cut"]),
+    *(([f"{sections(2)} {units(1)} {rest[:-2]}"], allow_cut, [f"{facts('pcapng', 1, interfaces=2)} {end}"])
+      for rest in (PLAIN, SKIPPED, SECTION)
+      for allow_cut, end in ((True, "whole cut"), (False, "refused offset 100 rule 3 cut"))),
+    # a first section that is cut is none
+    *(([SECTION[:-2]], allow_cut, [f"{UNKNOWN} refused offset 0 rule 3 cut"]) for allow_cut in (False, True)),
+]
+
 # Captures that are merged as pcap, what is written of them, and how that is refused, if it is.
 MERGED_AS_PCAP = [
     ([of_link(1, at(2, "0a")), of_link(1, at(1, "0b", 60))], of_link(1, at(1, "0b", 60), at(2, "0a")), None),
@@ -613,7 +696,8 @@ LINES = [
 
 def is_json(count, bench, contents):
     """Holds what is printed of captures as JSON Lines, as Python reads it, to their text lines."""
-    rows = [(task, [content]) for content in contents for task in ("list", "blocks")] + [(task, contents) for task in ("info", "report")]
+    rows = [(task, [content]) for content in contents for task in ("list", "blocks")]
+    rows += [(task, contents) for task in ("check", "info", "report")]
     for task, files in rows + [("diff", files) for files in (contents, [contents[0]] * 2) if len(files) == 2]:
         names = [bench.name(content) for content in files]
         for allow_cut in ([], ["--allow-cut"]):
@@ -683,6 +767,13 @@ def main():
         for contents, printed, told in NOT_DIGESTED:
             ended = (1, digests([CARRIED_TEXT] * printed, [1] * printed).encode(), f"refused: {told}\n".encode())
             holds(contents, "digest", contents, False, lambda *seen: seen == ended)
+        for contents, allow_cut, lines in CHECKED:
+            wanted = "".join(f"check {n} {line}\n" for n, line in enumerate(lines, 1)).encode()
+            status = 0 if all(" whole" in line for line in lines) else 1
+            name = [content[:200] for content in contents]
+            holds(name, "check", contents, allow_cut, lambda *seen: seen == (status, wanted, b""))
+            told = wanted_of("check", [bytes.fromhex(content) for content in contents], allow_cut)
+            count.check(f"the model's check of {name}", told == (status, wanted, b""), told)
         for files in itertools.permutations(SPELLINGS):
             wanted = merged(files)
             holds([file[3] for file in files], "merge", [file[0].hex() for file in files], False, lambda *seen: seen == (0, wanted, b""))

@@ -10,8 +10,8 @@ from concurrent.futures import ProcessPoolExecutor
 import model
 from captures import PROGRAM, VECTORS, WRITING, Bench, datagram, make_shim, run, udp, vector, wanted_of, words_of
 
-TASKS = ["list", "blocks", "diff", "info", "report", "digest", "merge", "join", "pcap", "pcapng", "merge-pcap", "join-pcap"]
-MANY = ("info", "report", "digest", "merge", "join", "merge-pcap", "join-pcap")
+TASKS = ["list", "blocks", "diff", "info", "report", "digest", "check", "merge", "join", "pcap", "pcapng", "merge-pcap", "join-pcap"]
+MANY = ("info", "report", "digest", "check", "merge", "join", "merge-pcap", "join-pcap")
 NUMBERS = [0, 1, 2, 3, 4, 28, 32, 262_144, 262_145, 524_288, 524_292, 2**31, 2**32 - 4, 2**32 - 1]
 LINE = re.compile(rb"refused: file \d+ offset \d+ rule \d+ [a-z-]+\n|fault: (read file \d+ offset \d+|write|memory|open file \d+|create output)\n|")
 MOST_MEMORY = 16 * 1024     # KiB
@@ -164,10 +164,22 @@ def some_faults(rng):
     return {"WRITE": f"{rng.randrange(400)}-{rng.randrange(2)}", "PIECE": rng.choice([1, 4_096])}
 
 
-def complaint(task, seen, wanted, faults):
+def is_unread(contents, text, wanted):
+    """Whether one line of `check` is that of a file of which a read failed, and the others are as they are wanted."""
+    lines, wanted = text.decode().splitlines(True), wanted.decode().splitlines(True)
+    other = [n for n, (line, want) in enumerate(zip(lines, wanted)) if line != want]
+    if len(lines) != len(wanted) or len(other) != 1:
+        return False
+    number, line = other[0] + 1, lines[other[0]]
+    place = re.search(r" read offset (\d+)\n", line)
+    return place is not None and line == model.unread(number, contents[number - 1], int(place[1]))
+
+
+def complaint(task, contents, seen, wanted, faults):
     """What is wrong with a run, or None."""
     status, text, error, told, memory, blocks = seen
-    if status not in (0, 1, 3) or not LINE.fullmatch(error) or (status != 1) != (error == b""):
+    is_told = error != b"" or task == "check" and any(b" whole" not in line for line in text.splitlines())
+    if status not in (0, 1, 3) or not LINE.fullmatch(error) or (status == 1) != is_told:
         return "no defined end"
     if memory > MOST_MEMORY or memory == 0:
         return f"{memory} KiB of memory"
@@ -177,6 +189,8 @@ def complaint(task, seen, wanted, faults):
         return None if (status, text, error) == wanted else "not as the model has it"
     if (status, text, error) == wanted:
         return None
+    if task == "check" and "READ" in faults:
+        return None if error == b"" and is_unread(contents, text, wanted[1]) else "a read that failed isn't on its line"
     if not error.startswith({"GROWTHS": b"fault: memory", "READ": b"fault: read", "WRITE": b"fault: write"}[next(iter(faults))]):
         return "another fault than was made"
     if task in ("diff", "report", "info") and text and "WRITE" not in faults:
@@ -206,10 +220,11 @@ def case(rng, bench, shim, out, counts):
         variables = faults or ({"PIECE": 1} if rng.random() < 0.2 else {})
         wanted = wanted_of(task, contents, allow_cut, order)
         seen = bench.run(task, contents, allow_cut, order, out, (shim, variables))
-        wrong = complaint(task, seen, wanted, faults)
+        wrong = complaint(task, contents, seen, wanted, faults)
         counts["runs"] += 1
-        counts["refused"] += seen[2].startswith(b"refused")
-        rule = re.search(rb" rule (\d+) ", seen[2])
+        refusal = seen[1] if task == "check" else seen[2]
+        counts["refused"] += b"refused" in refusal
+        rule = re.search(rb" rule (\d+) ", refusal)
         if rule:
             counts[int(rule[1])] += 1
         counts["faults"] += seen[3] > 0
