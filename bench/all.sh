@@ -20,8 +20,8 @@
 #   far.pcap     800,000 fragments of 8 bytes, each of which opens a group of 65,512 bytes, 47 MB
 #   part1 to 8   1,200,000 packets of 64 to 1,514 bytes, whose times come in turn, 1 GB together
 # and mixed.pcapng and small.pcapng, which capt makes of the first two. Holds the conversations that capt prints to those
-# of count.c, and what it prints of a file to what info.c counts: `info` all of it, `check` the packets and the truncated
-# ones. A row has the processor seconds of capt (user and system,
+# of count.c, and what it prints of a file to what info.c counts: `info` all of it, `check` the packets and how many of
+# them are truncated. A row has the processor seconds of capt (user and system,
 # the best of several runs), its peak of resident memory, and its processor seconds as a ratio to those of each other
 # program in the same run, whose runs come in turn. Aims, as ratios: report at most 1.5 of count.c (2 on many), info 1.5 of
 # info.c, diff 1.5 of info of both files, convert and merge 2 of `cat FILE > OUT` on mixed sizes, a third of editcap and half of mergecap on small ones.

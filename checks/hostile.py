@@ -26,7 +26,7 @@ ACCEPTED = {"CARRY_PCAP": [24, 44], "CARRY_PCAPNG": [28, 60, 96], "OPTIONS_PCAPN
 
 
 def by_the_table(count, bench, name, length):
-    """Holds `list` of a cut file to the table above."""
+    """Holds `list`, `check` and `info` of a cut file to the table above."""
     places = ACCEPTED[name]
     offset = max(place for place in [0, *places] if place <= length)
     refused = f"refused: file 1 offset {offset} rule 3 cut\n".encode()
@@ -35,6 +35,11 @@ def by_the_table(count, bench, name, length):
         wanted = (0, b"") if is_accepted else (1, refused)
         status, _, error = bench.run("list", [vector(name)[:length]], allow_cut)
         count.check(f"list of {length} bytes of {name}", (status, error) == wanted, status, error)
+        end = "whole" if length in places else "whole cut" if is_accepted else f"refused offset {offset} rule 3 cut"
+        status, text, error = bench.run("check", [vector(name)[:length]], allow_cut)
+        is_so = text.endswith(f" {end}\n".encode()) and text.startswith(b"check 1 - ") == (offset == 0)
+        is_so = is_so and (status, error) == (wanted[0], b"")
+        count.check(f"check of {length} bytes of {name}", is_so, status, text, error)
     _, text, _ = bench.run("info", [vector(name)[:length]], True)
     is_cut = length > places[0] and length not in places
     count.check(f"info of {length} bytes of {name}", text.endswith(b" cut\n") == is_cut, text)

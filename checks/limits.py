@@ -135,7 +135,7 @@ def interfaces(edges):
     for words in (["merge"], ["convert", "--to", "pcapng"], ["convert", "--to", "pcap"]):
         edges.accepts(f"1,024 interfaces, {words[0]}", [*words, "-o", out, file])
         edges.accepts(f"1,024 interfaces, {words[0]}, read again", ["list", out], "packet 1024 ")
-    edges.accepts("1,024 interfaces, check", ["check", file], "check 1 pcapng packets 1024 ", " interfaces 1024 whole\n")
+    edges.accepts("1,024 interfaces, check", ["check", file], " packets 1024 ", " interfaces 1024 whole\n")
     file = edges.file("3072", *[SECTION, INTERFACE * 1_024] * 3)
     edges.accepts("3,072 interfaces of three sections, check", ["check", file], " interfaces 3072 whole\n")
     file = edges.file("1025", SECTION, INTERFACE * 1_025)
