@@ -7,10 +7,10 @@ have written nothing, and the other commands a prefix, and has given all memory 
 `Fault::Memory`, each has to pass, whichever request is refused.
 
 Devices: each read of each file failing in turn, which is told with the header, record or block that it is of (`list`,
-`blocks` and a merge: after all that comes before it, `digest`: after the lines of the files before; `check` prints it on
-the file's line, and goes on); a writer that fails, or takes nothing, after any number of bytes, which has just these (one
-that a signal interrupts is asked again); a file without end, which rule 14 stops, and a read of it that fails beyond byte
-2^32.
+`blocks` and a merge: after all that comes before it, `digest`: after the lines of the files before; `check` prints it
+on the file's line, and goes on); a writer that fails, or takes nothing, after any number of bytes, which has just these
+(one that a signal interrupts is asked again); a file without end, which rule 14 stops, and a read of it that fails
+beyond byte 2^32.
 
 Use: checks/faults.py [growths|devices] [PROGRAM]     (as after `rt run` in crates/capt and `rt test` in the crates
 below, or `rt ci`; a minute)"""
