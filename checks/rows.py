@@ -727,7 +727,7 @@ def seen_of(folder, program, words):
 
 def main():
     count = Count()
-    program = sys.argv[1] if len(sys.argv) > 1 else PROGRAM
+    program = os.path.abspath(sys.argv[1]) if len(sys.argv) > 1 else PROGRAM
     with tempfile.TemporaryDirectory() as folder:
         bench, shim, captures = Bench(folder, program), make_shim(folder), {}
 
