@@ -13,8 +13,9 @@ use cap_line::{Job, LineFault, NOT_UTF_8, Task, USAGE, message, parse};
 use cap_print::Form;
 use cap_tool::{
     Beside, Closed, FileId, Inputs, Left, Outcome, Output, Progress, Remembered, Shared,
-    SharedOutput, Stop, Watched, check_input, check_named, check_terminal, create_beside, create_output, end_of,
-    hint, job_and_count, job_to, left_lines, open_all, status_of, tell, tell_in, watch_all,
+    SharedOutput, Stop, Watched, check_input, check_named, check_terminal, create_beside,
+    create_output, end_of, hint, job_and_count, job_to, left_lines, open_all, status_of, tell,
+    tell_in, watch_all,
 };
 use std::alloc::Global;
 use std::env;
@@ -205,7 +206,15 @@ fn run_checks<R: Files<File = File> + Clock + AllocGlobal>(
     let progress = Progress::new(rt, screen, is_terminal, None).with_output(&output);
     let mut writer = Watched::new(Tracked::new(Shared::new(&output)), &progress);
     let alloc = rt.alloc();
-    let answer = check_named(rt, alloc, streams.input, has_no_input, job, &progress, &mut writer);
+    let answer = check_named(
+        rt,
+        alloc,
+        streams.input,
+        has_no_input,
+        job,
+        &progress,
+        &mut writer,
+    );
     let ended = stop_if(end_of(answer, output.flush()), &output);
     progress.wipe();
     ended
