@@ -7,7 +7,7 @@ An edit is refused if its function fails at a goal: it doesn't count that a func
 names what the edit took away. And no function may fail that no edit names: that shows that the edits are apart.
 
 Asked are the edits that edits.txt has, each with the function that it changes, as a check prints it after the crate's name. Those that aren't
-there change a definition: such an edit is tried only if it is named, by a check of the whole crate.
+there change a definition, or are of capt_c: such an edit is tried only if it is named, by a check of the whole crate.
 
 Use: checks/edits.py [CRATE | CRATE/EDIT]..     over the libraries below as `rt ci` or `rt check` left them; of an edit that is named, it
                                                 prints the goals at which it is refused
