@@ -6,7 +6,8 @@
 # - docs/RULES.md and the manual page have the numbers and names of the rules, whose definitions and functions stand where the first says;
 #   the manual page has the lines that the helps show; docs/CLAIMS.md has the lengths of what must be read and names each test,
 #   docs/TRUSTED.md has the definitions' names;
-# - each file that a page names or links to is there, and so is each heading; a block that names a file is a part of it;
+# - each file that a page names or links to is there, and so is each heading; a block that names a file is a part of it; FILES has a
+#   row for each file of code;
 # - a page says for whom it is, has lines of 120 columns, and is as short as it is to be;
 # - the version, the kits and what the program needs are as README and others say; the manual page and the completions are read without a
 #   complaint, if the programs for them are there.
@@ -22,7 +23,7 @@ ln -s "$program" "$work/bin/capt"
 python3 "$top/examples/make.py" "$work/files"
 
 PATH="$work/bin:$PATH" python3 - "$top" "$work/files" <<'PY'
-import os, re, shutil, subprocess, sys, tempfile
+import glob, os, re, shutil, subprocess, sys, tempfile
 
 top, folder = sys.argv[1], sys.argv[2]
 passed = failed = 0
@@ -200,6 +201,11 @@ for page in pages:
 judged("README.md, lines", readme.count("\n") <= 100, f"{readme.count(chr(10))} lines, at most 100")
 words = len(text_of("docs/DECISIONS.md").split())
 judged("docs/DECISIONS.md, words", words <= 3000, f"{words} words, at most 3,000")
+
+# each file of code has a row in FILES, but for those that only name others
+shown = text_of("docs/FILES.md")
+code = [file for file in glob.glob("crates/*/src/**/*.rt", root_dir=top, recursive=True) if not re.search(r"/cap_tests/|/libcapt/|/(?:lib|table)\.rt$", file)]
+judged("docs/FILES.md, files", not (left := [file for file in code if os.path.basename(file) not in shown]), f"has no row for {left}")
 
 # the version, and the kit that proves it, where they are told
 version = re.search(r'VERSION: &str =\s+"([^"]*)";', text_of("crates/cap_line/src/texts.rt"))[1]
