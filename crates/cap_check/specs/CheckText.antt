@@ -8,18 +8,13 @@ use Rattle.cap_bytes.specs.declared.faults.Fault.TheVariants.{Memory, Read, Refu
 use Rattle.cap_bytes.specs.declared.faults.Tail.{Tail}
 use Rattle.cap_print.specs.Facts.{Facts, Field, flag, group, line_in, number, one, word}
 use Rattle.cap_print.specs.declared.forms.Form.{Form}
+use Rattle.cap_source.specs.Formats.{format_name}
 use Rattle.cap_source.specs.declared.feeds.FileEnd.{FileEnd}
 use Rattle.cap_source.specs.declared.packets.Format.{Format}
-use Rattle.cap_source.specs.declared.packets.Format.TheVariants.{Pcap, Pcapng}
 use Rattle.cap_check.specs.Checking.{AreChecked, IsChecked, Opened, are_whole, is_whole_end}
 use Rattle.cap_check.specs.declared.checked.Check.{Check}
 use Rattle.cap_check.specs.declared.checked.CheckEnd.{CheckEnd}
 use Rattle.cap_check.specs.declared.checked.CheckEnd.TheVariants.{Opening, Reading, Refusing, Whole}
-
--- a format as it is printed
-abbrev pub name_of_format : Format → List ℕ
-name_of_format Pcap = codes "pcap"
-name_of_format Pcapng = codes "pcapng"
 
 -- what a file has of blocks and interfaces up to its end, or up to its refusal, unless it is refused at its first byte
 abbrev pub end_of : CheckEnd → Option FileEnd
@@ -67,7 +62,7 @@ check_facts file check = record {
       ∷ one (record {
         label = codes " ";
         key = codes "format";
-        value = word (option_map name_of_format (format_by (end_of check.end) check.counts.format));
+        value = word (option_map format_name (format_by (end_of check.end) check.counts.format));
       })
       ∷ one (record { label = codes " packets "; key = codes "packets"; value = number check.counts.packets })
       ∷ one (record { label = codes " backward "; key = codes "backward"; value = number check.counts.backward })
