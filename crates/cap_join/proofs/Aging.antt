@@ -9,6 +9,7 @@ use Rattle.cap_ip.specs.declared.headers.Key.{Key}
 use Rattle.cap_time.specs.declared.stamps.Stamp.{Stamp}
 use Rattle.cap_time.specs.Clock.{earlier}
 use Rattle.cap_time.specs.Stamp.{stamp_cmp, stamp_plus}
+use Rattle.cap_time.specs.inner.Orderings.{not_after}
 use Rattle.cap_time.specs.inner.StampLaws.{stamp_cmp_total}
 use Rattle.cap_time.proofs.StampForms.{stamp_cmp_itself, stamp_upto_turned, stamp_upto_trans, stamp_cmp-later}
 use Rattle.cap_join.specs.Frames.{wait, is_too_old}
@@ -21,9 +22,6 @@ use Rattle.cap_join.specs.inner.Tables.{live_entries}
 
 back : (r : Ordering) → is_gt r ≡ false → is_lt (ordering_reverse r) ≡ false
 back r h = grind arith
-
-not_after : (r : Ordering) → is_lt r ≡ true → is_gt r ≡ false
-not_after r h = grind arith
 
 -- a time from another on isn't before what that one isn't before
 from_on : (x y n : Stamp) → is_gt (stamp_cmp x y) ≡ false → is_lt (stamp_cmp x n) ≡ false
