@@ -4,6 +4,7 @@ use Rattle.std.proofs.Common.{arith, refl, Some, None, IsTrue, Ok, Err, append-n
 use Rattle.cap_bytes.specs.declared.faults.Fault.{Fault}
 use Rattle.cap_bytes.specs.declared.faults.Fault.TheVariants.{Refused, Read, Write, Memory}
 use Rattle.cap_source.proofs.Onward.{Keeps-refl, Keeps-trans}
+use Rattle.cap_source.proofs.Refusals.{refusal-next}
 use Rattle.cap_source.specs.Feed.{Feed, FeedKeeps, FeedPasses, Item, packet, refused, refusal_of}
 use Rattle.cap_source.specs.inner.Walk.{GivesPacket, ShowsItem}
 use Rattle.cap_source.specs.declared.packets.Meta.{Meta}
@@ -53,11 +54,6 @@ after-refused : (checked : Checked) (items : List Item) → (r : _) → items �
 unfolding checked_after
 after-refused checked items r is = rw is refl
 
-refusal-packet : (meta : Meta) (frame : List ℕ) (items rest : List Item) → items ≡ packet meta frame ∷ rest
-    → refusal_of items ≡ refusal_of rest
-unfolding refusal_of
-refusal-packet meta frame items rest is = ap refusal_of is
-
 -- one packet more
 pub Taking-more : (old mid shown new : Feed) (checked : Checked) (meta : Meta) → Taking old mid checked
     → FeedKeeps mid shown → (IsTrue mid.told → ShowsItem mid (Ok (Some meta)) shown)
@@ -80,7 +76,7 @@ Taking-more old mid shown new checked meta i asked shows passes passed more is =
           ∙ sym (append_assoc i.taken next new.items));
       refusal = λ t.
           ap refusal_of (rest t)
-          ∙ (sym (refusal-packet meta shown.frame mid.items (drop 1 mid.items) (shows (i.keeps.told t)).1)
+          ∙ (sym (refusal-next meta shown.frame mid.items (drop 1 mid.items) (shows (i.keeps.told t)).1)
           ∙ i.refusal t);
       endings = λ t file.
           passes.endings (asked.told (i.keeps.told t)) file

@@ -8,38 +8,33 @@ use Rattle.cap_bytes.specs.declared.faults.Fault.TheVariants.{Memory, Read, Refu
 use Rattle.cap_bytes.specs.declared.faults.Tail.{Tail}
 use Rattle.cap_print.specs.Facts.{Facts, Field, flag, group, line_in, number, one, word}
 use Rattle.cap_print.specs.declared.forms.Form.{Form}
+use Rattle.cap_source.specs.Formats.{format_name}
 use Rattle.cap_source.specs.declared.feeds.FileEnd.{FileEnd}
 use Rattle.cap_source.specs.declared.packets.Format.{Format}
-use Rattle.cap_source.specs.declared.packets.Format.TheVariants.{Pcap, Pcapng}
 use Rattle.cap_check.specs.Checking.{AreChecked, IsChecked, Opened, are_whole, is_whole_end}
 use Rattle.cap_check.specs.declared.checked.Check.{Check}
 use Rattle.cap_check.specs.declared.checked.CheckEnd.{CheckEnd}
 use Rattle.cap_check.specs.declared.checked.CheckEnd.TheVariants.{Opening, Reading, Refusing, Whole}
 
--- a format as it is printed
-abbrev pub name_of_format : Format → List ℕ
-name_of_format Pcap = codes "pcap"
-name_of_format Pcapng = codes "pcapng"
-
 -- what a file has of blocks and interfaces up to its end, or up to its refusal, unless it is refused at its first byte
-abbrev pub end_of : CheckEnd → Option FileEnd
-end_of (Whole end) = Some end
-end_of (Refusing refusal end) = if refusal.offset == 0 then None else Some end
-end_of (Reading offset) = None
-end_of Opening = None
+abbrev pub known_end : CheckEnd → Option FileEnd
+known_end (Whole end) = Some end
+known_end (Refusing refusal end) = if refusal.offset == 0 then None else Some end
+known_end (Reading offset) = None
+known_end Opening = None
 
 -- the format of a file, its skipped blocks, and its interfaces: if a read failed, those of its last packet
-abbrev pub format_by : Option FileEnd → Option Format → Option Format
-format_by (Some end) last = Some end.ending.format
-format_by None last = last
+abbrev pub ending_format : Option FileEnd → Option Format → Option Format
+ending_format (Some end) last = Some end.ending.format
+ending_format None last = last
 
-abbrev pub skipped_by : Option FileEnd → ℕ → ℕ
-skipped_by (Some end) last = end.ending.skipped
-skipped_by None last = last
+abbrev pub ending_skipped : Option FileEnd → ℕ → ℕ
+ending_skipped (Some end) last = end.ending.skipped
+ending_skipped None last = last
 
-abbrev pub interfaces_by : Option FileEnd → ℕ → ℕ
-interfaces_by (Some end) last = end.interfaces
-interfaces_by None last = last
+abbrev pub ending_interfaces : Option FileEnd → ℕ → ℕ
+ending_interfaces (Some end) last = end.interfaces
+ending_interfaces None last = last
 
 -- how it ends: whole, a rest of it dropped or not; refused, at an offset and by a rule; by a read that failed, at an
 -- offset; or it could not be opened
@@ -67,7 +62,7 @@ check_facts file check = record {
       ∷ one (record {
         label = codes " ";
         key = codes "format";
-        value = word (option_map name_of_format (format_by (end_of check.end) check.counts.format));
+        value = word (option_map format_name (ending_format (known_end check.end) check.counts.format));
       })
       ∷ one (record { label = codes " packets "; key = codes "packets"; value = number check.counts.packets })
       ∷ one (record { label = codes " backward "; key = codes "backward"; value = number check.counts.backward })
@@ -76,12 +71,12 @@ check_facts file check = record {
       ∷ one (record {
         label = codes " skipped ";
         key = codes "skipped";
-        value = number (skipped_by (end_of check.end) check.counts.skipped);
+        value = number (ending_skipped (known_end check.end) check.counts.skipped);
       })
       ∷ one (record {
         label = codes " interfaces ";
         key = codes "interfaces";
-        value = number (interfaces_by (end_of check.end) check.counts.interfaces);
+        value = number (ending_interfaces (known_end check.end) check.counts.interfaces);
       })
       ∷ end_fields check.end;
 }

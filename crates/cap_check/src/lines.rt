@@ -1,11 +1,12 @@
 //! The line of a file that was checked, in text and in JSON.
 ghost use Rattle.std.specs.Prelude.{◌≡◌, ◌+◌, ◌≤◌, ◌++◌, codes, decimal, if◌then◌else◌, [], length, option_map};
 ghost use Rattle.cap_bytes.specs.Rules.{rule_name, rule_number};
-ghost use Rattle.cap_print.specs.Facts.{fields_json, fields_text, flag_json, line_in, word_json, word_text};
+ghost use Rattle.cap_print.specs.Facts.{fields_json, fields_text, flag_json, line_in};
 ghost use Rattle.cap_print.specs.Lines.{room_in, text_in};
 ghost use Rattle.cap_print.specs.declared.forms.Form.TheVariants.{Json, Text};
-ghost use Rattle.cap_check.specs.CheckText.{check_facts, end_fields, end_of, format_by, interfaces_by};
-ghost use Rattle.cap_check.specs.CheckText.{name_of_format, skipped_by};
+ghost use Rattle.cap_check.specs.CheckText.{check_facts, end_fields, known_end, ending_format, ending_interfaces};
+ghost use Rattle.cap_check.specs.CheckText.{ending_skipped};
+ghost use Rattle.cap_source.specs.Formats.{format_name};
 
 use crate::checked::{Check, CheckEnd};
 use cap_bytes::Refusal;
@@ -13,8 +14,8 @@ use cap_print::{Form, Line};
 use cap_source::{FileEnd, Format};
 
 // What a file has up to its end, or up to its refusal, unless it is refused at its first byte.
-fn end_of(end: &CheckEnd) -> Option<FileEnd>
-    ensures { result ≡ end_of end.now }
+fn known_end(end: &CheckEnd) -> Option<FileEnd>
+    ensures { result ≡ known_end end.now }
 {
     match end {
         CheckEnd::Whole(end) => Some(*end),
@@ -31,19 +32,27 @@ fn end_of(end: &CheckEnd) -> Option<FileEnd>
 
 // The format of a file: if a read failed, that of its last packet.
 fn format_of(check: &Check) -> Option<Format>
-    ensures { result ≡ format_by (end_of check.now.end) check.now.counts.format }
+    ensures { result ≡ ending_format (known_end check.now.end) check.now.counts.format }
 {
-    match end_of(&check.end) {
+    match known_end(&check.end) {
         Some(end) => Some(end.ending.format),
         None => check.counts.format,
     }
 }
 
+// The name of its format.
+fn format_name_of(check: &Check) -> Option<&'static str>
+    ensures { option_map (λ n. n.now) result
+        ≡ option_map format_name (ending_format (known_end check.now.end) check.now.counts.format) }
+{
+    format_of(check).map(|format| format.name())
+}
+
 // How many of its blocks are skipped.
 fn skipped_of(check: &Check) -> u64
-    ensures { result ≡ skipped_by (end_of check.now.end) check.now.counts.skipped }
+    ensures { result ≡ ending_skipped (known_end check.now.end) check.now.counts.skipped }
 {
-    match end_of(&check.end) {
+    match known_end(&check.end) {
         Some(end) => end.ending.skipped,
         None => check.counts.skipped,
     }
@@ -51,40 +60,12 @@ fn skipped_of(check: &Check) -> u64
 
 // How many interfaces it has.
 fn interfaces_of(check: &Check) -> u128
-    ensures { result ≡ interfaces_by (end_of check.now.end) check.now.counts.interfaces }
+    ensures { result ≡ ending_interfaces (known_end check.now.end) check.now.counts.interfaces }
 {
-    match end_of(&check.end) {
+    match known_end(&check.end) {
         Some(end) => u128::from(end.interfaces),
         None => check.counts.interfaces,
     }
-}
-
-// Puts a label and a format, or `-` if it isn't known.
-fn prepend_format(line: &mut Line, label: &[u8], format: Option<Format>)
-    requires { length label.now + 6 ≤ room_in line.old }
-    ensures text { text_in line.new ≡ label.now ++ word_text (option_map name_of_format format) ++ text_in line.old }
-    ensures room { room_in line.old ≤ room_in line.new + length label.now + 6 }
-{
-    match format {
-        None => line.prepend_text(b"-"),
-        Some(Format::Pcap) => line.prepend_text(b"pcap"),
-        Some(Format::Pcapng) => line.prepend_text(b"pcapng"),
-    }
-    line.prepend_text(label);
-}
-
-// Puts a label and a format as a string, or `null` if it isn't known.
-fn prepend_format_string(line: &mut Line, label: &[u8], format: Option<Format>)
-    requires { length label.now + 8 ≤ room_in line.old }
-    ensures text { text_in line.new ≡ label.now ++ word_json (option_map name_of_format format) ++ text_in line.old }
-    ensures room { room_in line.old ≤ room_in line.new + length label.now + 8 }
-{
-    match format {
-        None => line.prepend_text(b"null"),
-        Some(Format::Pcap) => line.prepend_text(b"\"pcap\""),
-        Some(Format::Pcapng) => line.prepend_text(b"\"pcapng\""),
-    }
-    line.prepend_text(label);
 }
 
 // ` whole` and ` cut`, the end of the line of a file that was read whole.
@@ -108,12 +89,7 @@ fn whole_json(was_cut: bool) -> Line
 {
     let mut line = Line::new();
     line.prepend_text(b"}\n");
-    if was_cut {
-        line.prepend_text(b"true");
-    } else {
-        line.prepend_text(b"false");
-    }
-    line.prepend_text(b",\"whole\":true,\"cut\":");
+    line.prepend_flag(b",\"whole\":true,\"cut\":", was_cut);
     line
 }
 
@@ -210,7 +186,7 @@ fn text_of(file: u32, check: &Check) -> Line
     line.prepend_field(b" untimed ", check.counts.untimed);
     line.prepend_field(b" backward ", check.counts.backward);
     line.prepend_field(b" packets ", check.counts.packets);
-    prepend_format(&mut line, b" ", format_of(check));
+    line.prepend_word(b" ", format_name_of(check));
     line.prepend_field(b"check ", u64::from(file));
     line
 }
@@ -226,7 +202,7 @@ fn json_of(file: u32, check: &Check) -> Line
     line.prepend_field(b",\"untimed\":", check.counts.untimed);
     line.prepend_field(b",\"backward\":", check.counts.backward);
     line.prepend_field(b",\"packets\":", check.counts.packets);
-    prepend_format_string(&mut line, b",\"format\":", format_of(check));
+    line.prepend_word_string(b",\"format\":", format_name_of(check));
     line.prepend_field(b"{\"type\":\"check\",\"file\":", u64::from(file));
     line
 }

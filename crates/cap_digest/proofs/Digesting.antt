@@ -11,6 +11,7 @@ use Rattle.cap_digest.specs.inner.Digesting.{DigestsAll}
 use Rattle.cap_digest.specs.declared.digests.Digested.{Digested}
 use Rattle.cap_print.specs.declared.forms.Form.{Form}
 use Rattle.cap_source.proofs.Onward.{Went, Went-none, Went-more}
+use Rattle.cap_source.proofs.Refusals.{refusal-next}
 use Rattle.cap_source.specs.Feed.{Feed, FeedKeeps, FeedPasses, Item, packet, refusal_of}
 use Rattle.cap_source.specs.Items.{file_items}
 use Rattle.cap_source.specs.inner.Walk.{GivesPacket, ShowsItem}
@@ -48,11 +49,6 @@ text_of-packet : (items : List Item) (meta : Meta) (frame : List ℕ) (rest : Li
 unfolding canonical_text
 text_of-packet items meta frame rest is = ap canonical_text is
 
-refusal_of-packet : (items : List Item) (meta : Meta) (frame : List ℕ) (rest : List Item)
-    → items ≡ packet meta frame ∷ rest → refusal_of items ≡ refusal_of rest
-unfolding refusal_of
-refusal_of-packet items meta frame rest is = ap refusal_of is
-
 regroup : (m head frame rest : List ℕ) → m ++ head ++ frame ++ rest ≡ m ++ (head ++ frame ++ rest)
 regroup m head frame rest = ap (λ (l : List ℕ). l ++ rest) (append_assoc m head frame)
     ∙ append_assoc m (head ++ frame) rest
@@ -86,7 +82,7 @@ Digesting-more old mid shown new before between after packets meta head d gives 
           (sym (text_of-packet mid.items meta shown.frame new.items (here t)))
           ∙ d.text t;
       count = λ t. omega (arith, d.count t, ap length (here t));
-      refusal = λ t. sym (refusal_of-packet mid.items meta shown.frame new.items (here t)) ∙ d.refusal t;
+      refusal = λ t. sym (refusal-next meta shown.frame mid.items new.items (here t)) ∙ d.refusal t;
     }
 
 -- the feed ends

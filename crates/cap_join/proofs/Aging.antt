@@ -7,22 +7,21 @@ use Rattle.std.specs.declared.cmp.Ordering.{Ordering}
 use Rattle.std.specs.Map.{lookup, set_value, remove_entry}
 use Rattle.cap_ip.specs.declared.headers.Key.{Key}
 use Rattle.cap_time.specs.declared.stamps.Stamp.{Stamp}
+use Rattle.cap_time.specs.Clock.{earlier}
 use Rattle.cap_time.specs.Stamp.{stamp_cmp, stamp_plus}
+use Rattle.cap_time.specs.inner.Orderings.{not_after}
 use Rattle.cap_time.specs.inner.StampLaws.{stamp_cmp_total}
 use Rattle.cap_time.proofs.StampForms.{stamp_cmp_itself, stamp_upto_turned, stamp_upto_trans, stamp_cmp-later}
 use Rattle.cap_join.specs.Frames.{wait, is_too_old}
 use Rattle.cap_join.specs.inner.Groups.{GroupState}
 use Rattle.cap_join.specs.Joiners.{Entry}
-use Rattle.cap_join.specs.inner.Ages.{deadline_of, is_past, sooner, latest_of, is_in_turn, NoneOld, IsDeadline}
+use Rattle.cap_join.specs.inner.Ages.{deadline_of, is_past, latest_of, is_in_turn, NoneOld, IsDeadline}
 use Rattle.cap_join.specs.inner.Ages.{AreInTurn}
 use Rattle.cap_join.specs.inner.Ages.{IsUpTo, AreUpTo}
 use Rattle.cap_join.specs.inner.Tables.{live_entries}
 
 back : (r : Ordering) → is_gt r ≡ false → is_lt (ordering_reverse r) ≡ false
 back r h = grind arith
-
-not_after : (r : Ordering) → is_lt r ≡ true → is_gt r ≡ false
-not_after r h = grind arith
 
 -- a time from another on isn't before what that one isn't before
 from_on : (x y n : Stamp) → is_gt (stamp_cmp x y) ≡ false → is_lt (stamp_cmp x n) ≡ false
@@ -31,24 +30,24 @@ from_on x y n upto late =
     ap is_lt (stamp_cmp_total.antisymm y n) ∙ back (stamp_cmp n y)
     (stamp_upto_trans n x y (stamp_upto_turned x n late) upto)
 
--- if the sooner of two deadlines isn't past, neither is
-sooner-first : (a b now : Option Stamp) → is_past (sooner a b) now ≡ false → is_past a now ≡ false
-sooner-first (Some a) (Some b) (Some n) h = by (is_lt (stamp_cmp b a)) refl h
+-- if the earlier of two deadlines isn't past, neither is
+earlier-first : (a b now : Option Stamp) → is_past (earlier a b) now ≡ false → is_past a now ≡ false
+earlier-first (Some a) (Some b) (Some n) h = by (is_lt (stamp_cmp b a)) refl h
   where
     by : (t : Bool) → is_lt (stamp_cmp b a) ≡ t → is_past (if t then Some b else Some a) (Some n) ≡ false
         → is_past (Some a) (Some n) ≡ false
     by true is p = from_on b a n (not_after (stamp_cmp b a) is) p
     by false is p = p
-sooner-first a b now h = cc
+earlier-first a b now h = cc
 
-sooner-second : (a b now : Option Stamp) → is_past (sooner a b) now ≡ false → is_past b now ≡ false
-sooner-second (Some a) (Some b) (Some n) h = by (is_lt (stamp_cmp b a)) refl h
+earlier-second : (a b now : Option Stamp) → is_past (earlier a b) now ≡ false → is_past b now ≡ false
+earlier-second (Some a) (Some b) (Some n) h = by (is_lt (stamp_cmp b a)) refl h
   where
     by : (t : Bool) → is_lt (stamp_cmp b a) ≡ t → is_past (if t then Some b else Some a) (Some n) ≡ false
         → is_past (Some b) (Some n) ≡ false
     by true is p = p
     by false is p = from_on a b n (stamp_upto_turned b a is) p
-sooner-second a b now h = cc
+earlier-second a b now h = cc
 
 -- if none is too old all stay
 pub live-all : (now : Option Stamp) (es : List Entry) → NoneOld now es → live_entries now es ≡ es
@@ -172,8 +171,8 @@ AreUpTo-push latest (x ∷ es) e turn h =
     grind (arith, AreUpTo-push latest es e turn h.1, stamp_upto_trans, stamp_upto_turned)
 
 pub IsDeadline-push : (deadline : Option Stamp) (es : List Entry) (e : Entry) → IsDeadline deadline es
-    → IsDeadline (sooner deadline (deadline_of e.1.clock)) (es ++ e ∷ [])
-IsDeadline-push deadline es e h = grind (arith, NoneOld-push, sooner-first, sooner-second)
+    → IsDeadline (earlier deadline (deadline_of e.1.clock)) (es ++ e ∷ [])
+IsDeadline-push deadline es e h = grind (arith, NoneOld-push, earlier-first, earlier-second)
 
 -- a group isn't too old at the clock at which it is opened
 pub new-fresh : (clock : Option Stamp) → is_too_old clock clock ≡ false
@@ -211,10 +210,10 @@ Leaves deadline left es = (now : Option Stamp) → is_past deadline now ≡ fals
 
 -- one more group was looked at
 pub Leaves-more : (deadline : Option Stamp) (e : Entry) (left es : List Entry) → Leaves deadline (e ∷ left) es
-    → Leaves (sooner deadline (deadline_of e.1.clock)) left es
-Leaves-more deadline e left es h = grind (arith, sooner-first, sooner-second)
+    → Leaves (earlier deadline (deadline_of e.1.clock)) left es
+Leaves-more deadline e left es h = grind (arith, earlier-first, earlier-second)
 
 -- if the groups are in order, no more need be
 pub Leaves-turn : (deadline : Option Stamp) (e : Entry) (left es : List Entry) → IsSome e.1.clock → AreInTurn (e ∷ left)
-    → Leaves deadline (e ∷ left) es → IsDeadline (sooner deadline (deadline_of e.1.clock)) es
-Leaves-turn deadline e left es some turn h = grind (arith, sooner-second, sooner-first)
+    → Leaves deadline (e ∷ left) es → IsDeadline (earlier deadline (deadline_of e.1.clock)) es
+Leaves-turn deadline e left es some turn h = grind (arith, earlier-second, earlier-first)

@@ -5,11 +5,12 @@ use Rattle.std.proofs.Common.{◌≡◌, ℕ, ◌-◌, ◌*◌, ◌/◌, ◌<◌
 use Rattle.std.proofs.Common.{max, ◌||◌, not}
 use Rattle.std.specs.Prelude.{slice_index}
 use Rattle.std.proofs.lemmas.Bool.{cases_lt}
+use Rattle.std.proofs.Math.Bool.{or-false}
 use Rattle.cap_join.specs.Holes.{Span, is_within, in_hole, ChangesWithin, Punched}
 use Rattle.cap_join.specs.Fragments.{Piece, end_of, IsShapedFragment, AreShaped}
 use Rattle.cap_join.specs.ByteMap.{holds, is_covered, byte_at, greatest_end, rounded}
 use Rattle.cap_join.specs.inner.Buffers.{Maps, Grown}
-use Rattle.cap_join.proofs.Punching.{unchanged, or_false_right, or_false, within-below}
+use Rattle.cap_join.proofs.Punching.{unchanged, or_false_right, within-below}
 use Rattle.cap_join.proofs.Growing.{IsChain-apart}
 
 -- no fragment covers a block after the greatest end
@@ -46,7 +47,7 @@ module _ (p : Piece) (ps : List Piece) (end hole0 hole1 hole2 : ℕ) (xs0 xs1 xs
 
   -- the holes after growing are the blocks that were not covered
   grown_holes : (i : ℕ) → i < length xs1 → in_hole g.spans i ≡ not (is_covered ps (i / 8))
-  grown_holes i h = grind (arith, cases_lt, or_false, beyond)
+  grown_holes i h = grind (arith, cases_lt, or-false, beyond)
 
   covered : (i : ℕ) → holds p (8 * (i / 8)) ≡ is_within p.start end i
   covered i = grind (arith, p, common_steps, nat_tests, shaped, end_is)

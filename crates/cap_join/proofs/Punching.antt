@@ -2,6 +2,7 @@
 use Rattle.std.proofs.Common.{◌≡◌, ℕ, ◌+◌, ◌%◌, ◌<◌, ◌≤◌, Bool, true, false, List, [], ◌∷◌, length, refl, sym, ◌∙◌, ap}
 use Rattle.std.proofs.Common.{subst, arith, max, min, ◌&&◌, ◌||◌, not}
 use Rattle.std.specs.Prelude.{slice_index}
+use Rattle.std.proofs.Math.Bool.{or-false}
 use Rattle.cap_join.specs.Holes.{Span, is_within, in_hole, no_hole, word_at, IsHole, IsChain, HasHoles, ChangesWithin}
 use Rattle.cap_join.specs.Holes.{kept_hole, Punched, Appended}
 use Rattle.cap_join.proofs.Changes.{ChangesWithin-trans, ChangesWithin-wider}
@@ -170,9 +171,6 @@ module _ (a b low high at end next rest right result : ℕ) (s : Span) (ss : Lis
 pub min_block : (x y m : ℕ) → m ≡ min x y → x % 8 ≡ 0 → y % 8 ≡ 0 → m % 8 ≡ 0
 min_block x y m is p q = grind arith
 
-pub or_false : (x : Bool) → (x || false) ≡ x
-or_false x = grind arith
-
 pub or_assoc : (x y z : Bool) → (x || (y || z)) ≡ ((x || y) || z)
 or_assoc x y z = grind arith
 
@@ -188,7 +186,7 @@ Appended-last low high at result old new [] le past some short chain within desc
   length_is = within.length_is;
   spans = kept_hole high (length old) [];
   chain = described low (length old) (length old) [] le (omega arith) (omega arith) (omega arith) refl;
-  holes = λ i. in_hole-kept high (length old) [] i ∙ or_false (is_within high (length old) i);
+  holes = λ i. in_hole-kept high (length old) [] i ∙ or-false (is_within high (length old) i);
   kept_bytes = λ i p q. within.below i p;
 }
 Appended-last low high at result old new (s ∷ ss) le past some short chain within described = grind arith

@@ -1,6 +1,7 @@
 //! Deadlines of open groups: the last time at which a group isn't too old.
 ghost use Rattle.std.specs.Prelude.{◌≡◌, true};
-ghost use Rattle.cap_join.specs.inner.Ages.{is_past, sooner, latest_of, is_in_turn};
+ghost use Rattle.cap_join.specs.inner.Ages.{is_past, latest_of, is_in_turn};
+ghost use Rattle.cap_time.specs.Clock.{earlier};
 
 use cap_time::Stamp;
 
@@ -16,7 +17,7 @@ pub(crate) fn is_past(deadline: Option<Stamp>, now: Option<Stamp>) -> bool
 
 /// The sooner of two deadlines.
 pub(crate) fn sooner(a: Option<Stamp>, b: Option<Stamp>) -> Option<Stamp>
-    ensures { result ≡ sooner a b }
+    ensures { result ≡ earlier a b }
 {
     match a {
         None => b,

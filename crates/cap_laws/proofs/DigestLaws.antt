@@ -1,6 +1,7 @@
 -- Lists of packets with the same canonical text, and files that are converted.
-use Rattle.std.proofs.Common.{◌≡◌, ℕ, List, [], ◌∷◌, ◌++◌, length, map, Option, Some, None, refl, sym, ap}
+use Rattle.std.proofs.Common.{◌≡◌, ℕ, List, [], ◌∷◌, ◌++◌, length, map, Option, None, refl, sym, ap}
 use Rattle.std.proofs.Common.{◌∙◌, subst, arith, length-append}
+use Rattle.std.proofs.lemmas.Option.{none-some}
 use Rattle.std.specs.List.{AllByRecursion, AllZip}
 use Rattle.std.specs.Option.{option_map}
 use Rattle.std.specs.Prelude.{if◌then◌else◌, is_none}
@@ -74,10 +75,7 @@ twin-packet meta again frame frame_again t =
 
 never : {A : Type 0} (r : Refusal) (items : List Item) → refusal_of (refused r ∷ items) ≡ None → A
 unfolding refusal_of
-never r items none = absurd (some-none r none)
-  where
-    some-none : (r : Refusal) → Some r ≡ None → ⊥
-    some-none r e = cc
+never r items none = absurd (none-some r (sym none))
 
 behind : (meta : Meta) (frame : List ℕ) (items : List Item) → refusal_of (packet meta frame ∷ items) ≡ None
     → refusal_of items ≡ None

@@ -31,9 +31,6 @@ some-if : {A : Type 0} (b : Bool) (x : A) → is_some (if b then Some x else Non
 some-if true x = refl
 some-if false x = refl
 
-same-length : (n : ℕ) → (n == n) ≡ true
-same-length n = grind arith
-
 whole-some : (h : HeaderFields) (b : List ℕ) (n : ℕ)
     → is_some (complete_of h b n) ≡ ((length b == n) && has_form (transport_of h.key.protocol b n))
 unfolding complete_of
@@ -46,7 +43,7 @@ group-some : (ps : List Piece) (o : Option HeaderFields)
     (timed_frame (last_frame ps))) (ends_of h.key.source h.key.destination
     (transport_of h.key.protocol (joined_data ps) (length (joined_data ps))))) o)
 group-some ps None = refl
-group-some ps (Some h) = grind (arith, whole-some, same-length, form-ends)
+group-some ps (Some h) = grind (arith, whole-some, form-ends)
 
 joined-by : (ps : List Piece) (b : Bool)
     → is_some (if b then option_and_then (λ h. complete_of h (joined_data ps) (length (joined_data ps)))

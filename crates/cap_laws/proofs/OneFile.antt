@@ -1,7 +1,6 @@
 -- The run of one file is the file, each item with the greatest time so far.
-use Rattle.std.proofs.Common.{◌≡◌, List, [], ◌∷◌, refl, ◌∙◌, ap, Option, Some, None, arith}
+use Rattle.std.proofs.Common.{◌≡◌, List, [], ◌∷◌, refl, ◌∙◌, ap, Option, None, arith}
 use Rattle.std.specs.Prelude.{map}
-use Rattle.cap_bytes.specs.declared.faults.Refusal.{Refusal}
 use Rattle.cap_time.specs.Clock.{later}
 use Rattle.cap_merge.specs.Files.{run_of_lists}
 use Rattle.cap_merge.specs.inner.MergedList.{merged-next, merged-none}
@@ -24,16 +23,13 @@ merged-one time clock (x ∷ xs) =
     merged-next time [] [] clock x xs (record { below = tt; not_above = tt })
     ∙ ap (λ l. record { clock = later clock (time x); item = x } ∷ l) (merged-one time (later clock (time x)) xs)
 
-some-none : (r : Refusal) → Some r ≡ None → ⊥
-some-none r e = cc
-
 -- without a refusal, all of them
 all-items : (clock : Option Stamp) (xs : List Item) → refusal_of xs ≡ None
     → map (λ x. x.item) (through_first (λ x. is_refusal x.item) (clocked_from item_time clock xs)) ≡ xs
 unfolding refusal_of
 all-items clock (packet meta frame ∷ xs) none =
     ap (λ l. packet meta frame ∷ l) (all-items (later clock (meta_time meta)) xs none)
-all-items clock xs none = grind (arith, some-none)
+all-items clock xs none = grind arith
 
 -- The run of one file without a refusal has the file's items.
 pub run-one : (items : List Item) → refusal_of items ≡ None → run_of_lists (items ∷ []) ≡ items

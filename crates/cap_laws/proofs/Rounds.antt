@@ -4,7 +4,6 @@ use Rattle.std.specs.List.{AllZip, AllByRecursion, flat_map}
 use Rattle.std.specs.Prelude.{map, is_none, unwrap_or}
 use Rattle.std.proofs.lemmas.List.{map-append}
 use Rattle.cap_blocks.specs.Grammar.{section_bytes}
-use Rattle.cap_bytes.specs.declared.faults.Refusal.{Refusal}
 use Rattle.cap_bytes.specs.declared.faults.Tail.{Tail}
 use Rattle.cap_merge.specs.Files.{items_of_files, run_of_lists, run_of_files}
 use Rattle.cap_source.specs.Feed.{Item, packet}
@@ -35,9 +34,6 @@ run-each tail files = ap run_of_lists (numbered-each tail 1 files)
 timed : (units : Option ℕ) → is_none units ≡ false → units ≡ Some (unwrap_or units 0)
 timed units e = grind arith
 
-some-none : (r : Refusal) → Some r ≡ None → ⊥
-some-none r e = cc
-
 -- if each packet is written, and its instance is its number, the items are those of what is written
 items-are : (origins : List Origin) (items : List Item) → refusal_in origins items ≡ None
     → instances items ≡ numbers (numbered origins items)
@@ -45,7 +41,7 @@ items-are : (origins : List Origin) (items : List Item) → refusal_in origins i
 unfolding numbered instances
 items-are origins (packet meta frame ∷ items) none same =
     grind (arith, items-are (with_origin origins meta) items, goes, instances, numbers)
-items-are origins items none same = grind (arith, some-none, refuses)
+items-are origins items none same = grind (arith, refuses)
 
 -- ---- groups
 

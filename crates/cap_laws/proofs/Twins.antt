@@ -23,12 +23,6 @@ TwinItems (packet m f) (refused r) = ⊥
 TwinItems (refused q) (packet n g) = ⊥
 TwinItems (refused q) (refused r) = ⊥
 
-none-some : (r : Refusal) → None ≡ Some r → ⊥
-none-some r e = cc
-
-some-none : {A : Type 0} (a : A) → Some a ≡ None → ⊥
-some-none a e = cc
-
 -- a packet that isn't refused: it has a time, and is the next of those that are written
 pub record Goes (origins : List Origin) (meta : Meta) (frame : List ℕ) (items : List Item) : Type 0 where
   pub timed : is_none meta.units ≡ false
@@ -47,7 +41,7 @@ time_of origins meta e = timed_by (is_none meta.units) (is_full origins meta) e
 pub goes : (origins : List Origin) (meta : Meta) (frame : List ℕ) (items : List Item)
     → refusal_in origins (packet meta frame ∷ items) ≡ None → Goes origins meta frame items
 unfolding numbered refusal_in
-goes origins meta frame items none = grind (arith, some-none, time_of)
+goes origins meta frame items none = grind (arith, time_of)
 
 same_units : (a b : Option ℕ) → is_none a ≡ false → is_none b ≡ false → unwrap_or a 0 ≡ unwrap_or b 0 → a ≡ b
 same_units a b h k e = grind arith
@@ -69,4 +63,4 @@ pub twins : (origins others : List Origin) (xs ys : List Item) → refusal_in or
     → refusal_in others ys ≡ None → numbered origins xs ≡ numbered others ys → AllZip TwinItems xs ys
 twins origins others (packet m f ∷ xs) (packet n g ∷ ys) h k e =
     grind (arith, twins (with_origin origins m) (with_origin others n) xs ys, goes, heads, same_units)
-twins origins others xs ys h k e = grind (arith, goes, nothing, none-some, refuses)
+twins origins others xs ys h k e = grind (arith, goes, nothing, refuses)

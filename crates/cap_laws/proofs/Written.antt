@@ -1,8 +1,7 @@
 -- The report and the run of the file that a merge writes, and of a file that is written as pcapng.
-use Rattle.std.proofs.Common.{arith, ◌≡◌, ℕ, ◌≤◌, ◌^◌, List, [], ◌∷◌, length, Some, None}
+use Rattle.std.proofs.Common.{arith, ◌≡◌, ℕ, ◌≤◌, ◌^◌, List, [], ◌∷◌, length, None}
 use Rattle.std.specs.List.{AllByRecursion}
 use Rattle.cap_blocks.specs.Split.{AreBytes}
-use Rattle.cap_bytes.specs.declared.faults.Refusal.{Refusal}
 use Rattle.cap_bytes.specs.declared.faults.Tail.{Tail}
 use Rattle.cap_bytes.specs.declared.numbers.Order.{Order}
 use Rattle.cap_merge.specs.Files.{clocked_run, items_of_files, run_of_files}
@@ -43,9 +42,6 @@ merged-report merge-law order tail tail_again files bytes none short =
     )
 
 -- ---- a file as pcapng
-
-some-none : (r : Refusal) → Some r ≡ None → ⊥
-some-none r e = cc
 
 -- if each packet is written, the file isn't refused
 pub unrefused : (origins : List Origin) (items : List Item) → refusal_in origins items ≡ None → refusal_of items ≡ None

@@ -4,6 +4,7 @@ use Rattle.std.proofs.Common.{length, get_or, take, drop, refl, sym, ap, ◌∙�
 use Rattle.std.specs.Prelude.{◌⊎◌, ◌||◌, ◌==◌, max, map, IsTrue, IfSome, is_some}
 use Rattle.std.specs.List.{AllByRecursion, list_any, flat_map}
 use Rattle.std.proofs.Math.Seq.{take-suc}
+use Rattle.std.proofs.Math.Bool.{or-false}
 use Rattle.std.proofs.lemmas.Bool.{true≢false}
 use Rattle.std.proofs.lemmas.List.{map-append, take_all}
 use Rattle.cap_time.specs.declared.stamps.Stamp.{Stamp}
@@ -348,9 +349,6 @@ held-parts f (y ∷ ls) (x ∷ xs) l = ap (both_held (f x).held) (held-parts f l
 or-assoc : (a b c : Bool) → ((a || b) || c) ≡ (a || (b || c))
 or-assoc a b c = grind arith
 
-or-none : (a : Bool) → (a || false) ≡ a
-or-none a = grind arith
-
 max-assoc : (a b c : ℕ) → max (max a b) c ≡ max a (max b c)
 max-assoc a b c = omega arith
 
@@ -358,7 +356,7 @@ held-more : (fs : List Feed) (f : Feed) → held_all (fs ++ (f ∷ [])) ≡ both
 held-more [] f =
     let window : max f.held.window 0 ≡ max 0 f.held.window = omega arith in
     let interfaces : max f.held.interfaces 0 ≡ max 0 f.held.interfaces = omega arith in
-    λ i. record { window = window i; interfaces = interfaces i; failed = or-none f.held.failed i }
+    λ i. record { window = window i; interfaces = interfaces i; failed = or-false f.held.failed i }
 held-more (g ∷ fs) f =
     ap (both_held g.held) (held-more fs f)
     ∙ (λ i. record {

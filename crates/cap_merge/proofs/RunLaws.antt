@@ -9,7 +9,7 @@ use Rattle.cap_merge.specs.inner.Lists.{All-both, All-implied, all-back, all-fro
 use Rattle.cap_time.specs.Clock.{clock_cmp, later, greatest_from, greatest}
 use Rattle.cap_merge.specs.Run.{Clocked, Track, opened_track, merged, run, through_first, HeadClock, IsFirst}
 use Rattle.cap_merge.specs.inner.Clocks.{AtMost, at_most-trans, later-first, later-second, later-least, not_below}
-use Rattle.cap_merge.specs.inner.Clocks.{is_less}
+use Rattle.cap_time.specs.inner.Orderings.{is_less}
 use Rattle.cap_merge.specs.inner.Clocks.{at_most-both, equal-at_most}
 use Rattle.cap_merge.specs.inner.MergedList.{passed, merged-next, merged-none}
 

@@ -12,6 +12,7 @@ pub mod Looks
 pub mod Options
 pub mod Pcaps
 pub mod Places
+pub mod Refusals
 pub mod Resolutions
 pub mod Saying
 pub mod Showing

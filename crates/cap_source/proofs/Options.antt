@@ -6,6 +6,7 @@ use Rattle.std.proofs.Common.{arith, ◌≡◌, ℕ, List, [], ◌∷◌, Result
 use Rattle.std.proofs.Common.{drop}
 use Rattle.cap_bytes.specs.declared.faults.Rule.TheVariants as rules
 use Rattle.std.proofs.lemmas.Bool.Decides.{nat_tests}
+use Rattle.std.proofs.Math.Bool.{or-false}
 use Rattle.cap_bytes.specs.declared.faults.Rule.{Rule}
 use Rattle.cap_bytes.specs.declared.numbers.Order.{Order}
 use Rattle.cap_blocks.specs.OptionList.{OptionItem, options_of}
@@ -31,9 +32,6 @@ pub read_option : (order : Order) (base : TimeBase) (option : ℕ × List ℕ) (
     → options_read order base items ≡ then_read result (λ next. options_read order next rest)
 unfolding options_read
 read_option order base option items rest result is e = rw (is, e) refl
-
-or_false : (x : Bool) → (x || false) ≡ x
-or_false x = grind arith
 
 -- What the options after some others say is what the conditions of all tell.
 abbrev pub Agrees : Order → Option Resolution → Option ℤ → List OptionItem → Result TimeBase Rule → Type 0
@@ -80,7 +78,7 @@ one : (order : Order) (res : Option Resolution) (off : Option ℤ) (value : List
     → ((r : Option Resolution) (o : Option ℤ) → Agrees order r o rest (options_read order (base_with r o) rest))
     → Agrees order res off items (then_read read (λ next. options_read order next rest))
 one order res off value rest items a b read apart f v w is ih =
-    grind (arith, or_false, is_some, unwrap_or, pos, set_resolution, set_offset)
+    grind (arith, or-false, is_some, unwrap_or, pos, set_resolution, set_offset)
 
 apart : (code : ℕ) → (code == 9) ≡ true → (code == 14) ≡ true → ⊥
 apart code p q = grind (arith, nat_tests)

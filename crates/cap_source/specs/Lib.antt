@@ -1,3 +1,4 @@
+pub mod Formats
 pub mod Feed
 pub mod Times
 pub mod TimeBases

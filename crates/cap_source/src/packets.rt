@@ -12,6 +12,20 @@ pub enum Format {
     Pcapng,
 }
 
+impl Format {
+    ghost use Rattle.cap_source.specs.Formats.{format_name};
+
+    /// The name that is printed: `pcap` or `pcapng`.
+    pub fn name(&self) -> &'static str
+        ensures { result.now ≡ format_name self.now }
+    {
+        match self {
+            Format::Pcap => "pcap",
+            Format::Pcapng => "pcapng",
+        }
+    }
+}
+
 /// What is known of a packet beside its captured bytes.
 #[derive(Clone, Copy, Debug, PartialEq, Eq)]
 pub struct Meta {

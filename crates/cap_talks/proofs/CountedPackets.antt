@@ -6,6 +6,7 @@ use Rattle.cap_talks.proofs.Counting.{counted-more}
 use Rattle.cap_talks.specs.counts.Counting.{packets_of, counted, with_packet}
 use Rattle.cap_talks.specs.declared.counts.counts.Counts.{Counts}
 use Rattle.cap_source.proofs.Onward.{Went, Went-none, Went-more}
+use Rattle.cap_source.proofs.Refusals.{refusal-next}
 use Rattle.cap_source.specs.Feed.{Feed, Item, packet, FeedKeeps, FeedPasses, SameItems, FindsPacket, FindsItem, IsFeed}
 use Rattle.cap_source.specs.Feed.{refusal_of}
 use Rattle.cap_source.specs.inner.Walk.{GivesPacket, ShowsItem}
@@ -38,11 +39,6 @@ packets-first : (meta : Meta) (frame : List ℕ) (items rest : List Item) → it
 unfolding packets_of
 packets-first meta frame items rest is = ap packets_of is
 
-refusal-first : (meta : Meta) (frame : List ℕ) (items rest : List Item) → items ≡ packet meta frame ∷ rest
-    → refusal_of items ≡ refusal_of rest
-unfolding refusal_of
-refusal-first meta frame items rest is = ap refusal_of is
-
 one_or_none : (captured original : ℕ) → cond (nat_lt captured original) 1 0 ≤ 1
 one_or_none captured original = grind arith
 
@@ -73,7 +69,7 @@ counted-taken old mid shown new counts more meta c gives asked shows passed pass
           ∙ ap (λ l. (c.taken ++ meta ∷ []) ++ packets_of l) (sym (rest t));
       refusal = λ t.
           ap refusal_of (rest t)
-          ∙ sym (refusal-first meta shown.frame mid.items (drop 1 mid.items) (shows (c.told t)).1) ∙ c.refusal t;
+          ∙ sym (refusal-next meta shown.frame mid.items (drop 1 mid.items) (shows (c.told t)).1) ∙ c.refusal t;
       endings = λ t file. ended (asked.told (c.told t)) file ∙ (shows (c.told t)).0.endings file ∙ c.endings t file;
     }
 

@@ -1,9 +1,10 @@
 -- The report over files that are read.
-use Rattle.std.proofs.Common.{◌≡◌, ℕ, zero, suc, ◌+◌, Bool, List, [], length, map, IsTrue, IsOkUnless, Option, Some}
-use Rattle.std.proofs.Common.{None, Result, Ok, Err, refl, ap, ◌∙◌, subst, arith}
+use Rattle.std.proofs.Common.{◌≡◌, ℕ, Bool, List, [], length, map, IsTrue, IsOkUnless, Option, Some}
+use Rattle.std.proofs.Common.{None, Result, Ok, Err, ap, ◌∙◌, subst, arith}
 use Rattle.std.specs.Prelude.{if◌then◌else◌}
-use Rattle.std.specs.List.{list_all, range_with_len}
+use Rattle.std.specs.List.{list_all}
 use Rattle.std.proofs.lemmas.List.{length-map}
+use Rattle.std.proofs.lemmas.List.FromFn.{length-range_with_len}
 use Rattle.cap_bytes.specs.Device.{Writer, WriterKeeps}
 use Rattle.cap_bytes.specs.Printing.{Prints, is_write}
 use Rattle.cap_bytes.specs.declared.faults.Fault.{Fault}
@@ -26,10 +27,6 @@ use Rattle.cap_class.specs.Taken.{Taken}
 use Rattle.cap_talks.specs.talks.Telling.{Tells}
 use Rattle.cap_talks.proofs.Telling.{tells-printed}
 
-length-range : (first count : ℕ) → length (range_with_len first count) ≡ count
-length-range first zero = refl
-length-range first (suc count) = ap suc (length-range (first + 1) count)
-
 -- Files of which nothing was read yet.
 module _ {A : Type 0} (reader : A → ReaderFacts) (tail : Tail) (sources : List A) (ps : List Part)
     (unread : IsUnreadRun tail (map reader sources) ps) where
@@ -40,7 +37,7 @@ module _ {A : Type 0} (reader : A → ReaderFacts) (tail : Tail) (sources : List
   endings-are = grind (arith, bytes-readers)
 
   count-is : length (merged_feed ps).files ≡ length sources
-  count-is = ap length unread.files ∙ length-range 1 (length (map reader sources)) ∙ length-map sources reader
+  count-is = ap length unread.files ∙ length-range_with_len 1 (length (map reader sources)) ∙ length-map sources reader
 
   -- the report of their run is theirs
   pub tells-files : (form : Form) (held out : List ℕ) (result : Result (Unit {0}) Fault)

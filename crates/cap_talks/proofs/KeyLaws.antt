@@ -1,12 +1,13 @@
 -- When two units are of one conversation.
 use Rattle.std.proofs.Common.{arith, ◌≡◌, Bool, true, false, cond, not, ◌&&◌, ◌||◌, refl, sym, ap, ◌∙◌, true≢false}
-use Rattle.std.proofs.Common.{Ordering, Equal}
+use Rattle.std.proofs.Common.{Ordering}
 use Rattle.std.specs.Prelude.{◌==◌}
 use Rattle.std.specs.Cmp.{IsTotalOrder}
 use Rattle.std.specs.Ordering.{is_gt, ordering_reverse}
 use Rattle.std.specs.Cmp.Lexicographic.{options_total}
 use Rattle.std.proofs.lemmas.Cmp.{then_total, on_total, nat_cmp_total}
 use Rattle.std.proofs.lemmas.Map.Lookups.{CmpEqualImpliesEq}
+use Rattle.cap_time.specs.inner.Orderings.{both_by}
 use Rattle.cap_talks.proofs.Talking.{same_end-self, and_true}
 use Rattle.cap_talks.specs.inner.table.Keys.{same_end-is, and_left, and_right}
 use Rattle.cap_talks.specs.inner.table.Laws.{KeyLaw}
@@ -20,9 +21,6 @@ end_total = then_total (on_total (λ e. e.address) nat_cmp_total) (on_total (λ 
 -- ends that compare alike are one
 exact_ends : CmpEqualImpliesEq end_cmp
 exact_ends a b h = grind arith
-
-not_both : (r s : Ordering) → r ≡ ordering_reverse s → is_gt r ≡ false → is_gt s ≡ false → r ≡ Equal
-not_both r s e h k = grind arith
 
 both_greater : (r s : Ordering) → r ≡ ordering_reverse s → is_gt r ≡ true → is_gt s ≡ true → ⊥
 both_greater r s e h k = grind arith
@@ -84,7 +82,7 @@ key_law a b = by (is_forward a) (is_forward b) refl refl
         let d = same_end-is a.destination b.source (and_right sd ds h) in
         let one : a.source ≡ a.destination =
         exact_ends a.source a.destination
-        (not_both (end_cmp a.source a.destination) (end_cmp a.destination a.source)
+        (both_by (end_cmp a.source a.destination) (end_cmp a.destination a.source)
         (end_total.antisymm a.source a.destination)
         (upto_of (is_gt (end_cmp a.source a.destination)) x) (sym (turned h)
         ∙ upto_of (is_gt (end_cmp b.source b.destination)) y)) in

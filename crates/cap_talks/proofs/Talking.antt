@@ -3,7 +3,6 @@ use Rattle.std.proofs.lemmas.Bool.Decides.{nat_tests}
 use Rattle.std.proofs.lemmas.Grind.{common_steps}
 use Rattle.std.proofs.Common.{◌≡◌, ℕ, ◌+◌, Bool, true, false, cond, not, ◌&&◌, List, [], ◌∷◌, ◌++◌, filter, map, refl}
 use Rattle.std.proofs.Common.{sym, ap, ◌∙◌, true≢false, arith, Option, Some, append-nil}
-use Rattle.std.specs.Prelude.{◌==◌}
 use Rattle.std.specs.Map.{lookup}
 use Rattle.indexmap.specs.IndexMap.{insert_entry}
 use Rattle.std.proofs.lemmas.Bool.{eq-eqb}
@@ -19,14 +18,11 @@ use Rattle.cap_talks.specs.declared.table.units.TimedFrame.{TimedFrame}
 use Rattle.cap_talks.specs.declared.table.units.CountedUnit.{CountedUnit}
 use Rattle.cap_talks.specs.declared.table.units.End.{End}
 
-same_number : (n : ℕ) → (n == n) ≡ true
-same_number n = eq-eqb n n refl
-
 pub and_true : (x y : Bool) → x ≡ true → y ≡ true → (x && y) ≡ true
 and_true x y h k = ap (λ b. b && y) h ∙ k
 
 pub same_end-self : (a : End) → same_end a a ≡ true
-same_end-self a = grind (arith, and_true, same_number)
+same_end-self a = grind (arith, and_true, eq-eqb)
 
 pub same_talk-self : (a : TalkKey) → same_talk a a ≡ true
 same_talk-self a = grind arith

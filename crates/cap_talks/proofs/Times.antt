@@ -2,13 +2,13 @@
 use Rattle.std.proofs.Common.{◌≡◌, true, List, [], ◌∷◌, ◌++◌, ◌∙◌, Ordering, Less, Option, Some, None, arith, refl, sym}
 use Rattle.std.specs.Cmp.{IsTotalOrder}
 use Rattle.std.proofs.lemmas.Cmp.{back_total}
-use Rattle.cap_time.specs.Clock.{later}
+use Rattle.cap_time.specs.Clock.{earlier, later}
 use Rattle.cap_source.specs.declared.packets.Meta.{Meta}
 use Rattle.cap_time.specs.Stamp.{stamp_cmp}
 use Rattle.cap_time.specs.inner.StampLaws.{stamp_cmp_total}
 use Rattle.cap_time.specs.declared.stamps.Stamp.{Stamp}
 use Rattle.cap_source.specs.Times.{meta_time}
-use Rattle.cap_talks.specs.counts.Counting.{earlier, are_in_order, least_time, greatest_time}
+use Rattle.cap_talks.specs.counts.Counting.{are_in_order, least_time, greatest_time}
 use Rattle.cap_time.proofs.Chosen.{chosen, chosen-assoc, chosen-alone, not_trans}
 
 -- the order of times from the greatest down

@@ -20,6 +20,23 @@ fn a_line_of_numbers(rt: HostRuntime) {
 }
 
 #[test]
+fn words_and_flags(rt: HostRuntime) {
+    let mut line = Line::new();
+    line.prepend_word(b" ", None);
+    line.prepend_word(b"file ", Some("pcap"));
+    same!(&rt; line.as_slice(), b"file pcap -".as_slice());
+    line.clear();
+    line.prepend_flag(b",\"cut\":", false);
+    line.prepend_flag(b",\"whole\":", true);
+    line.prepend_word_string(b",\"name\":", None);
+    line.prepend_word_string(b"\"format\":", Some("pcapng"));
+    same!(&rt;
+        line.as_slice(),
+        b"\"format\":\"pcapng\",\"name\":null,\"whole\":true,\"cut\":false".as_slice()
+    );
+}
+
+#[test]
 fn a_text_in_a_string(rt: HostRuntime) {
     let mut line = Line::new();
     prepend_escaped(&mut line, b"a\"b\\\x00\x1f \x7f\xc3\xa9");

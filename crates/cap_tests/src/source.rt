@@ -312,3 +312,9 @@ fn a_walk(rt: HostRuntime) {
     same!(&rt; capture.file(), 7);
     walks(&rt, capture);
 }
+
+#[test]
+fn formats_by_name(rt: HostRuntime) {
+    same!(&rt; Format::Pcap.name(), "pcap");
+    same!(&rt; Format::Pcapng.name(), "pcapng");
+}

@@ -1,16 +1,14 @@
 -- The least of some things in an order, one after another: of those alike the one that came first.
-use Rattle.std.proofs.Common.{arith, ◌≡◌, true, false, cond, ap, Ordering, Less, Option, Some, None}
+use Rattle.std.proofs.Common.{arith, ◌≡◌, true, false, cond, ap, Ordering, Option, Some, None}
 use Rattle.std.specs.Ordering.{is_lt}
 use Rattle.std.specs.Cmp.{IsTotalOrder}
+use Rattle.cap_time.specs.inner.Orderings.{is_less}
 
 -- of two things the one that comes first, else the former, or the only one
 abbrev pub chosen : {X : Type 0} → (X → X → Ordering) → Option X → Option X → Option X
 chosen cmp None b = b
 chosen cmp (Some a) None = Some a
 chosen cmp (Some a) (Some b) = cond (is_lt (cmp b a)) (Some b) (Some a)
-
-is_less : (r : Ordering) → is_lt r ≡ true → r ≡ Less
-is_less r h = grind arith
 
 module _ {X : Type 0} (cmp : X → X → Ordering) (total : IsTotalOrder cmp) where
   trans : (a b c : X) → is_lt (cmp a b) ≡ true → is_lt (cmp b c) ≡ true → is_lt (cmp a c) ≡ true

@@ -1,5 +1,5 @@
 -- Clocks: the greatest time among the packets of a file up to an item.
-use Rattle.std.specs.Prelude.{List, [], ◌∷◌, Option, None, if◌then◌else◌}
+use Rattle.std.specs.Prelude.{List, [], ◌∷◌, Option, None, Some, if◌then◌else◌}
 use Rattle.std.specs.Option.{option_cmp}
 use Rattle.std.specs.Ordering.{is_lt}
 use Rattle.std.specs.declared.cmp.Ordering.{Ordering}
@@ -13,6 +13,12 @@ clock_cmp = option_cmp stamp_cmp
 -- the greater of two times, of equal ones the first
 abbrev pub later : Option Stamp → Option Stamp → Option Stamp
 later a b = if is_lt (clock_cmp a b) then b else a
+
+-- the earlier of two times, of equal ones the first, or the only one
+abbrev pub earlier : Option Stamp → Option Stamp → Option Stamp
+earlier None b = b
+earlier (Some a) None = Some a
+earlier (Some a) (Some b) = if is_lt (stamp_cmp b a) then Some b else Some a
 
 -- the greatest of a time and some others
 abbrev pub greatest_from : Option Stamp → List (Option Stamp) → Option Stamp

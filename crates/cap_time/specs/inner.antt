@@ -1,2 +1,3 @@
 pub mod StampLaws
 pub mod TimeLaws
+pub mod Orderings

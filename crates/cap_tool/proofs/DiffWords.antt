@@ -2,6 +2,7 @@
 use Rattle.std.proofs.Common.{◌≡◌, ◌++◌, ℕ, List, [], ◌∷◌, codes, decimal, Bool, true, false, if◌then◌else◌, refl, sym}
 use Rattle.std.proofs.Common.{ap, ◌∙◌, append_assoc, append-nil}
 use Rattle.std.specs.Prelude.{◌||◌}
+use Rattle.std.proofs.Math.Bool.{or-false}
 use Rattle.cap_print.specs.declared.forms.Form.TheVariants.{Json, Text}
 use Rattle.cap_tool.proofs.Pieces.{joined, joined-more}
 use Rattle.cap_tool.specs.DiffText.{chosen, difference_line, quoted, spaced, words_of}
@@ -67,10 +68,6 @@ any-chosen (word ∷ words) = by word.0 word.1 (any-chosen words) where
       → (is_so || is_any words) ≡ has_some (if is_so then text ∷ chosen words else chosen words)
   by true text rest = refl
   by false text rest = rest
-
-or-false : (b : Bool) → (b || false) ≡ b
-or-false true = refl
-or-false false = refl
 
 -- one word more in JSON
 quoted-more : (word : List ℕ) (words : List (List ℕ))

@@ -2,6 +2,7 @@
 use Rattle.std.proofs.Common.{◌≡◌, ◌<◌, ◌+◌, ◌≤◌, ℕ, suc, List, [], ◌++◌, length, map, drop}
 use Rattle.std.proofs.Common.{get_or, arith, Option, Some, None, Ok, Err, IsTrue, refl, sym, ap, subst, ◌∙◌, append-nil}
 use Rattle.std.proofs.lemmas.List.{drop_all}
+use Rattle.std.proofs.lemmas.Option.{none-some}
 use Rattle.std.specs.Prelude.{if◌then◌else◌, is_none}
 use Rattle.cap_bytes.proofs.Putting.{Putting, Putting-all}
 use Rattle.cap_bytes.specs.Device.{Writer}
@@ -32,10 +33,7 @@ next-line : (o : Option Refusal) (from mid to : Writer) (text line rest : List �
     → IsTrue mid.told → Putting from to text rest
 next-line None from mid to text line rest p wrote told cannot t =
     Putting-line from mid to text (line ++ rest) line rest p refl (λ u. (wrote u).1) told cannot
-next-line (Some r) from mid to text line rest p wrote told cannot t = absurd (some-none r (wrote t).0)
-  where
-    some-none : (r : Refusal) → Some r ≡ None → ⊥
-    some-none r e = cc
+next-line (Some r) from mid to text line rest p wrote told cannot t = absurd (none-some r (sym (wrote t).0))
 
 -- a file isn't
 next-fault : (o later refusal : Option Refusal) (fault : Fault) (from mid : Writer) (held text line rest : List ℕ)

@@ -1,8 +1,9 @@
 -- A word that is being written as it stands in a string of JSON.
-use Rattle.std.proofs.Common.{◌≡◌, ◌||◌, Bool, false, List, ℕ, ◌++◌, take, drop, IsTrue, Result, Err, append_assoc}
-use Rattle.std.proofs.Common.{take-append-drop, arith, sym, ◌∙◌, ap}
+use Rattle.std.proofs.Common.{◌≡◌, ◌||◌, false, List, ℕ, ◌++◌, take, drop, IsTrue, Result, Err, append_assoc}
+use Rattle.std.proofs.Common.{take-append-drop, sym, ◌∙◌, ap}
 use Rattle.std.specs.List.{flat_map}
 use Rattle.std.proofs.lemmas.Grind.{flat_map-append}
+use Rattle.std.proofs.Math.Bool.{or-false}
 use Rattle.cap_bytes.proofs.Putting.{Puts-first, Puts-second}
 use Rattle.cap_bytes.specs.Device.{Puts, Writer, WriterKeeps}
 use Rattle.cap_bytes.specs.declared.faults.Fault.{Fault}
@@ -26,9 +27,6 @@ split rest piece behind n front back =
     ap escaped (sym (take-append-drop n rest) ∙ (ap (λ l. l ++ drop n rest) (sym front)
     ∙ ap (λ l. piece ++ l) (sym back)))
     ∙ flat_map-append escaped_byte piece behind
-
-or-false : (b : Bool) → (b || false) ≡ b
-or-false b = grind arith
 
 -- one more piece is written
 pub Escaping-more : (old mid new : Writer) (text rest piece behind : List ℕ) (n : ℕ) → Escaping old mid text rest

@@ -19,6 +19,7 @@ use Rattle.cap_source.specs.declared.packets.Format.{Format}
 use Rattle.cap_source.specs.declared.packets.Format.TheVariants.{Pcap, Pcapng}
 use Rattle.cap_talks.proofs.TableLines.{is-numbered}
 use Rattle.std.proofs.lemmas.List.{length-map}
+use Rattle.std.proofs.lemmas.List.FromFn.{length-range_with_len}
 use Rattle.cap_tool.specs.Converted.{convert_text, convert_refusal}
 use Rattle.cap_tool.specs.inner.FileText.{written_file_text, file_refusal}
 use Rattle.cap_tool.specs.Left.{left_of_file, sum_of_files, skipped_in, named_in, LeavesOut}
@@ -43,10 +44,6 @@ Drops-same f g n m left is same d = record {
   named = d.named ∙ (ap (named_in f) is ∙ sum_in-same (λ end. end.named) f g m same);
 }
 
-length-numbers : (first count : ℕ) → length (range_with_len first count) ≡ count
-length-numbers first zero = refl
-length-numbers first (suc count) = ap suc (length-numbers (first + 1) count)
-
 -- a file of that number is one of them
 pub is-file : (files : List ℕ) (count place : ℕ) → files ≡ range_with_len 1 count → place < count
     → HasFile files (place + 1)
@@ -67,7 +64,8 @@ pub Drops-merged : {A : Type 0} (reader : A
 Drops-merged reader tail sources ps new (Ok x) left u keeps ends is = λ t.
     let told = told-readers reader tail sources ps u t in
     let count : length new.files ≡ length sources =
-    ap length (keeps.files ∙ u.files) ∙ (length-numbers 1 (length (map reader sources)) ∙ length-map sources reader) in
+    ap length (keeps.files ∙ u.files)
+    ∙ (length-range_with_len 1 (length (map reader sources)) ∙ length-map sources reader) in
     Drops-same new.endings (endings_of_files tail (map (λ s. (reader s).bytes) sources)) (length new.files)
     (length sources) left count
     (λ file. ends told file

@@ -1,5 +1,5 @@
 -- When open groups are too old: a bound of their ages, and groups in the order of their clocks.
-use Rattle.std.specs.Prelude.{◌≡◌, List, [], ◌∷◌, Bool, true, false, not, Option, None, Some, if◌then◌else◌}
+use Rattle.std.specs.Prelude.{◌≡◌, List, [], ◌∷◌, Bool, true, false, not, Option, None, Some}
 use Rattle.std.specs.Ordering.{is_lt, is_gt}
 use Rattle.cap_time.specs.declared.stamps.Stamp.{Stamp}
 use Rattle.cap_time.specs.Stamp.{stamp_cmp, stamp_plus}
@@ -17,12 +17,6 @@ deadline_of (Some clock) = Some (stamp_plus clock wait)
 abbrev pub is_past : Option Stamp → Option Stamp → Bool
 is_past None now = false
 is_past (Some deadline) now = is_before (Some deadline) now
-
--- the sooner of two deadlines
-abbrev pub sooner : Option Stamp → Option Stamp → Option Stamp
-sooner None b = b
-sooner (Some a) None = Some a
-sooner (Some a) (Some b) = if is_lt (stamp_cmp b a) then Some b else Some a
 
 -- the deadline of the group with a clock that was opened last, once one more is opened
 abbrev pub latest_of : Option Stamp → Option Stamp → Option Stamp

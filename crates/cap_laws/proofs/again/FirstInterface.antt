@@ -179,9 +179,6 @@ first-of tail file bytes i are is = by (is_pcapng bytes) is
 
 -- ---- a file without one
 
-some-none : {A : Type 0} (a : A) → Some a ≡ None → ⊥
-some-none a e = cc
-
 -- if none stands before the next item or the end, none was read before
 none-before : (progress : Progress) (items : List (pieces.PieceItem Block)) → first_in progress items ≡ None
     → progress.first ≡ None

@@ -2,6 +2,7 @@
 use Rattle.std.proofs.Common.{◌≡◌, ◌==◌, ℕ, ◌+◌, ◌≤◌, ◌^◌, ◌++◌, List, [], ◌∷◌, length, Option, Some, None, unwrap_or}
 use Rattle.std.proofs.Common.{refl, sym, ap, ◌∙◌, subst, arith, length-append}
 use Rattle.std.proofs.lemmas.Bool.{eq-eqb}
+use Rattle.std.proofs.lemmas.Option.{none-some}
 use Rattle.std.specs.Prelude.{slice_get}
 use Rattle.cap_blocks.specs.Grammar.{interface_bytes, section_bytes}
 use Rattle.cap_blocks.specs.Split as blocks
@@ -31,9 +32,6 @@ use Rattle.cap_laws.proofs.again.MergedFiles.{given_from, merge-law, run-has}
 use Rattle.cap_laws.proofs.again.PcapngAgain.{first-section}
 use Rattle.cap_laws.specs.again.Laws.{AllHave, NumbersFit, meta_again}
 use Rattle.cap_laws.specs.again.Rounds.{MergedPcap, rule_of}
-
-some-none : {A : Type 0} (a : A) → Some a ≡ None → ⊥
-some-none a e = cc
 
 -- ---- the records of numbered packets
 
@@ -83,7 +81,7 @@ goes origins meta frame items none = by (write_fault origins meta) refl
 never : {A : Type 0} (origins : List Origin) (refusal : Refusal) (items : List Item)
     → refusal_in origins (refused refusal ∷ items) ≡ None → A
 unfolding refusal_in
-never origins refusal items none = absurd (some-none refusal none)
+never origins refusal items none = absurd (none-some refusal (sym none))
 
 fault-is : (first : Interface) (origins : List Origin) (meta : Meta) (frame : List ℕ)
     → meta.units ≡ Some (unwrap_or meta.units 0)

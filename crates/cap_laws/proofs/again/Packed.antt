@@ -1,16 +1,15 @@
 -- The packets of a pcap file, as they are numbered, read again and kept.
-use Rattle.std.proofs.Common.{arith, ◌≡◌, ℕ, ◌+◌, List, [], ◌∷◌, length, Option, Some, None, refl, ap}
-use Rattle.cap_bytes.specs.declared.faults.Refusal.{Refusal}
+use Rattle.std.proofs.Common.{arith, ◌≡◌, ℕ, ◌+◌, List, [], ◌∷◌, length, Some, refl, ap}
 use Rattle.cap_bytes.specs.declared.numbers.Order.{Order}
 use Rattle.cap_pcap.specs.Grammar.{Packet, packet_size}
 use Rattle.cap_pcap.specs.Split as records
 use Rattle.cap_bytes.specs.declared.stops.Stop.{Stop}
-use Rattle.cap_bytes.specs.declared.stops.Stop.TheVariants as stops
 use Rattle.cap_source.specs.Items.{pcap_items}
 use Rattle.cap_time.specs.declared.resolutions.Interface.{Interface}
 use Rattle.cap_source.specs.Feed.{refusal_of}
 use Rattle.cap_write.specs.Numbering.{Origin, Numbered, numbered, refusal_in, write_fault}
 use Rattle.cap_write.specs.Texts.{interface_part, packet_part, count_after}
+use Rattle.cap_tool.specs.BlockText.{refusal_of_stop}
 use Rattle.cap_laws.specs.again.Laws.{Kept, kept_packets, read_items, AreNumbered, all_described}
 
 -- the packets of a pcap file as they are numbered after its one interface, and as they are kept
@@ -46,11 +45,6 @@ keep_all i (p ∷ ps) = keep_one i p ∷ keep_all i ps
 abbrev one_origin : ℕ → List Origin
 one_origin file = (file, 0) ∷ []
 
-abbrev pub stop_refusal : Stop → Option Refusal
-stop_refusal stops.End = None
-stop_refusal stops.Cut = None
-stop_refusal (stops.Refused refusal) = Some refusal
-
 -- what is written of them is all
 pub numbered-packets : (file : ℕ) (i : Interface) (offset : ℕ) (ps : List Packet) (stop : Stop)
     → numbered (one_origin file) (pcap_items file i (records.record_items_with offset ps stop)) ≡ number_all i ps
@@ -60,13 +54,13 @@ numbered-packets file i offset ps stop = grind arith
 
 -- and nothing is refused but what ended them
 pub refusal-packets : (file : ℕ) (i : Interface) (offset : ℕ) (ps : List Packet) (stop : Stop)
-    → refusal_in (one_origin file) (pcap_items file i (records.record_items_with offset ps stop)) ≡ stop_refusal stop
+    → refusal_in (one_origin file) (pcap_items file i (records.record_items_with offset ps stop)) ≡ refusal_of_stop stop
 unfolding refusal_in pcap_items write_fault
 refusal-packets file i offset (p ∷ ps) stop = grind (arith, refusal-packets file i (offset + packet_size p) ps stop)
 refusal-packets file i offset ps stop = grind arith
 
 pub refusal_of-packets : (file : ℕ) (i : Interface) (offset : ℕ) (ps : List Packet) (stop : Stop)
-    → refusal_of (pcap_items file i (records.record_items_with offset ps stop)) ≡ stop_refusal stop
+    → refusal_of (pcap_items file i (records.record_items_with offset ps stop)) ≡ refusal_of_stop stop
 unfolding refusal_of pcap_items
 refusal_of-packets file i offset (p ∷ ps) stop = refusal_of-packets file i (offset + packet_size p) ps stop
 refusal_of-packets file i offset ps stop = grind arith

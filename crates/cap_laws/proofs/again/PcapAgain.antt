@@ -2,6 +2,7 @@
 use Rattle.std.proofs.Common.{◌≡◌, ◌==◌, ℕ, ℤ, pos, negsuc, ◌+◌, ◌*◌, ◌/◌, ◌%◌, ◌^◌, ◌≤◌, ◌<◌, List, [], ◌∷◌, ◌++◌}
 use Rattle.std.proofs.Common.{length, Bool, true, Option, Some, None, Equal, refl, sym, ap, ◌∙◌, subst, arith}
 use Rattle.std.proofs.lemmas.Nat.{div-mul-add, mod-mul-add}
+use Rattle.std.proofs.lemmas.Option.{none-some}
 use Rattle.std.specs.List.{AllByRecursion, AllZip}
 use Rattle.std.specs.Option.{MatchOption, option_map}
 use Rattle.std.specs.Prelude.{nat_abs}
@@ -41,9 +42,6 @@ use Rattle.cap_laws.proofs.again.RoundTrip.{first-header, items-written}
 use Rattle.cap_laws.proofs.again.Trips.{units_of-unit}
 use Rattle.cap_laws.specs.again.Laws.{AllWritten, record_form, records_form, IsSamePacket, SamePackets, written_first}
 use Rattle.cap_laws.specs.again.Laws.{PcapAgain}
-
-some-none : {A : Type 0} (a : A) → Some a ≡ None → ⊥
-some-none a e = cc
 
 -- ---- times
 
@@ -160,7 +158,7 @@ refuses first refusal items = refl
 
 never_refused : {A : Type 0} (first : Interface) (refusal : Refusal) (items : List Item)
     → records_refusal first (refused refusal ∷ items) ≡ None → A
-never_refused first refusal items none = absurd (some-none refusal (sym (refuses first refusal items) ∙ none))
+never_refused first refusal items none = absurd (none-some refusal (sym none ∙ refuses first refusal items))
 
 -- what is written of the packets of a file
 records-are : (order : Order) (first : Interface) (items : List Item) → records_refusal first items ≡ None
@@ -243,7 +241,7 @@ pcap_again-law order tail tail_again file file_again bytes are = by (file_first 
     by None is = (
       no_bytes tail_again file_again,
       λ none limit. absurd
-          (some-none (bare_refusal file (file_items tail file bytes)) none),
+          (none-some (bare_refusal file (file_items tail file bytes)) (sym none)),
     )
     by (Some first) is =
         let items = file_items tail file bytes in

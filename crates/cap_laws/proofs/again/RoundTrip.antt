@@ -35,7 +35,8 @@ use Rattle.cap_write.specs.Texts.{packet_part, count_after, packets_bytes, front
 use Rattle.cap_laws.proofs.again.Files.{length-section_bytes, pcapng-again}
 use Rattle.cap_laws.proofs.again.Held.{AllFit-held, held-written, early-written, records-again}
 use Rattle.cap_laws.proofs.again.Out.{fits, early, records_bytes-read, records_refusal-read, timely-packets}
-use Rattle.cap_laws.proofs.again.Packed.{number_one, number_all, stop_refusal, numbered-packets, refusal-packets}
+use Rattle.cap_tool.specs.BlockText.{refusal_of_stop}
+use Rattle.cap_laws.proofs.again.Packed.{number_one, number_all, numbered-packets, refusal-packets}
 use Rattle.cap_laws.proofs.again.Packed.{refusal_of-packets, kept-packets, kept-read, IsNumbered-packets}
 use Rattle.cap_laws.proofs.again.Packed.{all_described-packets}
 use Rattle.cap_laws.proofs.again.Trips.{fraction_of-header}
@@ -67,7 +68,7 @@ pub record Accepted (tail : Tail) (file : ℕ) (bytes : List ℕ) (header : Pcap
   pub stop : Stop
   pub items : file_items tail file bytes ≡ pcap_items file (interface_of header) (record_items_with 24 packets stop)
   pub first : file_first tail file bytes ≡ Some (interface_of header)
-  pub unrefused : stop_refusal stop ≡ None
+  pub unrefused : refusal_of_stop stop ≡ None
   pub held : AllHeld packets
   pub snaplen : header.snaplen < 2 ^ 32
   pub link : header.link < 2 ^ 16

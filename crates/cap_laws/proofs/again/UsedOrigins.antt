@@ -12,9 +12,6 @@ use Rattle.cap_laws.proofs.again.Renaming.{IsOneToOne}
 
 -- ---- origins
 
-pub same_number : (n : ℕ) → (n == n) ≡ true
-same_number n = grind (arith, nat_tests)
-
 -- ---- numbers in a list
 
 -- The origin's first place in the list.
@@ -59,7 +56,7 @@ found (n ∷ ns) a e = grind (arith, found ns a)
 
 lacking : (ns : List Origin) (a : Origin) → list_any (is_origin a) ns ≡ false
     → IsNumberIn (ns ++ (a ∷ [])) a (position_or_len (is_origin a) ns)
-lacking [] a e = grind (arith, same_number)
+lacking [] a e = grind (arith, nat_tests)
 lacking (n ∷ ns) a e = grind (arith, lacking ns a)
 
 -- a packet's interface has its number in the origins after the packet
@@ -99,7 +96,7 @@ bounds file place (g ∷ gs) a b (inr h) = grind (arith, bounds (file + g.count)
 -- Different origins have different numbers, or are of different groups.
 pub groups-apart : (file place : ℕ) (gs : List GroupOrigins) → IsOneToOne (IsOfGroups file place gs)
 groups-apart file place [] a b c d h k = absurd h
-groups-apart file place (g ∷ gs) a b c d (inl h) (inl k) = grind (arith, same_number, numbers-decide)
+groups-apart file place (g ∷ gs) a b c d (inl h) (inl k) = grind (arith, nat_tests, numbers-decide)
 groups-apart file place (g ∷ gs) a b c d (inl h) (inr k) = grind (arith, bounds, nat_tests)
 groups-apart file place (g ∷ gs) a b c d (inr h) (inl k) = grind (arith, bounds, nat_tests)
 groups-apart file place (g ∷ gs) a b c d (inr h) (inr k) = groups-apart (file + g.count) (suc place) gs a b c d h k

@@ -6,6 +6,7 @@ use Rattle.std.specs.Cmp.{IsTotalOrder, tied_itself, tied_back, alike_right, upt
 use Rattle.std.specs.Cmp.Lexicographic.{options_total}
 use Rattle.std.proofs.lemmas.Bool.{true≢false}
 use Rattle.cap_time.specs.declared.stamps.Stamp.{Stamp}
+use Rattle.cap_time.specs.inner.Orderings.{not_after, both_by}
 use Rattle.cap_time.specs.inner.StampLaws.{stamp_cmp_total}
 use Rattle.cap_time.specs.Clock.{clock_cmp, later}
 
@@ -39,14 +40,8 @@ turned_by r s e h = grind arith
 pub not_below : (a b : Option Stamp) → is_lt (clock_cmp a b) ≡ false → AtMost b a
 not_below a b h = turned_by (clock_cmp b a) (clock_cmp a b) (clock_total.antisymm b a) h
 
-less-at_most : (r : Ordering) → is_lt r ≡ true → is_gt r ≡ false
-less-at_most r h = grind arith
-
-pub is_less : (r : Ordering) → is_lt r ≡ true → r ≡ Less
-is_less r h = grind arith
-
 later_by : (a b : Option Stamp) (t : Bool) → is_lt (clock_cmp a b) ≡ t → AtMost a (cond t b a) × AtMost b (cond t b a)
-later_by a b true h = (less-at_most (clock_cmp a b) h, at_most-itself b)
+later_by a b true h = (not_after (clock_cmp a b) h, at_most-itself b)
 later_by a b false h = (at_most-itself a, not_below a b h)
 
 -- neither of two times is above the later
@@ -62,10 +57,6 @@ later_one P a b t f g = grind arith
 
 pub later-least : (a b c : Option Stamp) → AtMost a c → AtMost b c → AtMost (later a b) c
 later-least a b c = later_one (λ w. AtMost w c) a b (is_lt (clock_cmp a b))
-
--- what is neither above nor below is equal
-both_by : (r s : Ordering) → r ≡ ordering_reverse s → is_gt r ≡ false → is_gt s ≡ false → r ≡ Equal
-both_by r s e h k = grind arith
 
 pub at_most-both : (a b : Option Stamp) → AtMost a b → AtMost b a → clock_cmp a b ≡ Equal
 at_most-both a b h k = both_by (clock_cmp a b) (clock_cmp b a) (clock_total.antisymm a b) h k

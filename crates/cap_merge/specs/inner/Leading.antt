@@ -14,7 +14,8 @@ use Rattle.cap_time.specs.declared.stamps.Stamp.{Stamp}
 use Rattle.cap_time.specs.Clock.{clock_cmp}
 use Rattle.cap_merge.specs.inner.First.{Turn, has_next, no_turn, turn_at, sooner_place, first_among, first_place}
 use Rattle.cap_merge.specs.Parts.{Part, turn, turns, first_part}
-use Rattle.cap_merge.specs.inner.Clocks.{clock_total, AtMost, not_below, below-at_most, is_less}
+use Rattle.cap_time.specs.inner.Orderings.{is_less}
+use Rattle.cap_merge.specs.inner.Clocks.{clock_total, AtMost, not_below, below-at_most}
 
 -- The clock is below that of the item that comes next, if one does.
 abbrev pub IsBelow : Option Stamp → Turn → Type 0

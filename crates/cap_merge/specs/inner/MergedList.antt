@@ -1,11 +1,12 @@
 -- How the merged list begins, and how it goes on.
-use Rattle.std.proofs.Common.{◌≡◌, ℕ, suc, ◌+◌, ◌<◌, ◌≤◌, Bool, true, false, cond, List, [], ◌∷◌, ◌++◌, length, refl}
+use Rattle.std.proofs.Common.{◌≡◌, ℕ, suc, ◌+◌, ◌<◌, ◌≤◌, Bool, false, cond, List, [], ◌∷◌, ◌++◌, length, refl}
 use Rattle.std.proofs.Common.{sym, ap, ◌∙◌, subst, arith, append_assoc, Ordering, Less, Equal, Greater, Option}
 use Rattle.std.specs.Prelude.{◌≢◌, map, ◌==◌}
 use Rattle.std.specs.List.{AllByRecursion}
 use Rattle.std.specs.Ordering.{nat_cmp, ordering_then, is_gt, MatchOrdering}
 use Rattle.std.specs.Cmp.{IsTotalOrder, then_total, on_total, nat_cmp_total, nat_cmp_is, ranks}
 use Rattle.std.proofs.lemmas.Bool.Decides.{nat_tests}
+use Rattle.std.proofs.lemmas.Bool.{eq-eqb}
 use Rattle.std.proofs.lemmas.List.{map-append}
 use Rattle.cap_time.specs.declared.stamps.Stamp.{Stamp}
 use Rattle.cap_merge.specs.inner.Lists.{All-both, All-implied, map-twice}
@@ -149,9 +150,6 @@ moved-cmp : {A : Type 0} (file : ℕ) (x y : Placed A) → placed_cmp (moved fil
 moved-cmp file x y = ap (λ r. ordering_then (clock_cmp x.clock y.clock) r)
     (same_turn x.file y.file file x.place y.place (nat_cmp x.file y.file) (ranks x.file y.file))
 
-itself : (n : ℕ) → (n == n) ≡ true
-itself n = grind (arith, nat_tests)
-
 other : (n m : ℕ) → n ≢ m → (n == m) ≡ false
 other n m h = grind (arith, nat_tests)
 
@@ -159,7 +157,12 @@ moved-own : {A : Type 0} (time : A → Option Stamp) (file place : ℕ) (clock :
     → map (moved file) (placed_from time file place clock xs) ≡ placed_from time file (suc place) clock xs
 moved-own time file place clock [] = refl
 moved-own time file place clock (x ∷ xs) =
-    λ i. record { clock = later clock (time x); file = file; place = cond (itself file i) (suc place) place; item = x }
+    λ i. record {
+      clock = later clock (time x);
+      file = file;
+      place = cond (eq-eqb file file refl i) (suc place) place;
+      item = x;
+    }
     ∷ moved-own time file (suc place) (later clock (time x)) xs i
 
 moved-other : {A : Type 0} (time : A → Option Stamp) (moving file place : ℕ) (clock : Option Stamp) (xs : List A)

@@ -3,7 +3,7 @@ use Rattle.std.specs.Prelude.{ℕ, Bool, true, false, not, ◌+◌, nat_lt, List
 use Rattle.std.specs.Prelude.{if◌then◌else◌, option_map}
 use Rattle.std.specs.Option.{option_map_or}
 use Rattle.std.specs.Ordering.{is_lt}
-use Rattle.cap_time.specs.Clock.{later}
+use Rattle.cap_time.specs.Clock.{earlier, later}
 use Rattle.cap_source.specs.Feed.{Item, packet, refused}
 use Rattle.cap_source.specs.Times.{meta_time}
 use Rattle.cap_source.specs.declared.packets.Meta.{Meta}
@@ -16,12 +16,6 @@ unfoldable pub packets_of : List Item → List Meta
 packets_of [] = []
 packets_of (packet meta frame ∷ items) = meta ∷ packets_of items
 packets_of (refused refusal ∷ items) = []
-
--- the earlier of two times, of equal ones the first, or the only one
-abbrev pub earlier : Option Stamp → Option Stamp → Option Stamp
-earlier None b = b
-earlier (Some a) None = Some a
-earlier (Some a) (Some b) = if is_lt (stamp_cmp b a) then Some b else Some a
 
 -- the least and the greatest time of some packets: of equal ones that of the packet which stands first
 abbrev pub least_time : List Meta → Option Stamp

@@ -2,18 +2,13 @@
 use Rattle.std.specs.Prelude.{ℕ, ◌+◌, Bool, false, List, [], ◌∷◌, ◌++◌, codes, Option, Some, None, option_map}
 use Rattle.cap_print.specs.Facts.{Facts, one, number, word, moment, flag, line_in}
 use Rattle.cap_print.specs.declared.forms.Form.{Form}
+use Rattle.cap_source.specs.Formats.{format_name}
 use Rattle.cap_source.specs.declared.feeds.Ending.{Ending}
 use Rattle.cap_source.specs.declared.feeds.FileEnd.{FileEnd}
 use Rattle.cap_source.specs.declared.packets.Format.{Format}
-use Rattle.cap_source.specs.declared.packets.Format.TheVariants.{Pcap, Pcapng}
 use Rattle.cap_time.specs.Stamp.{printed_of}
 use Rattle.cap_talks.specs.declared.counts.counts.Counts.{Counts}
 use Rattle.cap_talks.specs.declared.counts.files.Counted.{Counted}
-
--- a format by its name
-abbrev pub format_name : Format → List ℕ
-format_name Pcap = codes "pcap"
-format_name Pcapng = codes "pcapng"
 
 -- the line of the file of that number: its format, if it is known, what is counted of it, how many of its blocks were
 -- skipped, and whether a rest of it was dropped

@@ -2,8 +2,8 @@
 ghost use Rattle.std.specs.Prelude.{◌≡◌, ◌≤◌, ◌<◌, ◌*◌, ◌^◌, ◌++◌, List, [], ◌∷◌, true};
 ghost use Rattle.cap_source.specs.declared.packets.Meta.{Meta};
 ghost use Rattle.cap_source.specs.Times.{meta_time};
-ghost use Rattle.cap_talks.specs.counts.Counting.{counted, with_packet, earlier, are_in_order};
-ghost use Rattle.cap_time.specs.Clock.{later};
+ghost use Rattle.cap_talks.specs.counts.Counting.{counted, with_packet, are_in_order};
+ghost use Rattle.cap_time.specs.Clock.{earlier, later};
 
 use cap_source::{Format, Meta};
 use cap_time::Stamp;

@@ -1,41 +1,14 @@
 //! The lines of the files.
 ghost use Rattle.std.specs.Prelude.{◌≡◌, ◌+◌, ◌≤◌, ◌++◌, codes, if◌then◌else◌, [], length, option_map};
-ghost use Rattle.cap_print.specs.Facts.{line_in, word_text, word_json, flag_json};
+ghost use Rattle.cap_print.specs.Facts.{line_in};
 ghost use Rattle.cap_print.specs.Lines.{room_in, text_in};
 ghost use Rattle.cap_print.specs.declared.forms.Form.TheVariants.{Text, Json};
-ghost use Rattle.cap_talks.specs.counts.FileLines.{format_name, counts_facts, file_facts, files_facts};
+ghost use Rattle.cap_source.specs.Formats.{format_name};
+ghost use Rattle.cap_talks.specs.counts.FileLines.{counts_facts, file_facts, files_facts};
 
 use crate::counts::counts::Counts;
 use cap_print::{Form, Line};
 use cap_source::{Ending, Format};
-
-// Puts a label and a format, or `-` if it isn't known.
-fn prepend_format(line: &mut Line, label: &[u8], format: Option<Format>)
-    requires { length label.now + 6 ≤ room_in line.old }
-    ensures text { text_in line.new ≡ label.now ++ word_text (option_map format_name format) ++ text_in line.old }
-    ensures room { room_in line.old ≤ room_in line.new + length label.now + 6 }
-{
-    match format {
-        None => line.prepend_text(b"-"),
-        Some(Format::Pcap) => line.prepend_text(b"pcap"),
-        Some(Format::Pcapng) => line.prepend_text(b"pcapng"),
-    }
-    line.prepend_text(label);
-}
-
-// Puts a label and a format as a string, or `null` if it isn't known.
-fn prepend_format_string(line: &mut Line, label: &[u8], format: Option<Format>)
-    requires { length label.now + 8 ≤ room_in line.old }
-    ensures text { text_in line.new ≡ label.now ++ word_json (option_map format_name format) ++ text_in line.old }
-    ensures room { room_in line.old ≤ room_in line.new + length label.now + 8 }
-{
-    match format {
-        None => line.prepend_text(b"null"),
-        Some(Format::Pcap) => line.prepend_text(b"\"pcap\""),
-        Some(Format::Pcapng) => line.prepend_text(b"\"pcapng\""),
-    }
-    line.prepend_text(label);
-}
 
 // Puts ` cut` if a rest was dropped.
 fn prepend_cut(line: &mut Line, was_cut: bool)
@@ -46,20 +19,6 @@ fn prepend_cut(line: &mut Line, was_cut: bool)
     if was_cut {
         line.prepend_text(b" cut");
     }
-}
-
-// Puts a label, and whether something is so.
-fn prepend_flag(line: &mut Line, label: &[u8], is_so: bool)
-    requires { length label.now + 5 ≤ room_in line.old }
-    ensures text { text_in line.new ≡ label.now ++ flag_json is_so ++ text_in line.old }
-    ensures room { room_in line.old ≤ room_in line.new + length label.now + 5 }
-{
-    if is_so {
-        line.prepend_text(b"true");
-    } else {
-        line.prepend_text(b"false");
-    }
-    line.prepend_text(label);
 }
 
 // The line that says how many files there are: `files K`.
@@ -92,6 +51,13 @@ pub fn files_line_in(form: Form, count: u32) -> Line
     }
 }
 
+// The name of a format, if it is known.
+fn name_of(format: Option<Format>) -> Option<&'static str>
+    ensures { option_map (λ n. n.now) result ≡ option_map format_name format }
+{
+    format.map(|format| format.name())
+}
+
 // The line of the file of that number.
 fn line_of(file: u32, format: Option<Format>, counts: &Counts, skipped: u64, was_cut: bool) -> Line
     ensures { text_in result ≡ line_in Text (counts_facts file format counts.now skipped was_cut) }
@@ -105,7 +71,7 @@ fn line_of(file: u32, format: Option<Format>, counts: &Counts, skipped: u64, was
     line.prepend_field(b" truncated ", counts.truncated);
     line.prepend_integer(b" bytes ", counts.bytes);
     line.prepend_field(b" packets ", counts.packets);
-    prepend_format(&mut line, b" ", format);
+    line.prepend_word(b" ", name_of(format));
     line.prepend_field(b"file ", u64::from(file));
     line
 }
@@ -122,14 +88,14 @@ fn object_of(
 {
     let mut line = Line::new();
     line.prepend_text(b"}\n");
-    prepend_flag(&mut line, b",\"cut\":", was_cut);
+    line.prepend_flag(b",\"cut\":", was_cut);
     line.prepend_time_array(b",\"last\":", counts.last);
     line.prepend_time_array(b",\"first\":", counts.first);
     line.prepend_field(b",\"skipped\":", skipped);
     line.prepend_field(b",\"truncated\":", counts.truncated);
     line.prepend_integer(b",\"bytes\":", counts.bytes);
     line.prepend_field(b",\"packets\":", counts.packets);
-    prepend_format_string(&mut line, b",\"format\":", format);
+    line.prepend_word_string(b",\"format\":", name_of(format));
     line.prepend_field(b"{\"type\":\"file\",\"file\":", u64::from(file));
     line
 }

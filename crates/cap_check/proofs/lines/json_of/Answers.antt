@@ -5,7 +5,7 @@ pub returns : goal.returns
 returns c =
     rw (
       c.prepend_field-6.ensures.text,
-      c.prepend_format_string.ensures.text,
+      c.prepend_word_string.ensures.text,
       c.prepend_field-5.ensures.text,
       c.prepend_field-4.ensures.text,
       c.prepend_field-3.ensures.text,
@@ -15,6 +15,6 @@ returns c =
       c.interfaces_of.ensures,
       c.end_json-line.ensures.text,
       c.skipped_of.ensures,
-      c.format_of.ensures,
+      c.format_name_of.ensures,
       c.from.ensures,
     ) refl

@@ -1,7 +1,8 @@
 use Rattle.std.proofs.Common.{◌≡◌, ◌∙◌, List, Option, sym, ap, subst, arith}
 use Rattle.cap_time.specs.declared.stamps.Stamp.{Stamp}
+use Rattle.cap_time.specs.Clock.{earlier}
 use Rattle.cap_join.specs.Joiners.{Entry}
-use Rattle.cap_join.specs.inner.Ages.{deadline_of, sooner, IsDeadline, AreInTurn}
+use Rattle.cap_join.specs.inner.Ages.{deadline_of, IsDeadline, AreInTurn}
 use Rattle.cap_join.proofs.Aging.{Leaves, Leaves-more, Leaves-turn}
 use Rattle.cap_join.proofs.queues.soonest.Goals as goal
 
@@ -19,8 +20,8 @@ pub loop-key-preserved : goal.loop-key-preserved
 loop-key-preserved c =
     let es = c.args.groups.now.entries in
     let e : Entry = (c.in-Some._key.now, c.in-Some.group.now) in
-    let soon : c.sooner-deadline.result ≡ sooner c.loop-key.deadline (deadline_of e.1.clock) = c.sooner-deadline.ensures
-    ∙ ap (sooner c.loop-key.deadline) c.deadline.ensures in (
+    let soon : c.sooner-deadline.result ≡ earlier c.loop-key.deadline (deadline_of e.1.clock) =
+    c.sooner-deadline.ensures ∙ ap (earlier c.loop-key.deadline) c.deadline.ensures in (
       subst (λ (d : Option Stamp). Leaves d c.next.new.self es) (sym soon)
           (Leaves-more c.loop-key.deadline e c.next.new.self es
           (subst (λ (l : List Entry). Leaves c.loop-key.deadline l es) c.in-Some.ensures.steps c.loop-key.invariant.0)),
@@ -31,8 +32,8 @@ pub returns-then-has_clock : goal.returns-then-has_clock
 returns-then-has_clock c =
     let es = c.args.groups.now.entries in
     let e : Entry = (c.in-Some._key.now, c.in-Some.group.now) in
-    let soon : c.sooner-deadline.result ≡ sooner c.loop-key.deadline (deadline_of e.1.clock) = c.sooner-deadline.ensures
-    ∙ ap (sooner c.loop-key.deadline) c.deadline.ensures in
+    let soon : c.sooner-deadline.result ≡ earlier c.loop-key.deadline (deadline_of e.1.clock) =
+    c.sooner-deadline.ensures ∙ ap (earlier c.loop-key.deadline) c.deadline.ensures in
     subst (λ (d : Option Stamp). IsDeadline d es) (sym soon)
     (Leaves-turn c.loop-key.deadline e c.next.new.self es (c.has_clock.ensures.some c.if-has_clock.true)
     (subst AreInTurn c.in-Some.ensures.steps (c.loop-key.invariant.1 c.if-in_order.true))

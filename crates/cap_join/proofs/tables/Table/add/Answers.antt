@@ -1,9 +1,10 @@
 use Rattle.std.proofs.Common.{◌≡◌, Option, true, List, ◌∷◌, [], ◌++◌, sym, ◌∙◌, ap, subst}
 use Rattle.std.specs.Map.{remove_entry}
 use Rattle.cap_time.specs.declared.stamps.Stamp.{Stamp}
+use Rattle.cap_time.specs.Clock.{earlier}
 use Rattle.cap_join.specs.History.{same_key}
 use Rattle.cap_join.specs.Joiners.{Entry}
-use Rattle.cap_join.specs.inner.Ages.{deadline_of, sooner, latest_of, is_in_turn, IsDeadline, AreInTurn, AreUpTo}
+use Rattle.cap_join.specs.inner.Ages.{deadline_of, latest_of, is_in_turn, IsDeadline, AreInTurn, AreUpTo}
 use Rattle.cap_join.proofs.Aging.{IsDeadline-remove_entry, AreInTurn-remove_entry, AreUpTo-remove_entry}
 use Rattle.cap_join.proofs.Aging.{IsDeadline-push, AreInTurn-push, AreUpTo-push}
 use Rattle.cap_join.proofs.Tabling.{IsDistinct-added}
@@ -16,8 +17,8 @@ invariant_of-self-2 c =
     let others = remove_entry test t.groups in
     let entry : Entry = (c.args.key.now, c.args.group) in
     let is : c.append.new.self ≡ others ++ entry ∷ [] = c.in_ok-replaced.ensures.ok in
-    let soon : c.sooner-self-inside.result ≡ sooner t.deadline (deadline_of c.args.group.clock) =
-    c.sooner-self-inside.ensures ∙ ap (sooner t.deadline) c.deadline-deadline.ensures in
+    let soon : c.sooner-self-inside.result ≡ earlier t.deadline (deadline_of c.args.group.clock) =
+    c.sooner-self-inside.ensures ∙ ap (earlier t.deadline) c.deadline-deadline.ensures in
     let last : c.latest_of-self-inside.result ≡ latest_of t.latest (deadline_of c.args.group.clock) =
     c.latest_of-self-inside.ensures ∙ ap (latest_of t.latest) c.deadline-deadline.ensures in
     record {

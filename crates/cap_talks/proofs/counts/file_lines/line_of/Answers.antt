@@ -5,7 +5,8 @@ pub returns : goal.returns
 returns c =
     simp (
       c.prepend_field-4.ensures.text,
-      c.prepend_format.ensures.text,
+      c.prepend_word.ensures.text,
+      c.name_of.ensures,
       c.prepend_field-3.ensures.text,
       c.prepend_integer.ensures.text,
       c.prepend_field-2.ensures.text,

@@ -5,7 +5,8 @@ pub returns : goal.returns
 returns c =
     rw (
       c.prepend_field-4.ensures.text,
-      c.prepend_format_string.ensures.text,
+      c.prepend_word_string.ensures.text,
+      c.name_of.ensures,
       c.prepend_field-3.ensures.text,
       c.prepend_integer.ensures.text,
       c.prepend_field-2.ensures.text,
