@@ -1,131 +1,110 @@
 #!/usr/bin/env python3
-"""A quick look at the must-fail edits of code, many in one check. It is not in the gate: `rt ci` tries each edit by itself, and decides.
+"""Tries the edits of crates/*/must-fail and crates/*/edits, many in one check: the prover must refuse each.
 
-The proof of a function stands on the contracts of others, never on their bodies. So edits of different functions are made at once in a
-copy of the crate, and one check asks for all these functions. It says of each whether it is proved, and at which of its goals it isn't.
-An edit is refused if its function fails at a goal: it doesn't count that a function which it calls isn't proved, or that a proof file
-names what the edit took away. And no function may fail that no edit names: that shows that the edits are apart.
+The proof of a function rests on the contracts of others, never on their bodies. So edits of different functions are made
+at once in a copy of the crate, and one check asks for all these functions. It says of each whether it is proved, and
+at which of its goals it isn't. An edit is refused if its function fails at a goal of its own. It doesn't count that a
+function which it calls isn't proved, or that a proof file names what the edit took away. And no function may fail that
+no edit names, which shows that the edits are apart. So this is stricter than `rt ci`, where it is enough that the crate
+isn't proved.
 
-Asked are the edits that edits.txt has, each with the function that it changes, as a check prints it after the crate's name. Those that aren't
-there change a definition, or are of capt_c: such an edit is tried only if it is named, by a check of the whole crate.
+An edit with a line `of: MODULE::FUNCTION` may reach more than that function: a constant, a definition, the statement
+of a law. It is tried by itself, by a check of that function.
 
-Use: checks/edits.py [CRATE | CRATE/EDIT]..     over the libraries below as `rt ci` or `rt check` left them; of an edit that is named, it
-                                                prints the goals at which it is refused
+Use: checks/edits.py [CRATE | CRATE/EDIT]..     over the libraries that `rt ci` or `rt check` left in crates/*/out; of an
+                                                edit that is named, it prints the goals at which it is refused
+     checks/edits.py --rlibs FOLDER ..          over libraries elsewhere
+     RT_JOBS=N                                  checks side by side, of up to 2 GB each
 """
 import sys
 
 sys.dont_write_bytecode = True
 
-import os, re, shutil, signal, subprocess, tempfile
+import os, re, shutil, signal, subprocess, tempfile, threading
+from concurrent.futures import ThreadPoolExecutor
 from dataclasses import dataclass, field
-from queue import PriorityQueue
-from threading import Thread
 
-TOP = os.path.dirname(os.path.dirname(os.path.abspath(__file__)))
-KIT = os.path.dirname(subprocess.run(["rt", "doc"], capture_output=True, text=True, check=True).stdout.strip())
-# The crates that take longer than their code is long: cap_line with the types of clap, cap_tool by four edits of one function.
-LONG = ["cap_write", "cap_talks", "cap_line", "cap_tool"]
-# What a check says of a proof file that names what an edit took away, or what stands on such a line.
+import edit_files
+from edit_files import PARTS, crates_of, edits_of, kit, label_of
+
+# The crates whose checks take longer than their code is long: they begin first.
+LONG = ["cap_line", "cap_tool", "cap_talks", "cap_write"]
+# How many edits a check has at most, so that a crate's edits are shared by the processors.
+MOST = 16
+# What a check says of a proof file that names what an edit took away, or of what rests on such a line.
 LOST = re.compile(r"has no field|is not in scope|has no `|was not admitted|that depends? on ")
 
 
 @dataclass
-class Edit:
-    name: str
-    function: str = ""
-    # the file, what stands there and what is written in its place, one after another
-    changes: list = field(default_factory=list)
+class Group:
+    """Edits of one crate that one check can try."""
 
-    def applied(self, texts):
-        """What the edit makes of these texts of the crate's files, or None if some `old:` doesn't stand there once."""
-        texts = dict(texts)
-        for path, old, new in self.changes:
-            if texts.get(path, "").count(old) != 1:
-                return None
-            texts[path] = texts[path].replace(old, new)
-        return texts
+    crate: object
+    edits: list = field(default_factory=list)
+    texts: dict = field(default_factory=dict)
 
+    @property
+    def functions(self):
+        return {edit.function for edit in self.edits}
 
-def read_text(path):
-    with open(path, encoding="utf-8") as file:
-        return file.read()
+    def takes(self, edit):
+        """Makes an edit in the texts too, if it can be made beside the others."""
+        if self.edits and (len(self.edits) == MOST or edit.is_told or self.edits[0].is_told or edit.function in self.functions):
+            return False
+        texts = edit.applied({path: edit.crate.text(path) for path in edit.paths} | self.texts)
+        if texts is None:
+            return False
+        self.texts = texts
+        self.edits.append(edit)
+        return True
 
-
-# The function that an edit changes, by the edit's crate and name.
-FUNCTIONS = dict(line.split() for line in read_text(f"{TOP}/checks/edits.txt").splitlines())
-
-
-def edits_of(crate, names=()):
-    """The edits of these names, or else those that edits.txt has."""
-    folder = f"{TOP}/crates/{crate}/must-fail"
-    edits = []
-    for name in sorted(os.listdir(folder)) if os.path.isdir(folder) else []:
-        edit, path, old = Edit(name.removesuffix(".edit")), None, None
-        edit.function = FUNCTIONS.get(f"{crate}/{edit.name}", "")
-        for line in read_text(f"{folder}/{name}").splitlines():
-            word, _, rest = line.partition(": ")
-            if word == "file":
-                path = rest
-            elif word == "old":
-                old = rest
-            elif word in ("new", "new:"):
-                edit.changes.append((path, old, rest))
-        if edit.name in names or not names and edit.function:
-            edits.append(edit)
-    return edits
+    def halves(self):
+        middle = len(self.edits) // 2
+        return [group for part in (self.edits[:middle], self.edits[middle:]) for group in groups_of(part)]
 
 
-def libraries_of():
-    """Each crate of crates.txt, and the libraries that it names."""
-    found = {}
-    for line in read_text(f"{TOP}/crates.txt").splitlines():
-        crate, _, names = line.partition("#")[0].partition(":")
-        if crate.strip():
-            found[crate.strip()] = names.split()
-    return found
-
-
-LIBRARIES = libraries_of()
+def groups_of(edits):
+    """The edits of a crate in groups, each as full as can be."""
+    groups = []
+    for edit in edits:
+        if not any(group.takes(edit) for group in groups):
+            groups.append(Group(edit.crate))
+            groups[-1].takes(edit)
+    return groups
 
 
 def turn(crate):
     """What puts crates in order: the longest first, by the bytes of their code, since others fill what they leave at the end."""
-    size = sum(os.path.getsize(f"{at}/{name}") for at, _, names in os.walk(f"{TOP}/crates/{crate}/src") for name in names)
-    return crate not in LONG, -size
+    return crate.name not in LONG, -sum(os.path.getsize(f"{crate.folder}/{path}") for path in crate.code())
 
 
-def below(crate):
-    """The crates here that it stands on."""
-    found = []
-    for library in LIBRARIES[crate]:
-        if library in LIBRARIES:
-            found += [it for it in [*below(library), library] if it not in found]
-    return found
-
-
-def checked(crate, texts, functions, room, rlibs):
-    """What a check of these functions says, over the crate's files with these texts in place of theirs. The room keeps what it proved for the next check."""
-    copy = f"{room}/{crate}"
+def checked(group, room, rlibs):
+    """What a check of the group's functions says. The room keeps what it proved for the next check of the crate."""
+    crate = group.crate
+    copy = f"{room}/{crate.name}"
     shutil.rmtree(copy, ignore_errors=True)
-    for part in ("src", "specs", "proofs"):
-        if os.path.isdir(f"{TOP}/crates/{crate}/{part}"):
-            shutil.copytree(f"{TOP}/crates/{crate}/{part}", f"{copy}/{part}")
-    for path, text in texts.items():
+    for part in PARTS:
+        if os.path.isdir(f"{crate.folder}/{part}"):
+            shutil.copytree(f"{crate.folder}/{part}", f"{copy}/{part}")
+    for path, text in group.texts.items():
         with open(f"{copy}/{path}", "w", encoding="utf-8") as file:
             file.write(text)
-    words = [f"{KIT}/bin/rattle", "check", "--crate-name", crate, "src/lib.rt"]
-    for library in ["std", *LIBRARIES[crate]]:
-        words += ["--extern", f"{library}={rlibs if library in LIBRARIES else f'{KIT}/rlibs'}/{library}.rlib"]
-    words += ["-L", f"dependency={rlibs}", "-L", f"dependency={KIT}/rlibs", "--links", f"{crate}=", "--jobs", "1"]
-    words += ["--antt-project", f"{KIT}/rattle/logic/antt-project.json", "--logic-built", f"{KIT}/logic_built"]
-    words += ["--incremental", f"{room}/kept"]
-    for function in functions:
+    words = [f"{kit()}/bin/rattle", "check", "--crate-name", crate.name, crate.root]
+    words += ["--crate-type", "staticlib"] * crate.is_static
+    here = {it.name for it in crate.below}
+    for library in dict.fromkeys(["std", *crate.libraries]):
+        words += ["--extern", f"{library}={rlibs[library] if library in here else f'{kit()}/rlibs/{library}.rlib'}"]
+    for folder in {os.path.dirname(rlibs[library]) for library in here} | {f"{kit()}/rlibs"}:
+        words += ["-L", f"dependency={folder}"]
+    words += ["--links", f"{crate.name}=", "--jobs", "1", "--incremental", f"{room}/kept"]
+    words += ["--antt-project", f"{kit()}/rattle/logic/antt-project.json", "--logic-built", f"{kit()}/logic_built"]
+    for function in sorted(group.functions):
         words += ["--only", function]
     how = {"cwd": copy, "stdin": subprocess.DEVNULL, "stdout": subprocess.PIPE, "stderr": subprocess.STDOUT}
-    for again in (True, False):
+    for is_last in (False, True):
         ran = subprocess.run(words, text=True, errors="replace", **how)
         # (most likely for memory)
-        if ran.returncode != -signal.SIGKILL or not again:
+        if ran.returncode != -signal.SIGKILL or is_last:
             return ran.stdout
 
 
@@ -155,50 +134,59 @@ def failures(crate, said):
     return told, failed
 
 
-def try_together(crate, edits, room, rlibs):
-    """Tries as many of the edits as can be made at once, and one of a definition by itself: the goals at which each was refused, what is to be
-    said of the others, and which are left for another check."""
-    texts, functions, made, left, wrong = {}, set(), [], [], []
-    for edit in edits:
-        for path in {path for path, _, _ in edit.changes} - {*texts}:
-            if os.path.isfile(f"{TOP}/crates/{crate}/{path}"):
-                texts[path] = read_text(f"{TOP}/crates/{crate}/{path}")
-    whole = dict(texts)
-    for edit in edits:
-        then = edit.applied(texts)
-        if not edit.changes or edit.applied(whole) in (None, whole):
-            wrong.append(f"{crate}/{edit.name}: it changes nothing, or an `old:` doesn't stand in its file once")
-        elif edit.function in functions or then is None or made and "" in (edit.function, made[0].function):
-            left.append(edit)
-        else:
-            texts = then
-            functions.add(edit.function)
-            made.append(edit)
-    said = checked(crate, texts, sorted(functions - {""}), room, rlibs) if made else ""
-    told, failed = failures(crate, said)
-    if made and not told:
-        first = next((it for it in said.splitlines() if "error" in it), said[-200:])
-        return {}, [*wrong, *(f"{crate}/{it.name}: not tried, since no check came to an end: {first[:200]}" for it in made)], left
-    if "" in functions:
-        failed = {"": [f"{function}: {goal}" for function, goals in failed.items() for goal in goals]}
-    for edit in made:
+def judge(group, said):
+    """The goals at which each edit was refused, and what is to be said of the others; none if the check came to no end."""
+    told, failed = failures(group.crate.name, said)
+    if not told:
+        return None
+    wrong = []
+    for edit in group.edits:
         if not failed.get(edit.function):
             why = "only because a proof file names what the edit took away" if edit.function in failed else told.get(edit.function, "it is no function of the check")
-            wrong.append(f"{crate}/{edit.name}: NOT REFUSED at a goal of {edit.function}: {why}")
-    for function in failed.keys() - functions:
-        wrong.append(f"{crate}: {function} fails too, which no edit names: {failed[function][:1]}")
-    return {it.name: failed[it.function] for it in made if failed.get(it.function)}, wrong, left
+            wrong.append(f"{edit.label}: NOT REFUSED at a goal of {edit.function}: {why}")
+    if not group.edits[0].is_told:
+        for function in failed.keys() - group.functions:
+            wrong.append(f"{group.crate.name}: {function} fails too, which no edit names: {failed[function][:1]}")
+    return {it: failed[it.function] for it in group.edits if failed.get(it.function)}, wrong
 
 
-def tried(crate, names, rlibs):
-    """Tries the edits of these names, or all of a crate: the goals at which each was refused, and what is to be said of the others."""
-    refused, left = {}, edits_of(crate, names)
-    wrong = [f"{crate}/{it}: there is no such edit" for it in sorted({*names} - {edit.name for edit in left})]
-    with tempfile.TemporaryDirectory(prefix="capt-edits-") as room:
-        while left:
-            goals, said, left = try_together(crate, left, room, rlibs)
-            refused, wrong = refused | goals, wrong + said
-    return refused, wrong
+# where each thread keeps what its checks of a crate proved
+own = threading.local()
+
+
+def tried(group, rooms, rlibs):
+    """Tries a group of edits: the goals at which each was refused, and what is to be said of the others."""
+    lost = sorted(it.name for it in group.crate.below if it.name not in rlibs)
+    if lost:
+        return {}, [f"{edit.label}: not tried, since {lost[0]} isn't built" for edit in group.edits]
+    if not hasattr(own, "rooms"):
+        own.rooms = {}
+    room = own.rooms.setdefault(group.crate.name, None) or tempfile.mkdtemp(dir=rooms)
+    own.rooms[group.crate.name] = room
+    said = checked(group, room, rlibs)
+    found = judge(group, said)
+    if found:
+        return found
+    if len(group.edits) > 1:
+        # one of them can't be read
+        parts = [tried(part, rooms, rlibs) for part in group.halves()]
+        return {edit: goals for refused, _ in parts for edit, goals in refused.items()}, [it for _, wrong in parts for it in wrong]
+    first = next((it for it in said.splitlines() if "error" in it), said[-200:])
+    return {}, [f"{group.edits[0].label}: not tried, since the check came to no end: {first[:200]}"]
+
+
+def libraries(crates, folder, room):
+    """The built libraries: of the folder, or else of each crate's out/, under second names, which stay if `rt ci` puts back what was there before."""
+    found = {}
+    for crate in crates.values():
+        rlib = f"{folder}/{crate.name}.rlib" if folder else f"{crate.folder}/out/rlib/{crate.name}.rlib"
+        if os.path.exists(rlib):
+            found[crate.name] = f"{room}/{crate.name}.rlib"
+            if os.path.isdir(rlib):
+                shutil.copytree(rlib, found[crate.name], copy_function=link_or_copy)
+            else:
+                link_or_copy(rlib, found[crate.name])
+    return found
 
 
 def link_or_copy(one, other):
@@ -208,49 +196,36 @@ def link_or_copy(one, other):
         shutil.copy2(one, other)
 
 
-def take_library(crate, rlibs):
-    """Gives a built library a second name, which stays if `rt ci` puts back what a check had left before."""
-    rlib = f"{TOP}/crates/{crate}/out/rlib/{crate}.rlib"
-    if os.path.isdir(rlib) and not os.path.isdir(f"{rlibs}/{crate}.rlib"):
-        shutil.copytree(rlib, f"{rlibs}/{crate}.rlib", copy_function=link_or_copy)
-
-
 def main(words):
-    wanted = {crate: [] for crate in LIBRARIES if not words and edits_of(crate)}
-    for word in words:
-        crate, _, name = word.removesuffix(".edit").removeprefix("crates/").replace("/must-fail/", "/").partition("/")
-        wanted.setdefault(crate, []).extend([name] if name else [])
-    waiting, ready, results = set(wanted), PriorityQueue(), {}
-
-    def work():
-        while crate := ready.get()[1]:
-            results[crate] = tried(crate, wanted[crate], rlibs)
-
-    def begin():
-        for crate in [it for it in waiting if all(os.path.isdir(f"{rlibs}/{it}.rlib") for it in below(it))]:
-            waiting.remove(crate)
-            ready.put((turn(crate), crate))
-
-    with tempfile.TemporaryDirectory(prefix="capt-rlibs-") as rlibs:
-        workers = [Thread(target=work, daemon=True) for _ in range(int(os.environ.get("RT_JOBS") or os.cpu_count()))]
-        for worker in workers:
-            worker.start()
-        for library in {it for crate in wanted for it in below(crate)}:
-            take_library(library, rlibs)
-        begin()
-        for _ in workers:
-            ready.put(((True, 1), ""))
-        for worker in workers:
-            worker.join()
-    passed = failed = 0
-    for crate in wanted:
-        refused, wrong = results.get(crate, ({}, [f"{crate}: not tried, since no library below it is built, or the check broke off"]))
-        wrong = [f"edits.py: {it}" for it in wrong]
-        goals = [f"{crate}/{name}: refused at {goal[:250]}" for name in wanted[crate] for goal in refused.get(name, [])]
-        print(*goals, *wrong, sep="\n", end="\n" * bool(goals + wrong))
-        passed, failed = passed + len(refused), failed + len(wrong)
-    print(f"{passed} passed, {failed} failed")
-    return failed > 0
+    tree, folder = edit_files.TOP, None
+    while words and words[0] in ("--tree", "--rlibs"):
+        tree, folder = (words[1], folder) if words[0] == "--tree" else (tree, words[1])
+        words = words[2:]
+    crates = crates_of(os.path.abspath(tree))
+    wanted = {label_of(word) for word in words}
+    edits = [edit for crate in sorted(crates.values(), key=turn) for edit in edits_of(crate)]
+    edits = [edit for edit in edits if not wanted or wanted & {edit.crate.name, edit.label}]
+    wrong = [f"{it}: there is no such edit" for it in sorted(wanted - {it for edit in edits for it in (edit.crate.name, edit.label)})]
+    wrong += [f"{edit.label}: {edit.wrong}" for edit in edits if edit.wrong]
+    wrong += [f"{edit.label}: nobody tries it, since no `of:` says which function it changes" for edit in edits if not edit.wrong and not edit.function]
+    groups = []
+    for crate in dict.fromkeys(edit.crate for edit in edits):
+        groups += groups_of([edit for edit in edits if edit.crate is crate and edit.function])
+    refused = {}
+    with tempfile.TemporaryDirectory(prefix="capt-edits-") as room:
+        rlibs = libraries(crates, folder, room)
+        with ThreadPoolExecutor(int(os.environ.get("RT_JOBS") or os.cpu_count())) as pool:
+            for goals, said in pool.map(lambda group: tried(group, room, rlibs), groups):
+                refused, wrong = refused | goals, wrong + said
+    for edit, goals in refused.items():
+        if edit.label in wanted:
+            print(*(f"{edit.label}: refused at {goal[:250]}" for goal in goals), sep="\n")
+    for it in wrong:
+        print(f"edits.py: {it}")
+    laws = sum(edit.is_of_statements for edit in refused)
+    print(f"of the edits that are refused {laws} change a statement or a definition, and no code")
+    print(f"{len(refused)} passed, {len(wrong)} failed")
+    return bool(wrong)
 
 
 if __name__ == "__main__":

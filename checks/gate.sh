@@ -1,12 +1,14 @@
 #!/usr/bin/env bash
-# The gate: `rt ci`, then the scripts of this folder, side by side. Its last line adds up what both count: 'N passed, M failed'.
-# The status is 0 if nothing failed.
+# The gate, from nothing: a look at all edits by the compiler's front end, `rt ci`, then the other edits and the scripts of this folder,
+# side by side. Its last line adds up what they count: 'N passed, M failed'. The status is 0 if nothing failed.
 #
-# Use: checks/gate.sh     (the scripts take less than a minute on four processors; they want a C compiler, binutils and Python 3)
+# It removes crates/*/out, so that nothing is taken from earlier runs: run it in a clone if you want to keep them.
+#
+# Use: checks/gate.sh     (the scripts want a C compiler, binutils and Python 3)
 set -u
 cd "$(dirname "$0")/.."
-scripts=(program.sh clib.py devices.sh hints.py stack.sh papers.sh columns.py rounds.sh rows.py objects.py invariance.py corpus.py hostile.py limits.py
-    'faults.py growths' 'faults.py devices')
+scripts=(program.sh edits.py edits_test.py clib.py devices.sh hints.py stack.sh papers.sh columns.py rounds.sh rows.py objects.py invariance.py
+    corpus.py hostile.py limits.py 'faults.py growths' 'faults.py devices')
 passed=0
 failed=0
 logs=$(mktemp -d)
@@ -28,8 +30,26 @@ counted() {
     fi
 }
 
-rt ci 2>&1 | tee "$logs/rt ci"
+# ended WHAT: how long the gate has run, for whoever looks where its time goes
+ended() {
+    echo "gate.sh: $1 ended after $((SECONDS / 60)) minutes $((SECONDS % 60)) seconds"
+}
+
+# an edit that doesn't reach the prover fails `rt ci`, an hour later
+checks/frontend.py 2>&1 | tee "$logs/frontend.py"
+counted frontend.py "${PIPESTATUS[0]}"
+ended frontend.py
+if [ "$failed" != 0 ]; then
+    echo "$passed passed, $failed failed"
+    exit 1
+fi
+
+rm -rf crates/*/out
+anew=()
+if rt --help | grep -q -- '--anew'; then anew=(--anew); fi
+rt ci "${anew[@]}" 2>&1 | tee "$logs/rt ci"
 counted 'rt ci' "${PIPESTATUS[0]}"
+ended 'rt ci'
 
 # program.sh times what it sees, so the others take only what it leaves of the processors
 for script in "${scripts[@]}"; do
@@ -37,6 +57,7 @@ for script in "${scripts[@]}"; do
         # shellcheck disable=SC2086  # a script's name may have a word after it
         nice -n "$([ "$script" = program.sh ] && echo 0 || echo 19)" checks/$script > "$logs/$script" 2>&1
         echo $? > "$logs/$script, its status"
+        ended "$script"
     } &
 done
 wait
@@ -44,5 +65,6 @@ for script in "${scripts[@]}"; do
     cat "$logs/$script"
     counted "$script" "$(cat "$logs/$script, its status")"
 done
+ended 'the gate'
 echo "$passed passed, $failed failed"
 [ "$failed" = 0 ]

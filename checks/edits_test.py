@@ -1,0 +1,120 @@
+#!/usr/bin/env python3
+"""Tries frontend.py and edits.py on a small crate of their own, whose edits show what each counts as passed and as failed.
+
+Use: checks/edits_test.py
+"""
+import sys
+
+sys.dont_write_bytecode = True
+
+import os, subprocess, tempfile
+
+CHECKS = os.path.dirname(os.path.abspath(__file__))
+FILES = {
+    "crates.txt": "small:\n",
+    "crates/small/src/lib.rt": """//! Small functions, whose edits are tried.
+#![tactic(auto)]
+
+ghost use Rattle.small.specs.Laws.{IsMore};
+ghost use Rattle.std.specs.Prelude.{◌≡◌, ◌+◌, ◌*◌, ◌<◌, ◌≤◌, length};
+
+const STEP: usize = 1;
+
+pub fn next(count: usize) -> usize
+    requires { count < 1000 }
+    ensures { result ≡ count + 1 }
+{
+    count + STEP
+}
+
+pub fn second(count: usize) -> usize
+    requires { count < 1000 }
+    ensures { result ≡ count + 2 }
+{
+    count + 2
+}
+
+pub fn total(bytes: &[u8]) -> usize
+    requires { length bytes.now ≤ 65536 }
+    ensures { result ≤ 255 * length bytes.now }
+{
+    let mut sum: usize = 0;
+    for byte in bytes {
+        sum += *byte as usize;
+    }
+    sum
+}
+
+pub fn law()
+    ensures { IsMore }
+{
+}
+""",
+    "crates/small/specs/Lib.antt": "pub mod Laws\n",
+    "crates/small/specs/Laws.antt": """use Rattle.std.specs.Prelude.{◌+◌, ◌≤◌, ℕ}
+
+abbrev pub IsMore : Type 0
+IsMore = (n : ℕ) → n ≤ n + 1
+""",
+    "crates/small/proofs/total/Invariants.antt": """use Rattle.std.proofs.Common.{◌*◌, ◌≤◌}
+use Rattle.small.proofs.total.Given as goal
+
+abbrev pub invariant-loop-byte : goal.invariant-loop-byte
+invariant-loop-byte l = l.sum ≤ 255 * l.byte-index
+""",
+}
+# an edit, its text, what frontend.py says of it, and what edits.py says: nothing if it passes
+EDITS = [
+    ("next-by-three", "file: src/lib.rt\nold:     count + STEP\nnew:     count + 3\n", None, None),
+    ("second-by-three", "file: src/lib.rt\nold:     count + 2\nnew:     count + 3\n", None, None),
+    ("step-of-two", "of: next\nfile: src/lib.rt\nold: const STEP: usize = 1;\nnew: const STEP: usize = 2;\n", None, None),
+    ("nothing-is-more", "of: law\nfile: specs/Laws.antt\nold: n ≤ n + 1\nnew: n + 1 ≤ n\n", None, None),
+    ("text-gone", "file: src/lib.rt\nold:     count + 7\nnew:     count\n", "isn't in its file once", "isn't in its file once"),
+    ("step-of-nobody", "file: src/lib.rt\nold: const STEP: usize = 1;\nnew: const STEP: usize = 2;\n", None, "nobody tries it"),
+    ("next-the-same", "file: src/lib.rt\nold:     count + STEP\nnew:     STEP + count\n", None, "NOT REFUSED at a goal of next: proved"),
+    (
+        "sum-renamed",
+        "file: src/lib.rt\nold:     let mut sum: usize = 0;\nnew:     let mut all: usize = 0;\nold:         sum += *byte as usize;\n"
+        "new:         all += *byte as usize;\nold:     sum\nnew:     all\n",
+        None,
+        "only because a proof file names what the edit took away",
+    ),
+    ("total-of-a-word", 'file: src/lib.rt\nold:     let mut sum: usize = 0;\nnew:     let mut sum: usize = "";\n', "the front end refuses it", "not tried"),
+    ("clause-unread", "file: src/lib.rt\nold: 255 * length bytes.now\nnew: 255 * lengths bytes.now\n", None, "did not admit its contract"),
+    ("law-unread", "of: law\nfile: specs/Laws.antt\nold: n ≤ n + 1\nnew: (n ≤ n + 1\n", "doesn't parse", "did not admit its contract"),
+]
+
+
+def write_tree(tree):
+    files = FILES | {f"crates/small/edits/{name}.edit": text for name, text, _, _ in EDITS}
+    for path, text in files.items():
+        os.makedirs(os.path.dirname(f"{tree}/{path}"), exist_ok=True)
+        with open(f"{tree}/{path}", "w", encoding="utf-8") as file:
+            file.write(text)
+
+
+def judged(script, tree, wanted):
+    """Runs a script over all edits, and yields what it says otherwise than it should: of an edit, or all in all."""
+    ran = subprocess.run([f"{CHECKS}/{script}", "--tree", tree], capture_output=True, text=True)
+    for name, part in wanted.items():
+        said = [line for line in ran.stdout.splitlines() if line.startswith(f"{script}: small/{name}: ")]
+        is_so = len(said) == 1 and part in said[0] if part else not said
+        yield None if is_so else f"{script} of {name}: wants {part or 'that it passes'}, says {said}"
+    failed = sum(part is not None for part in wanted.values())
+    counts = f"{len(wanted) - failed} passed, {failed} failed"
+    is_so = ran.stdout.endswith(f"\n{counts}\n") and ran.returncode == 1
+    yield None if is_so else f"{script}: wants {counts} and status 1, says {ran.returncode}, {ran.stdout[-200:]}{ran.stderr}"
+
+
+def main():
+    with tempfile.TemporaryDirectory(prefix="capt-edits-test-") as tree:
+        write_tree(tree)
+        told = [*judged("frontend.py", tree, {it[0]: it[2] for it in EDITS}), *judged("edits.py", tree, {it[0]: it[3] for it in EDITS})]
+    wrong = [it for it in told if it]
+    print(*wrong, sep="\n", end="\n" * bool(wrong))
+    print(f"{len(told) - len(wrong)} passed, {len(wrong)} failed")
+    return bool(wrong)
+
+
+if __name__ == "__main__":
+    sys.exit(main())
