@@ -114,11 +114,11 @@ judged("docs/DEFINITIONS.md", page.stdout == text_of("docs/DEFINITIONS.md"), "is
 judged("docs/DEFINITIONS.md, comments", page.returncode == 0, page.stderr)
 ran_merge = re.search(r"^merge: (\d+) definitions, (\d+) lines", ran.stdout, re.M)
 readme = text_of("README.md")
-edits = [text_of(f"crates/{crate}/must-fail/{name}") for crate in os.listdir(f"{top}/crates")
-    for name in kept_in(f"{top}/crates/{crate}/must-fail")]
+folders = [f"crates/{crate}/{part}" for crate in os.listdir(f"{top}/crates") for part in ("must-fail", "edits")]
+edits = [text_of(f"{folder}/{name}") for folder in folders for name in kept_in(f"{top}/{folder}")]
 judged("README.md, edits", f"{len(edits)} edits in" in readme, f"there are {len(edits)}")
 turned = len([edit for edit in edits if re.search(r"^file: specs/", edit, re.M)])
-judged("README.md, definitions", f"definition ({turned} of them)" in " ".join(readme.split()), f"there are {turned}")
+judged("README.md, laws", f"statement of a law ({turned} of them)" in " ".join(readme.split()), f"there are {turned}")
 for number in ran_merge.groups():
     judged("README.md, merge", f" {number} " in readme, f"wants {number}")
 
