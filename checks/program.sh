@@ -259,8 +259,32 @@ mkfifo pipe; run merge --whole -o pipe one; check 'whole, a pipe' 1 '' 'fault: c
 run merge --whole --explain -o ./one one; check 'whole, one of the files' 1 '' 'fault: create output
   ./one: it is one of the files that are read'; same 'whole, one of the files' one "$work/kept"
 run merge --whole --explain -o no/new one; check 'whole, in no folder' 1 '' 'fault: create output
-  no/new: No such file or directory (os error 2)'
-left 'whole, after all' 'cut one out'; cd "$work" || exit 1
+  no/new.capt-1: No such file or directory (os error 2)'
+left 'whole, after all' 'cut one out'
+for n in {1..120}; do : > "new.capt-$n"; done; run merge --whole -o new one; check 'whole, beside 120 others' 0 '' ''
+same 'whole, beside 120 others' new "$work/want.pcapng"; rm new new.capt-*
+mkdir deep; ln -s far deep/near; ln -s deep/near loose; run merge --whole -o loose one; check 'whole, by a dangling link' 0 '' ''
+same 'whole, by a dangling link' deep/far "$work/want.pcapng"; if [ -L loose ] && [ -L deep/near ]; then passed=$((passed + 1)); else failed=$((failed + 1)); echo 'whole, by a dangling link: a link went'; fi
+rm -r deep loose; ln -s round round; run merge --whole -o round one; check 'whole, by a link to itself' 1 '' 'fault: create output'; rm round
+left 'whole, after links' 'cut one out'; cd "$work" || exit 1
+# standard output that goes to a file that is read: nothing is written, however it was opened
+into() { local name=$1; shift; "$program" "$@" 2> "$work/err"; status=$?; : > "$work/out"; check "$name" 1 '' "fault: create output"; same "$name" "$work/a" "$work/kept"; }
+cp "$one" "$work/a"; cp "$one" "$work/kept"; ln -s a "$work/b"
+into 'merge onto its file' merge -o - "$one" "$work/a" >> "$work/a"
+into 'convert over its file' convert --to pcap -o - "$work/a" 1<> "$work/a"
+into 'join onto its file, by a link' join -o - "$work/b" >> "$work/a"
+for task in list info report digest check "diff $one"; do
+    # shellcheck disable=SC2086  # a task may have a word after it
+    into "$task onto its file" $task "$work/a" >> "$work/a"
+done
+into 'list of standard input onto it' list - < "$work/a" >> "$work/a"
+"$program" list --explain "$work/a" 2> "$work/err" >> "$work/a"; status=$?; : > "$work/out"; check 'list onto its file, explained' 1 '' 'fault: create output
+  standard output: it is one of the files that are read'
+"$program" list --json "$work/a" 2> "$work/err" >> "$work/a"; status=$?; check 'list onto its file, as an object' 1 '' '{"type":"fault","fault":"create"}'
+same 'list onto its file' "$work/a" "$work/kept"; rm "$work/b"
+{ cat "$work/want.pcapng"; for n in {1..20000}; do tail -c 36 "$work/want.pcapng"; done; } > "$work/a"; cp "$work/a" "$work/kept"
+into 'merge of a large file onto it' merge -o - "$work/a" >> "$work/a"
+cp "$one" "$work/kept"; "$program" list "$one" >> "$work/a" 2> "$work/err"; status=$?; check 'list onto another file' 0 '' ''
 # a closed standard stream is none of the files that are opened
 "$program" merge -o x "$one" - <&- > "$work/out" 2> "$work/err"; status=$?; check 'closed standard input' 1 '' 'fault: open file 2'; absent 'closed standard input' x
 "$program" list "$one" 2> "$work/err" >&-; status=$?; : > "$work/out"; check 'closed standard output' 1 '' 'fault: write'

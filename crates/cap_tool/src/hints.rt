@@ -4,7 +4,7 @@ ghost use Rattle.cap_tool.specs.Hints.{IsHintLine, is_of_file, is_of_files, is_o
 
 use crate::kinds::{Kind, kind_at};
 use crate::outcomes::{Outcome, Stop};
-use crate::regular::{id_of, is_input, regular_at, regular_file};
+use crate::regular::{id_of, is_any_input, regular_file, standard_id};
 use crate::whole::open_beside;
 use cap_bytes::{Fault, Rule};
 use cap_line::{Job, LineFault, Task, escape};
@@ -86,16 +86,9 @@ fn line(alloc: Global, name: &str, why: &impl Display) -> Option<String>
     told(alloc, text.as_str())
 }
 
-// Whether a file that is open is one of those that a job reads, of which `-` is standard input.
+// Whether a file that is open is one of those that a job reads.
 fn is_read<R: Files<File = File>>(files: &R, file: &File, job: &Job<'_>) -> bool {
-    let id = id_of(regular_file(file));
-    for name in job.files.iter() {
-        let path = if *name == "-" { "/dev/stdin" } else { name };
-        if is_input(id, &[id_of(regular_at(files, path))]) {
-            return true;
-        }
-    }
-    false
+    is_any_input(files, id_of(regular_file(file)), job.files.as_slice())
 }
 
 // What is wrong with a file that breaks a rule.
@@ -189,7 +182,13 @@ fn beside_line<R: Files<File = File>>(files: &R, alloc: Global, name: &str) -> O
             beside.remove(files);
             None
         }
-        Err(error) => line(alloc, name, &error),
+        Err(failed) => {
+            let name = match &failed.name {
+                Some(beside) => beside.as_str(),
+                None => name,
+            };
+            line(alloc, name, &failed.error)
+        }
     }
 }
 
@@ -201,15 +200,27 @@ fn reads_output<R: Files<File = File>>(files: &R, name: &str, job: &Job<'_>) -> 
     }
 }
 
+// Why a job can't write to standard output: it is one of the files that are read, or a terminal.
+fn standard_line<R: Files<File = File>>(files: &R, alloc: Global, job: &Job<'_>) -> Option<String>
+    ensures { IfSome result (λ line. IsHintLine (string_bytes line)) }
+{
+    let why = if is_any_input(files, standard_id(files), job.files.as_slice()) {
+        "it is one of the files that are read"
+    } else {
+        "a terminal can't show a capture"
+    };
+    line(alloc, "standard output", &why)
+}
+
 // Why the output of a job can't be created: it is a terminal, the system says so, or it is one of the files that are
 // read.
 fn create_line<R: Files<File = File>>(files: &R, alloc: Global, job: &Job<'_>) -> Option<String>
     ensures { IfSome result (λ line. IsHintLine (string_bytes line)) }
 {
-    let name = job.out?;
-    if name == "-" {
-        return line(alloc, "standard output", &"a terminal can't show a capture");
-    }
+    let name = match job.out {
+        Some(name) if name != "-" => name,
+        _ => return standard_line(files, alloc, job),
+    };
     if job.whole && !reads_output(files, name, job) {
         return beside_line(files, alloc, name);
     }

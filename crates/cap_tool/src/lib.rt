@@ -48,7 +48,7 @@ pub use crate::regular::{FileId, Regular};
 pub use crate::remembered::Remembered;
 pub use crate::shared::{Shared, SharedOutput};
 pub use crate::streams::{
-    Input, Inputs, Output, check_terminal, create_output, open_all, watch_all,
+    Input, Inputs, Output, check_output, check_terminal, create_output, open_all, watch_all,
 };
 pub use crate::time_watched::TimeWatched;
 pub use crate::watched::Watched;

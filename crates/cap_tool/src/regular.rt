@@ -57,6 +57,22 @@ pub fn id_of(regular: Option<Regular>) -> Option<FileId>
     Some(regular?.id)
 }
 
+/// Which regular file standard output goes to, if it goes to one and that can be found out.
+pub fn standard_id<R: Files<File = File>>(files: &R) -> Option<FileId> {
+    id_of(regular_at(files, "/dev/stdout"))
+}
+
+/// Whether a regular file is one of those of these names, of which `-` is standard input.
+pub fn is_any_input<R: Files<File = File>>(files: &R, id: Option<FileId>, names: &[&str]) -> bool {
+    for name in names.iter() {
+        let path = if *name == "-" { "/dev/stdin" } else { name };
+        if is_input(id, &[id_of(regular_at(files, path))]) {
+            return true;
+        }
+    }
+    false
+}
+
 /// Whether a file that is to be written is one of those that are read. What is no regular file is none.
 pub fn is_input(output: Option<FileId>, inputs: &[Option<FileId>]) -> bool
     ensures { IsTrue result ↔ IsSomeAnd output (λ id. Contains inputs.now (Some id)) }

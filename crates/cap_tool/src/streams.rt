@@ -1,13 +1,16 @@
 //! The files and the standard streams of a run.
 ghost use Rattle.std.specs.Prelude.{◌≡◌, ◌≢◌, ◌≤◌, ◌+◌, ◌++◌, ◌∷◌, [], codes, length, map, vec_len, IfOk, IfErr, IsErr};
-ghost use Rattle.std.specs.Prelude.{IsFalse, IsTrue, option_map, Some, None};
+ghost use Rattle.std.specs.Prelude.{Contains, Err, IsFalse, IsSomeAnd, IsTrue, option_map, Some, None};
 ghost use Rattle.cap_tool.specs.Watched.{watched_inner};
 ghost use Rattle.cap_tool.specs.Streams.{IsOutFile, IsStandardOut, StopsOpening, StopsCreating, is_dash, is_standard};
 ghost use Rattle.cap_tool.specs.Streams.{standards_of};
 
 use crate::outcomes::Outcome;
 use crate::progress::Progress;
-use crate::regular::{FileId, Regular, id_of, is_input, regular_at, regular_file, regular_of};
+use crate::regular::{
+    FileId, Regular, id_of, is_any_input, is_input, regular_at, regular_file, regular_of,
+    standard_id,
+};
 use crate::watched::Watched;
 use cap_bytes::{Fault, Tracked};
 use std::alloc::{AllocError, Global};
@@ -146,22 +149,57 @@ impl Write for Output {
     }
 }
 
+// Standard output, which may go to a regular file. Returns `Outcome::Create` if that is one of the inputs: what is
+// written there would be read again, or would replace what is still to be read.
+fn standard_output(
+    standard: Stdout,
+    goes_to: Option<FileId>,
+    inputs: &[Option<FileId>],
+) -> Result<Output, Outcome>
+    ensures input { IsSomeAnd goes_to (λ i. Contains inputs.now (Some i)) → result ≡ Err Outcome.Create }
+    ensures other { (IsSomeAnd goes_to (λ i. Contains inputs.now (Some i)) → ⊥)
+        → result ≡ Ok (Output.Standard standard) }
+{
+    if is_input(goes_to, inputs) {
+        Err(Outcome::Create)
+    } else {
+        Ok(Output::Standard(standard))
+    }
+}
+
 /// Creates the output of a run, which is standard output if none is named. Returns
 /// `Outcome::Create`, and no other outcome, if it can't be created, and if it is one of the inputs,
-/// under whatever name: then it isn't changed.
+/// under whatever name: then it isn't changed. Standard output may be one of the inputs as well, as in
+/// `capt list a >> a`.
 pub fn create_output<R: Files<File = File>>(
     files: &R,
     standard: Stdout,
     name: Option<&str>,
     inputs: &[Option<FileId>],
 ) -> Result<Output, Outcome>
-    ensures standard { option_map (λ n. n.now) name.entry ≡ None → result ≡ Ok (Output.Standard standard) }
-    ensures dash { option_map (λ n. n.now) name.entry ≡ Some (codes "-") → result ≡ Ok (Output.Standard standard) }
+    ensures standard { option_map (λ n. n.now) name.entry ≡ None → IfOk result (λ o. o ≡ Output.Standard standard) }
+    ensures dash { option_map (λ n. n.now) name.entry ≡ Some (codes "-")
+        → IfOk result (λ o. o ≡ Output.Standard standard) }
     ensures stops { IfErr result StopsCreating }
 {
     match name {
-        Some(name) => { Output::create(files, standard, name, inputs).map_err(|_| Outcome::Create) }
-        None => Ok(Output::Standard(standard)),
+        Some(name) if name != "-" => {
+            Output::create(files, standard, name, inputs).map_err(|_| Outcome::Create)
+        }
+        _ => standard_output(standard, standard_id(files), inputs),
+    }
+}
+
+/// Refuses to print lines into one of the files of these names, of which `-` is standard input: returns
+/// `Outcome::Create`, and no other outcome, if standard output goes to one of them.
+pub fn check_output<R: Files<File = File>>(files: &R, names: &[&str]) -> Result<(), Outcome>
+    ensures stops { IfErr result StopsCreating }
+{
+    let id = standard_id(files);
+    if id.is_some() && is_any_input(files, id, names) {
+        Err(Outcome::Create)
+    } else {
+        Ok(())
     }
 }
 

@@ -13,8 +13,8 @@ use std::io::ErrorKind;
 use std::rt::Files;
 use std::{fs, io};
 
-// How many names are tried for a file that is written beside the output.
-const NAMES: u32 = 100;
+// How many symbolic links are followed from the name of an output, as the system does.
+const LINKS: u32 = 40;
 
 /// A file that is written beside the one whose name it takes once all is done.
 #[derive(Drop)]
@@ -24,12 +24,54 @@ pub struct Beside {
     target: String,
 }
 
-// The name of a file behind its symbolic links, or the given one if there is no such file.
-fn real_name<R: Files<File = File>>(files: &R, alloc: Global, name: &str) -> io::Result<String> {
-    match files.canonicalize(alloc, name) {
-        Ok(path) => Ok(path.into_string()),
-        Err(_) => Ok(String::from_str(alloc, name)?),
+/// Why a file could not be created beside the output.
+#[derive(Drop)]
+pub(crate) struct NotCreated {
+    // its name, if that is where it failed, and not at the output's own name
+    pub(crate) name: Option<String>,
+    pub(crate) error: io::Error,
+}
+
+impl From<io::Error> for NotCreated {
+    fn from(error: io::Error) -> NotCreated {
+        NotCreated { name: None, error }
     }
+}
+
+// The name that a symbolic link leads to, if the name is one's: as it is written there, or in the link's folder if it
+// begins with no `/`.
+fn followed<R: Files<File = File>>(
+    files: &R,
+    alloc: Global,
+    name: &str,
+) -> io::Result<Option<String>> {
+    let Ok(path) = files.read_link(alloc, name) else {
+        return Ok(None);
+    };
+    let target = path.into_string();
+    let behind = match name.rfind('/') {
+        Some(slash) if !target.as_str().starts_with("/") => slash + 1,
+        _ => 0,
+    };
+    let mut whole = String::from_str(alloc, name)?;
+    whole.truncate(behind);
+    whole.push_str(target.as_str())?;
+    Ok(Some(whole))
+}
+
+// The name of a file behind its symbolic links, also if there is no such file yet.
+fn real_name<R: Files<File = File>>(files: &R, alloc: Global, name: &str) -> io::Result<String> {
+    if let Ok(path) = files.canonicalize(alloc, name) {
+        return Ok(path.into_string());
+    }
+    let mut name = String::from_str(alloc, name)?;
+    for _ in 0..LINKS {
+        match followed(files, alloc, name.as_str())? {
+            Some(next) => name = next,
+            None => return Ok(name),
+        }
+    }
+    Err(io::Error::from(ErrorKind::InvalidInput))
 }
 
 // The permissions of the file that is to be replaced, if there is one: a regular file that may be written, and none of
@@ -52,14 +94,17 @@ fn replaceable<R: Files<File = File>>(
     Ok(Some(metadata.permissions()))
 }
 
-// Creates a file that wasn't there, of the name of the target with a number after it.
+// Creates a file that wasn't there, of the name of the target with the least number after it that is free.
 fn create_new<R: Files<File = File>>(
     files: &R,
     alloc: Global,
     target: &str,
-) -> io::Result<(File, String)> {
-    for number in 1..=NAMES {
-        let name = format!(in alloc; "{target}.capt-{number}")?;
+) -> Result<(File, String), NotCreated> {
+    for number in 1..u32::MAX {
+        let name = match format!(in alloc; "{target}.capt-{number}") {
+            Ok(name) => name,
+            Err(error) => return Err(NotCreated::from(io::Error::from(error))),
+        };
         let opened = OpenOptions::new()
             .write(true)
             .create_new(true)
@@ -67,10 +112,13 @@ fn create_new<R: Files<File = File>>(
         match opened {
             Ok(file) => return Ok((file, name)),
             Err(error) if error.kind() == ErrorKind::AlreadyExists => {}
-            Err(error) => return Err(error),
+            Err(error) => return Err(NotCreated {
+                name: Some(name),
+                error,
+            }),
         }
     }
-    Err(io::Error::from(ErrorKind::AlreadyExists))
+    Err(NotCreated::from(io::Error::from(ErrorKind::AlreadyExists)))
 }
 
 // Creates a file beside the one of that name.
@@ -79,7 +127,7 @@ pub(crate) fn open_beside<R: Files<File = File>>(
     alloc: Global,
     name: &str,
     inputs: &[Option<FileId>],
-) -> io::Result<(File, Beside)> {
+) -> Result<(File, Beside), NotCreated> {
     let permissions = replaceable(files, name, inputs)?;
     let target = real_name(files, alloc, name)?;
     let (file, name) = create_new(files, alloc, target.as_str())?;
