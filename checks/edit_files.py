@@ -161,10 +161,10 @@ def edit_of(crate, folder, name):
     return edit
 
 
-def edits_of(crate):
+def edits_of(crate, folders=FOLDERS):
     """The edits of a crate, by name."""
     found = []
-    for folder in FOLDERS:
+    for folder in folders:
         at = f"{crate.folder}/{folder}"
         names = os.listdir(at) if os.path.isdir(at) else []
         found += [edit_of(crate, folder, name) for name in sorted(names) if name.endswith(".edit")]

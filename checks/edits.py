@@ -13,6 +13,7 @@ of a law. It is tried by itself, by a check of that function.
 
 Use: checks/edits.py [CRATE | CRATE/EDIT]..     over the libraries that `rt ci` or `rt check` left in crates/*/out; of an
                                                 edit that is named, it prints the goals at which it is refused
+     checks/edits.py --beside-must-fail         those of crates/*/edits alone, since `rt ci` tries those of must-fail
      checks/edits.py --rlibs FOLDER ..          over libraries elsewhere
      RT_JOBS=N                                  checks side by side, of up to 2 GB each
 """
@@ -25,7 +26,7 @@ from concurrent.futures import ThreadPoolExecutor
 from dataclasses import dataclass, field
 
 import edit_files
-from edit_files import PARTS, crates_of, edits_of, kit, label_of
+from edit_files import FOLDERS, PARTS, crates_of, edits_of, kit, label_of
 
 # The crates whose checks take longer than their code is long: they begin first.
 LONG = ["cap_line", "cap_tool", "cap_talks", "cap_write"]
@@ -201,9 +202,12 @@ def main(words):
     while words and words[0] in ("--tree", "--rlibs"):
         tree, folder = (words[1], folder) if words[0] == "--tree" else (tree, words[1])
         words = words[2:]
+    folders = FOLDERS
+    if words[:1] == ["--beside-must-fail"]:
+        folders, words = ("edits",), words[1:]
     crates = crates_of(os.path.abspath(tree))
     wanted = {label_of(word) for word in words}
-    edits = [edit for crate in sorted(crates.values(), key=turn) for edit in edits_of(crate)]
+    edits = [edit for crate in sorted(crates.values(), key=turn) for edit in edits_of(crate, folders)]
     edits = [edit for edit in edits if not wanted or wanted & {edit.crate.name, edit.label}]
     wrong = [f"{it}: there is no such edit" for it in sorted(wanted - {it for edit in edits for it in (edit.crate.name, edit.label)})]
     wrong += [f"{edit.label}: {edit.wrong}" for edit in edits if edit.wrong]

@@ -7,7 +7,7 @@
 # Use: checks/gate.sh     (the scripts want a C compiler, binutils and Python 3)
 set -u
 cd "$(dirname "$0")/.."
-scripts=(program.sh edits.py edits_test.py clib.py devices.sh hints.py stack.sh papers.sh columns.py rounds.sh rows.py objects.py invariance.py
+scripts=(program.sh 'edits.py --beside-must-fail' edits_test.py clib.py devices.sh hints.py stack.sh papers.sh columns.py rounds.sh rows.py objects.py invariance.py
     corpus.py hostile.py limits.py 'faults.py growths' 'faults.py devices')
 passed=0
 failed=0
@@ -49,6 +49,8 @@ anew=()
 if rt --help | grep -q -- '--anew'; then anew=(--anew); fi
 rt ci "${anew[@]}" 2>&1 | tee "$logs/rt ci"
 counted 'rt ci' "${PIPESTATUS[0]}"
+# an edit that is only refused for a name that a proof file lost shows nothing
+if grep 'only because a proof file names what the edit took away' "$logs/rt ci"; then failed=$((failed + 1)); fi
 ended 'rt ci'
 
 # program.sh times what it sees, so the others take only what it leaves of the processors
