@@ -234,6 +234,8 @@ explained 'OUT on a full disk, explained' 'fault: write
   /dev/full: No space left on device (os error 28)' merge --explain -o /dev/full one.pcap
 "$program" list --explain "$one" > /dev/full 2> "$work/err"; status=$?; : > "$work/out"; check 'a full disk, explained' 1 '' 'fault: write
   standard output: No space left on device (os error 28)'
+run list --json $'\xc2\x9b\xe2\x80\xae\x7f'; check 'a name with C1 and bidi controls, as an object' 1 '' '{"type":"fault","fault":"open","file":1,"path":"\u009b\u202e\u007f"}'
+run list --json $'\e]0;\xc3\xa4\a"\\'; check 'a name that sets a title, as an object' 1 '' $'{"type":"fault","fault":"open","file":1,"path":"\\u001b]0;\xc3\xa4\\u0007\\"\\\\"}'
 run $'\e]0;x\a'; check 'a wrong word that sets a title' 2 '' $'error: unrecognized subcommand \'\\u{1b}]0;x\\u{7}\'
 
 Usage: capt <COMMAND>

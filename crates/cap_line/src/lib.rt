@@ -14,7 +14,7 @@ pub use crate::faults::LineFault;
 pub use crate::jobs::{
     Job, Task, can_replace, can_show, check_files, data_of, format_of, is_whole, order_of, task_of,
 };
-pub use crate::shown::{escape, escape_lines};
+pub use crate::shown::{escape, escape_lines, is_hidden};
 pub use crate::texts::VERSION;
 pub use crate::usage::{NOT_UTF_8, USAGE};
 pub use crate::words::{message, parse};

@@ -12,9 +12,9 @@ fn is_between(low: u32, high: u32, code: u32) -> bool
     low <= code && code <= high
 }
 
-// Whether a character does something to a terminal in place of being shown: it controls it, separates lines, or turns
-// the direction of what follows.
-fn is_hidden(c: char) -> bool
+/// Whether a character does something to a terminal in place of being shown: it controls it, separates lines, or turns
+/// the direction of what follows.
+pub fn is_hidden(c: char) -> bool
     ensures { result ≡ is_hidden c }
 {
     let code = c as u32;

@@ -1,10 +1,13 @@
 -- The line of a refusal or a fault as a JSON object (RFC 8259), with the word that named its file.
-use Rattle.std.specs.Prelude.{ℕ, suc, zero, List, [], ◌++◌, codes, decimal, Option, Some, None, slice_get}
+use Rattle.std.specs.Prelude.{ℕ, ◌/◌, ◌%◌, suc, zero, List, [], ◌∷◌, ◌++◌, chars, codes, decimal, encode_utf8, flat_map}
+use Rattle.std.specs.Prelude.{if◌then◌else◌, Option, Some, None, slice_get}
+use Rattle.hex.specs.Hex.{encode_lower}
 use Rattle.cap_bytes.specs.Rules.{rule_number, rule_name}
 use Rattle.cap_bytes.specs.declared.faults.Fault.{Fault}
 use Rattle.cap_bytes.specs.declared.faults.Fault.TheVariants.{Refused, Read, Write, Memory}
 use Rattle.cap_bytes.specs.declared.faults.Refusal.{Refusal}
-use Rattle.cap_print.specs.Strings.{string_json}
+use Rattle.cap_line.specs.Shown.{is_hidden}
+use Rattle.cap_print.specs.Strings.{escaped_byte}
 use Rattle.cap_print.specs.declared.forms.Form.{Form}
 use Rattle.cap_print.specs.declared.forms.Form.TheVariants.{Text, Json}
 use Rattle.cap_tool.specs.Outcomes.{line_fault_text, told_line, told_text}
@@ -16,10 +19,16 @@ abbrev pub path_of : List (List ℕ) → ℕ → Option (List ℕ)
 path_of paths zero = None
 path_of paths (suc place) = slice_get paths place
 
+-- A character of a word in a string (RFC 8259, 7): one that a terminal doesn't show as `\u` and the four hexadecimal
+-- digits of its code, which is below 2^16, and any other by its bytes, of which `"` and `\` stand behind a `\`.
+abbrev pub escaped_character : ℕ → List ℕ
+escaped_character c =
+    if is_hidden c then codes "\\u" ++ encode_lower (c / 256 ∷ c % 256 ∷ []) else flat_map escaped_byte (encode_utf8 c)
+
 -- the field of that word, if there is one
 abbrev pub path_json : Option (List ℕ) → List ℕ
 path_json None = []
-path_json (Some path) = codes ",\"path\":" ++ string_json path
+path_json (Some path) = codes ",\"path\":\"" ++ flat_map escaped_character (chars path) ++ codes "\""
 
 -- An object of some fields and of the word that named its file, on a line of its own.
 abbrev pub object_json : List ℕ → Option (List ℕ) → List ℕ

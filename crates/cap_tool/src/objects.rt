@@ -1,21 +1,17 @@
 //! A refusal or a fault as a JSON object (RFC 8259), with the word that named its file.
-ghost use Rattle.std.specs.Prelude.{◌≡◌, ◌≤◌, ◌++◌, codes, flat_map, is_err, length, map, option_map};
+ghost use Rattle.std.specs.Prelude.{◌≡◌, ◌++◌, chars, codes, flat_map, is_err, map, option_map};
 ghost use Rattle.std.specs.Prelude.{IsTrue, IsFalse, IsOkUnless};
 ghost use Rattle.cap_bytes.specs.Device.{Puts, WriterKeeps, writer_of};
 ghost use Rattle.cap_bytes.specs.Printing.{PrintsFront};
 ghost use Rattle.cap_print.specs.Lines.{text_in};
-ghost use Rattle.cap_print.specs.Strings.{escaped_byte};
-ghost use Rattle.cap_tool.specs.Objects.{open_fields, outcome_json, path_json, path_of, read_fields, refused_fields};
-ghost use Rattle.cap_tool.specs.Objects.{told_in, told_json};
+ghost use Rattle.cap_tool.specs.Objects.{escaped_character, open_fields, outcome_json, path_json, path_of};
+ghost use Rattle.cap_tool.specs.Objects.{read_fields, refused_fields, told_in, told_json};
 ghost use Rattle.cap_tool.specs.Outcomes.{HelpEnds, is_help};
 
 use crate::outcomes::{Outcome, outcome_line, tell};
 use cap_bytes::{Fault, Refusal, Sink, put_all};
-use cap_line::LineFault;
+use cap_line::{LineFault, is_hidden};
 use cap_print::{Form, Line, prepend_escaped};
-
-// How many bytes of a word are written at once: a line has room for each as six.
-const PIECE: usize = 64;
 
 // `{"type":"refused","file":2,"offset":24,"rule":6,"name":"block-trailer"`
 fn refused_fields(refusal: &Refusal) -> Line
@@ -64,39 +60,39 @@ fn path_of<'a>(paths: &[&'a str], file: u32) -> Option<&'a str>
     paths.get(place as usize).copied()
 }
 
-// Writes some bytes of a word as they stand in a string.
-fn put_piece<W: Sink>(text: &[u8], writer: &mut W) -> Result<(), Fault>
-    requires { length text.now ≤ 64 }
-    ensures text { IsTrue (W.tells_held writer.old)
-        → Puts (W.held writer.old) result (W.held writer.new) (flat_map escaped_byte text.now) }
-    ensures writer { WriterKeeps (writer_of W.Sink writer.old) (is_err result) (writer_of W.Sink writer.new) }
-    ensures fault { IsOkUnless result Fault.Write }
+// A character of a word as it stands in a string.
+fn escaped(c: char) -> Line
+    ensures { text_in result ≡ escaped_character c }
 {
     let mut line = Line::new();
-    prepend_escaped(&mut line, text);
-    put_all(writer, line.as_slice())
+    if is_hidden(c) {
+        let code = c as u32;
+        line.prepend_hex(b"\\u", &[(code / 256) as u8, (code % 256) as u8]);
+    } else {
+        let mut room = [0; 4];
+        prepend_escaped(&mut line, c.encode_utf8(&mut room).as_bytes());
+    }
+    line
 }
 
 // Writes a word as it stands in a string.
-fn put_escaped<W: Sink>(text: &[u8], writer: &mut W) -> Result<(), Fault>
+fn put_escaped<W: Sink>(text: &str, writer: &mut W) -> Result<(), Fault>
     ensures text { IsTrue (W.tells_held writer.old)
-        → Puts (W.held writer.old) result (W.held writer.new) (flat_map escaped_byte text.now) }
+        → Puts (W.held writer.old) result (W.held writer.new) (flat_map escaped_character (chars text.now)) }
     ensures writer { WriterKeeps (writer_of W.Sink writer.old) (is_err result) (writer_of W.Sink writer.new) }
     ensures fault { IsOkUnless result Fault.Write }
 {
-    let mut rest = text;
-    while rest.len() > PIECE {
-        let (piece, behind) = rest.split_at(PIECE);
-        put_piece(piece, writer)?;
-        rest = behind;
+    let mut rest = text.chars();
+    while let Some(c) = rest.next() {
+        put_all(writer, escaped(c).as_slice())?;
     }
-    put_piece(rest, writer)
+    Ok(())
 }
 
 // Writes a word as it stands in a string, with the end of the string and of its object.
-fn put_string_end<W: Sink>(text: &[u8], writer: &mut W) -> Result<(), Fault>
+fn put_string_end<W: Sink>(text: &str, writer: &mut W) -> Result<(), Fault>
     ensures text { IsTrue (W.tells_held writer.old) → Puts (W.held writer.old) result (W.held writer.new)
-        (flat_map escaped_byte text.now ++ codes "\"}\n") }
+        (flat_map escaped_character (chars text.now) ++ codes "\"}\n") }
     ensures writer { WriterKeeps (writer_of W.Sink writer.old) (is_err result) (writer_of W.Sink writer.new) }
     ensures fault { IsOkUnless result Fault.Write }
 {
@@ -105,9 +101,9 @@ fn put_string_end<W: Sink>(text: &[u8], writer: &mut W) -> Result<(), Fault>
 }
 
 // Writes the field of a word that named a file, and the end of its object.
-fn put_path<W: Sink>(text: &[u8], writer: &mut W) -> Result<(), Fault>
+fn put_path<W: Sink>(text: &str, writer: &mut W) -> Result<(), Fault>
     ensures text { IsTrue (W.tells_held writer.old) → Puts (W.held writer.old) result (W.held writer.new)
-        (codes ",\"path\":\"" ++ (flat_map escaped_byte text.now ++ codes "\"}\n")) }
+        (codes ",\"path\":\"" ++ (flat_map escaped_character (chars text.now) ++ codes "\"}\n")) }
     ensures writer { WriterKeeps (writer_of W.Sink writer.old) (is_err result) (writer_of W.Sink writer.new) }
     ensures fault { IsOkUnless result Fault.Write }
 {
@@ -123,7 +119,7 @@ fn put_end<W: Sink>(path: Option<&str>, writer: &mut W) -> Result<(), Fault>
     ensures fault { IsOkUnless result Fault.Write }
 {
     match path {
-        Some(path) => put_path(path.as_bytes(), writer),
+        Some(path) => put_path(path, writer),
         None => put_all(writer, b"}\n"),
     }
 }

@@ -1,10 +1,10 @@
-use Rattle.std.proofs.Common.{length}
+use Rattle.std.specs.Str.Iter.{chars_rest}
 use Rattle.cap_tool.proofs.Escaping.{Escaping}
 use Rattle.cap_tool.proofs.objects.put_escaped.Given as goal
 
 -- what was written so far is the front of the word's string
-abbrev pub invariant-loop-rest : goal.invariant-loop-rest
-invariant-loop-rest g l =
+abbrev pub invariant-loop-c : goal.invariant-loop-c
+invariant-loop-c g l =
     let old = l.fn.writer in
     let new = l.writer in
     Escaping (record {
@@ -19,7 +19,4 @@ invariant-loop-rest g l =
       failed = g.W.Device.has_failed new;
       can_fail = g.W.Device.can_fail new;
     })
-    l.fn.text l.rest
-
-abbrev pub decreases-loop-rest : goal.decreases-loop-rest
-decreases-loop-rest g l = length l.rest
+    l.fn.text (chars_rest l.rest)
