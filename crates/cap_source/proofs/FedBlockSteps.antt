@@ -69,14 +69,14 @@ no-packet file progress block body contents.Other rest h = refl
 module _ (old : CourseState) (section : Option Order) (b : List ℕ) (at : old.stage ≡ Blocks section) where
   -- a block that breaks a rule
   pub block-breaks : (rule : Rule) (result : Result FedStep Fault) (new : CourseState)
-      → block_fault section old.offset b ≡ Some rule → BreaksOff old (is_some section) b rule result new
-      → StepsFed old b result new
-  block-breaks rule result new is h =
+      → block_fault section old.offset b ≡ Some rule → (rule ≡ Cut → length b < 2 ^ 19)
+      → BreaksOff old (is_some section) b rule result new → StepsFed old b result new
+  block-breaks rule result new is few h =
       broken old (is_some section) (block_fault section old.offset) b rule
       (λ w stop e. ap (λ (s : Stage). items_at_stage s old w) at
       ∙ blocks-stop old.file old.progress section old.tail old.offset w stop e)
       is (λ other later. block-refused section old.offset b later rule is other)
-      (λ other. block-some old.file old.progress section old.tail old.offset b rule is other) result new h
+      (λ other. block-some old.file old.progress section old.tail old.offset b rule is other) few result new h
 
   module _ (block : Block) (p : ParsesBlockHeader section old.offset b (Ok block)) where
     offset-same : block.offset ≡ old.offset
@@ -238,7 +238,8 @@ module _ (old : CourseState) (block : Block) (left : ℕ) (b : List ℕ) (at : o
         (here-or stop b
         (skip-short old.file old.tail old.progress block left b (grind (arith, nat_tests))
         ∙ ap (λ (n : ℕ). items_of_stop (stop_by true old.tail old.file n Cut)) placed))
-        (λ other later. absurd (other refl)) (λ cut. stop_by-short true old.tail old.file old.offset) result new h
+        (λ other later. absurd (other refl)) (λ cut. stop_by-short true old.tail old.file old.offset)
+        (λ cut. omega (arith, few)) result new h
 
     pub skip-trailer : (result : Result FedStep Fault) (new : CourseState) → 4 ≤ length b
         → (number block.order 4 b ≡ block.total → ⊥)
@@ -253,7 +254,7 @@ module _ (old : CourseState) (block : Block) (left : ℕ) (b : List ℕ) (at : o
         ∙ (skip-other old.file old.tail old.progress block b later four differs
         ∙ ap (λ (n : ℕ). items_of_stop (stop_by true old.tail old.file n BlockTrailer)) placed)) in
         broken-by old b BlockTrailer stop (ap (items_after old) (sym (append-nil b)) ∙ at_later [])
-        (λ other later. at_later later) (λ cut. cc) result new h
+        (λ other later. at_later later) (λ cut. cc) (λ cut. cc) result new h
 
     pub skip-passes : (new : CourseState) → 4 ≤ length b → number block.order 4 b ≡ block.total
         → new ≡ record old {
@@ -317,6 +318,7 @@ begun old mid b (Ok steps.Short) new same ended h = (
   subst AreShort (ap (items_after mid) (sym (append-nil b)) ∙ (sym (same [])
       ∙ ap (items_after old) (append-nil b))) h.1,
   λ later. same later ∙ h.2 later,
+  h.3,
 )
 begun old mid b (Ok steps.Ends) new same ended h =
     (λ later may. same later ∙ h.0 later (subst (λ (e : Bool). IsTrue e → later ≡ []) (sym ended) may), h.1)

@@ -13,6 +13,7 @@ use Rattle.cap_pcap.specs.declared.headers.PcapHeader.{PcapHeader}
 use Rattle.cap_pcap.specs.declared.records.Record.{Record}
 use Rattle.cap_source.proofs.FedRecords.{header-fed, header-stop, record-fed, record-some, records-stop, rule-here}
 use Rattle.cap_source.proofs.FedRecords.{header-some, pcap_rule, rule-later}
+use Rattle.cap_source.proofs.FedShort.{header-few, record-few}
 use Rattle.cap_source.proofs.FedStops.{broken}
 use Rattle.cap_source.specs.Fed.{CourseState, items_at_stage}
 use Rattle.cap_source.specs.Feed.{packet}
@@ -69,7 +70,8 @@ module _ (old : CourseState) (header : PcapHeader) (b : List ℕ) (at : old.stag
       (λ w stop e. ap (λ (s : Stage). items_at_stage s old w) at
       ∙ records-stop old.file header old.tail old.offset w stop e)
       is (λ other later. record_fault-append header.order old.offset b later rule is other)
-      (λ other. record-some old.file header old.tail old.offset b rule is other) result new h
+      (λ other. record-some old.file header old.tail old.offset b rule is other)
+      (λ cut. record-few header.order old.offset b (is ∙ ap Some cut)) result new h
 
 -- the header of a file that isn't a pcapng file
 module _ (old : CourseState) (b : List ℕ) (at : old.stage ≡ Start) (pcap : is_pcapng b ≡ false) where
@@ -104,4 +106,5 @@ module _ (old : CourseState) (b : List ℕ) (at : old.stage ≡ Start) (pcap : i
       ∙ header-stop old.tail old.file old.progress old.offset w stop e)
       (rule-here old.tail old.file old.progress old.offset b rule pcap is)
       (λ other later. rule-later old.tail old.file old.progress old.offset b later rule pcap is other)
-      (λ other. omega (arith, header-some old.tail old.file old.progress old.offset b rule is other)) result new h
+      (λ other. omega (arith, header-some old.tail old.file old.progress old.offset b rule is other))
+      (λ cut. header-few old.offset b (is ∙ ap Some cut)) result new h

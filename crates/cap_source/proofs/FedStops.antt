@@ -1,5 +1,5 @@
 -- A capture that is fed stops where its bytes break a rule, whatever is fed later.
-use Rattle.std.proofs.Common.{◌≡◌, ℕ, ◌<◌, ◌==◌, ◌&&◌, not, Bool, true, false, List, ◌++◌, length}
+use Rattle.std.proofs.Common.{◌≡◌, ℕ, ◌<◌, ◌^◌, ◌==◌, ◌&&◌, not, Bool, true, false, List, ◌++◌, length}
 use Rattle.std.proofs.Common.{Option}
 use Rattle.std.proofs.Common.{Some, refl, sym, ap, ◌∙◌, subst, arith, append-nil, length-append}
 use Rattle.std.specs.Prelude.{Result}
@@ -51,7 +51,8 @@ module _ (old : CourseState) (b : List ℕ) (result : Result FedStep Fault) (new
 module _ (old : CourseState) (b : List ℕ) (rule : Rule) (stop : Stop)
     (here : items_after old b ≡ items_of_stop stop)
     (more : (rule ≡ Cut → ⊥) → (later : List ℕ) → items_after old (b ++ later) ≡ items_of_stop stop)
-    (short : rule ≡ Cut → AreShort (items_of_stop stop)) where
+    (short : rule ≡ Cut → AreShort (items_of_stop stop))
+    (few : rule ≡ Cut → length b < 2 ^ 19) where
   every-by : (ended : Bool) → old.ended ≡ ended → (not ended && is_cut_rule rule) ≡ false
       → (later : List ℕ) → MayBeFed old later → items_after old (b ++ later) ≡ items_of_stop stop
   every-by true e sure later may =
@@ -68,6 +69,7 @@ module _ (old : CourseState) (b : List ℕ) (rule : Rule) (stop : Stop)
         open_still old.ended (is_cut_rule rule) e,
         subst AreShort (sym here) (short (cut rule (right old.ended (is_cut_rule rule) e))),
         λ later. ap (λ (c : CourseState). items_after c (b ++ later)) (sym h.1),
+        few (cut rule (right old.ended (is_cut_rule rule) e)),
       )
     where
       open_still : (x y : Bool) → (not x && y) ≡ true → x ≡ false
@@ -90,7 +92,8 @@ module _ (old : CourseState) (inside : Bool) (faulty : List ℕ → Option Rule)
     → items_after old w ≡ items_of_stop stop)
     (is : faulty b ≡ Some rule)
     (more : (rule ≡ Cut → ⊥) → (later : List ℕ) → faulty (b ++ later) ≡ Some rule)
-    (some : (rule ≡ Cut → ⊥) → 0 < length b) where
+    (some : (rule ≡ Cut → ⊥) → 0 < length b)
+    (few : rule ≡ Cut → length b < 2 ^ 19) where
   stop-at : (stop : Stop) → stop_where inside old.tail old.file old.offset b (Some rule) ≡ Some stop
       → items_after old b ≡ items_of_stop stop
   stop-at stop e = at b stop (ap (stop_where inside old.tail old.file old.offset b) is ∙ e)
@@ -129,7 +132,7 @@ module _ (old : CourseState) (inside : Bool) (faulty : List ℕ → Option Rule)
   broken result new h =
       broken-by old b rule h.0 (stop-at h.0 h.1)
       (λ other later. at (b ++ later) h.0 (same-stop later h.0 other h.1))
-      (short-by (inside && (length b == 0)) h.0 refl h.1) result new h.2
+      (short-by (inside && (length b == 0)) h.0 refl h.1) few result new h.2
 
 -- what stays
 kept-if : (wanted : Bool) (old : CourseState) (stop : Stop) (result : Result FedStep Fault) (new : CourseState)

@@ -18,6 +18,8 @@ pub mod Saying
 pub mod Showing
 pub mod Written
 pub mod FedStops
+pub mod FedGiving
+pub mod FedShort
 pub mod FedRecords
 pub mod FedSteps
 pub mod FedBlocks

@@ -52,12 +52,14 @@ items_after c bytes = items_at_stage c.stage c bytes
 abbrev pub MayBeFed : CourseState → List ℕ → Type 0
 MayBeFed c later = IsTrue c.ended → later ≡ []
 
--- A capture that is fed: how far it was read, the bytes that were fed after that, and the captured ones of the packet
--- that came last.
+-- A capture that is fed: how far it was read, the bytes that were fed after that, the captured ones of the packet that
+-- came last, how many bytes it keeps, those that were passed among them, and for how many it holds memory.
 pub record FedState : Type 0 where
   pub course : CourseState
   pub rest : List ℕ
   pub frame : List ℕ
+  pub kept : ℕ
+  pub room : ℕ
 
 -- the items that still come of it, if these bytes are fed later and no others
 abbrev pub fed_items : FedState → List ℕ → List Item

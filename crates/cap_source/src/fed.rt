@@ -266,6 +266,7 @@ fn step_whole(
     requires stage { course.old.stage ≡ Stage.Blocks section }
     requires sound { IsSoundCourse (course_of course.old) }
     requires header { ParsesBlockHeader section course.old.offset bytes.now (Ok block) }
+    requires read { IsTrue (is_known_kind block.kind || not (is_some section)) }
     ensures step { StepsFed (course_of course.old) bytes.now result (course_of course.new) }
     ensures keeps { CourseKeeps (course_of course.old) (course_of course.new) }
     ensures sound { IsSoundCourse (course_of course.new) }

@@ -1,9 +1,10 @@
 //! The packets of a capture whose bytes are fed piece by piece.
-ghost use Rattle.std.specs.Prelude.{◌≡◌, ◌≤◌, [], ◌++◌, ℕ, List, drop, false, length, true, vec_len};
+ghost use Rattle.std.specs.Prelude.{◌≡◌, ◌≤◌, ◌+◌, ◌-◌, ◌*◌, [], ◌++◌, ℕ, List, drop, false, length, max, true, vec_capacity};
+ghost use Rattle.std.specs.Prelude.{vec_len};
 ghost use Rattle.cap_source.specs.Fed.{fed_items};
 ghost use Rattle.cap_source.specs.Items.{file_items};
 ghost use Rattle.cap_source.specs.inner.FedSteps.{CourseKeeps, IsSoundCourse, LooksFed, course_of};
-ghost use Rattle.cap_source.specs.inner.FedStates.{FeedsBytes, GivesFed};
+ghost use Rattle.cap_source.specs.inner.FedStates.{FeedsBytes, GivesFed, KeepsNothing, spare_room};
 
 use crate::fed::{Course, FedStep, Stage};
 use crate::packets::Meta;
@@ -23,9 +24,13 @@ pub enum Fed {
     End,
 }
 
+// How many bytes it may hold memory for though it keeps fewer.
+const SPARE_ROOM: usize = 1 << 20;
+
 /// The packets of a capture of either format whose bytes are fed piece by piece, cut anywhere. It keeps the bytes of
 /// the record or block that comes next, as far as they were fed, and none of a block that is skipped; besides what
-/// was fed after them, and the interfaces of the section that is being read.
+/// was fed after them, at most as many that were passed, and the interfaces of the section that is being read. When
+/// more are wanted it gives back what is beyond 1 MiB, and when nothing comes any more, all.
 #[derive(Drop)]
 pub struct FedCapture {
     course: Course,
@@ -38,7 +43,7 @@ pub struct FedCapture {
 }
 
 impl Model for FedCapture {
-    ghost use Rattle.std.specs.Prelude.{drop, slice_range, vec_len};
+    ghost use Rattle.std.specs.Prelude.{drop, slice_range, vec_capacity, vec_len};
     ghost use Rattle.cap_source.specs.Fed.{FedState};
     ghost use Rattle.cap_source.specs.inner.FedSteps.{course_of};
     ghost use Rattle.cap_source.specs.inner.FedStates.{IsSoundFed};
@@ -49,6 +54,8 @@ impl Model for FedCapture {
       course = course_of f.course;
       rest = drop f.passed f.bytes.items;
       frame = slice_range f.bytes.items f.start f.end;
+      kept = vec_len f.bytes;
+      room = vec_capacity f.bytes;
     } };
 
     ghost invariant = { λ f. IsSoundFed (course_of f.course) f.start f.end f.passed (vec_len f.bytes) };
@@ -57,13 +64,57 @@ impl Model for FedCapture {
 // Drops the first n bytes.
 fn drop_front(bytes: &mut Vec<u8>, n: usize)
     requires { n ≤ vec_len bytes.old }
-    ensures { bytes.new.items ≡ drop n bytes.old.items }
+    ensures items { bytes.new.items ≡ drop n bytes.old.items }
+    ensures len { vec_len bytes.new + n ≡ vec_len bytes.old }
+    ensures capacity { vec_capacity bytes.new ≡ vec_capacity bytes.old }
 {
     if n > 0 {
         let end = bytes.len();
         bytes.copy_within(n..end, 0);
         bytes.truncate(end - n);
     }
+}
+
+// Drops all bytes, and gives their memory back.
+fn drop_all(bytes: &mut Vec<u8>)
+    ensures items { bytes.new.items ≡ [] }
+    ensures len { vec_len bytes.new ≡ 0 }
+    ensures capacity { vec_capacity bytes.new ≡ 0 }
+{
+    bytes.clear();
+    bytes.shrink_to_fit();
+}
+
+// Drops the bytes that were passed if they are as many as the others, so that a byte is moved at most once for each
+// that is passed. Returns how many of those that are left were passed.
+fn drop_passed(bytes: &mut Vec<u8>, passed: usize) -> usize
+    requires { passed ≤ vec_len bytes.old }
+    ensures rest { drop result bytes.new.items ≡ drop passed bytes.old.items }
+    ensures within { result ≤ vec_len bytes.new }
+    ensures len { vec_len bytes.new ≤ 2 * (vec_len bytes.old - passed) }
+{
+    if passed < bytes.len() - passed {
+        return passed;
+    }
+    drop_front(bytes, passed);
+    0
+}
+
+// Gives back the memory that is held for more than 1 MiB, as far as the bytes that weren't passed don't need it.
+// Returns how many of those that are left were passed.
+fn give_back(bytes: &mut Vec<u8>, passed: usize) -> usize
+    requires { passed ≤ vec_len bytes.old }
+    ensures rest { drop result bytes.new.items ≡ drop passed bytes.old.items }
+    ensures within { result ≤ vec_len bytes.new }
+    ensures len { vec_len bytes.new ≤ max spare_room (length (drop passed bytes.old.items)) }
+    ensures room { drop passed bytes.old.items ≡ [] → vec_capacity bytes.new ≤ spare_room }
+{
+    if bytes.capacity() <= SPARE_ROOM {
+        return passed;
+    }
+    drop_front(bytes, passed);
+    bytes.shrink_to_fit();
+    0
 }
 
 // Looks on, from byte `at` of those on, until a packet comes, more bytes are wanted or the capture ends.
@@ -91,7 +142,7 @@ impl FedCapture {
     pub fn new(alloc: Global, file: u32, tail: Tail) -> FedCapture
         ensures items { (later : List ℕ) → fed_items result later ≡ file_items tail file later }
         ensures open { result.course.ended ≡ false }
-        ensures frame { result.frame ≡ [] }
+        ensures nothing { KeepsNothing result }
     {
         FedCapture {
             course: Course {
@@ -109,19 +160,34 @@ impl FedCapture {
         }
     }
 
-    /// Feeds the next bytes of the capture. The captured bytes of the last packet are let go.
+    /// Feeds the next bytes of the capture, of which none are kept if nothing comes any more. The captured bytes of the
+    /// last packet are let go.
     ///
     /// Returns `Memory` if a growth was refused for them, which are some: then nothing was fed.
     pub fn feed(&mut self, bytes: &[u8]) -> Result<(), Fault>
         requires open { self.old.course.ended ≡ false }
         ensures { FeedsBytes self.old bytes.now result self.new }
     {
-        drop_front(&mut self.bytes, self.passed);
+        if let Stage::Stopped(_) = self.course.stage {
+            self.keep_nothing();
+            return Ok(());
+        }
+        self.start = 0;
+        self.end = 0;
+        self.passed = drop_passed(&mut self.bytes, self.passed);
+        self.bytes.extend_from_slice(bytes)?;
+        Ok(())
+    }
+
+    // Drops all bytes.
+    fn keep_nothing(&mut self)
+        ensures course { self.new.course ≡ self.old.course }
+        ensures nothing { KeepsNothing self.new }
+    {
+        drop_all(&mut self.bytes);
         self.passed = 0;
         self.start = 0;
         self.end = 0;
-        self.bytes.extend_from_slice(bytes)?;
-        Ok(())
     }
 
     /// No more bytes come.
@@ -129,6 +195,8 @@ impl FedCapture {
         ensures course { self.new.course ≡ record self.old.course { ended = true } }
         ensures rest { self.new.rest ≡ self.old.rest }
         ensures frame { self.new.frame ≡ self.old.frame }
+        ensures kept { self.new.kept ≡ self.old.kept }
+        ensures room { self.new.room ≡ self.old.room }
     {
         let course = &mut self.course;
         course.ended = true;
@@ -141,27 +209,55 @@ impl FedCapture {
         self.course.ended
     }
 
-    /// The next packet, which is passed, as far as the bytes tell that were fed.
+    /// How many bytes it keeps of those that were fed.
+    pub fn kept(&self) -> usize
+        ensures { result ≡ self.now.kept }
+    {
+        self.bytes.len()
+    }
+
+    /// For how many bytes that are fed it holds memory.
+    pub fn held(&self) -> usize
+        ensures { result ≡ self.now.room }
+    {
+        self.bytes.capacity()
+    }
+
+    /// The next packet, which is passed, as far as the bytes tell that were fed. If none comes, the captured bytes of
+    /// the last one are let go.
     ///
     /// Returns `Refused` if they break a rule, and then always: a cut one only once all were fed. Returns `Memory` if
     /// a growth was refused for an interface, at a block of a pcapng file, and leaves the packets to come.
     pub fn next(&mut self) -> Result<Fed, Fault>
         ensures { GivesFed self.old result self.new }
     {
-        match look_on(&mut self.course, &self.bytes, &mut self.passed)? {
-            FedStep::Packet(meta, place, size) => {
+        match look_on(&mut self.course, &self.bytes, &mut self.passed) {
+            Ok(FedStep::Packet(meta, place, size)) => {
                 self.start = self.passed + place;
                 self.end = self.start + meta.captured as usize;
                 self.passed += size;
                 Ok(Fed::Packet(meta))
             }
-            FedStep::Ends => Ok(Fed::End),
-            FedStep::Short => Ok(Fed::More),
-            FedStep::Passed(_) => unreachable!(),
+            Ok(FedStep::Short) => {
+                self.start = 0;
+                self.end = 0;
+                self.passed = give_back(&mut self.bytes, self.passed);
+                Ok(Fed::More)
+            }
+            Ok(FedStep::Ends) => {
+                self.keep_nothing();
+                Ok(Fed::End)
+            }
+            Ok(FedStep::Passed(_)) => unreachable!(),
+            Err(Fault::Refused(refusal)) => {
+                self.keep_nothing();
+                Err(Fault::Refused(refusal))
+            }
+            Err(fault) => Err(fault),
         }
     }
 
-    /// The captured bytes of the packet that came last, until more are fed.
+    /// The captured bytes of the packet that came last, until more are fed or no packet comes.
     pub fn frame(&self) -> &[u8]
         ensures { result.now ≡ self.now.frame }
     {

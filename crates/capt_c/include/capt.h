@@ -5,19 +5,25 @@
  * capt_open_stdin; it opens no file, writes to none, starts no thread and keeps nothing between calls but what a
  * handle holds.
  *
- * * Handles. A capt_reader, a capt_table or a capt_text is yours: begin with {0}, let only the library change it,
- * don't copy it, and close it; closed is {0} again, and closing it twice does nothing. A call that fills a handle
- * closes first what it held.
+ * * Handles. A capt_reader, a capt_table or a capt_text belongs to you. Set it to {0} before its first call, let only
+ * the library change it, don't copy it, and close it. Closing sets it to {0} again; closing it twice does nothing. A call
+ * that fills a handle closes first what it held. A call that opens a handle leaves {0} if it returns CAPT_MEMORY.
  *
  * * Threads. One call at a time with a handle. Calls with different handles may run at once, also over the same bytes.
  *
- * * Pointers. None is NULL, not even to a file of 0 bytes: point to any byte then. Bytes that you give are only read.
- * Those of capt_open and capt_table_open stay where and as they are until capt_close; those of the other calls, of
- * capt_feed too, until the call returns.
+ * * Pointers. None is NULL, not even to a file of 0 bytes: pass the address of any byte then. The library only reads
+ * the bytes that you give. Those of capt_open and capt_table_open stay where and as they are until capt_close; those of
+ * the other calls, of capt_feed too, until the call returns. A `len` is at most PTRDIFF_MAX, and so is the size in bytes
+ * of an array.
  *
- * * Memory. A reader holds at most 512 KiB and 1,024 interfaces; one that is fed the record or block that comes next,
- * of at most 512 KiB, what was fed after it, and 1,024 interfaces; a table that for each of its files, and besides at
- * most 1,024 groups of fragments and 1,048,576 conversations. A call that makes a text holds the whole text.
+ * * Objects. The objects that you pass to one call overlap neither each other nor what its handles hold: don't feed a
+ * frame to the reader that lent it. A call that returns CAPT_MISUSE changes none of them.
+ *
+ * * Memory. A reader holds at most 512 KiB and 1,024 interfaces. A reader that is fed keeps at most twice the bytes that
+ * it hasn't read, and the last piece; when it returns CAPT_MORE, at most 1 MiB; after CAPT_DONE or CAPT_REFUSED none. It
+ * gives back what more it held if malloc can make a block smaller; and it holds at most 1,024 interfaces. A table holds
+ * what a reader holds for each of its files, and besides at most 1,024 groups of fragments and 1,048,576 conversations.
+ * A call that makes a text holds the whole text.
  *
  * * No call is to be made from a signal handler. */
 #ifndef CAPT_H
@@ -38,7 +44,8 @@ enum capt_status {
     CAPT_REFUSED = 2, /* a capture breaks a rule: capt_place says which, and where */
     CAPT_READ = 3,    /* a read of standard input failed: capt_place says where */
     CAPT_MEMORY = 5,  /* malloc or realloc returned NULL */
-    CAPT_MISUSE = 6,  /* the handle isn't open, there are no files or more than 32, or no room for a packet */
+    CAPT_MISUSE = 6,  /* the handle isn't open or is of other calls, there are no files or more than 32, or no room for
+                         a packet */
     CAPT_MORE = 7     /* of a reader that is fed: more bytes are wanted to tell what comes next */
 };
 
@@ -110,7 +117,8 @@ uint32_t capt_open_fed(capt_reader *reader, bool allow_cut);
 
 /* Feeds the next bytes of it, which are copied; the frame of the last packet goes. CAPT_DONE; CAPT_MEMORY, after which
  * nothing was fed; or CAPT_MISUSE after capt_feed_end, or if the reader isn't one of capt_open_fed. Ask for packets
- * until CAPT_MORE before you feed again, and it holds no more than one record or block and a piece. */
+ * until CAPT_MORE before you feed again, and it keeps no more than 1 MiB and a piece. Once nothing comes of the capture
+ * any more, nothing of them is kept. */
 uint32_t capt_feed(capt_reader *reader, const uint8_t *at, size_t len);
 
 /* Says that all bytes were fed. CAPT_DONE, or CAPT_MISUSE if the reader isn't one of capt_open_fed. */
@@ -123,12 +131,12 @@ uint32_t capt_feed_end(capt_reader *reader);
 uint32_t capt_next(capt_reader *reader, capt_packet *packet, capt_place *place);
 
 /* The next packets, up to `room` of them, which is at least 1: one, and those after it that need no further read.
- * `count` says how many came. The rest is as of capt_next; each frame stays until the next call with this reader.
- * CAPT_MISUSE of a reader that is fed. */
+ * `count` says how many came, and no others of `packets` are changed. The rest is as of capt_next; each frame stays
+ * until the next call with this reader. CAPT_MISUSE of a reader that is fed. */
 uint32_t capt_next_many(capt_reader *reader, capt_packet *packets, size_t room, size_t *count, capt_place *place);
 
 /* How the capture ended, once capt_next or capt_next_many has returned CAPT_DONE; else, and of a reader that is fed,
- * CAPT_MISUSE. */
+ * CAPT_MISUSE, which leaves `ending`. */
 uint32_t capt_end(capt_reader *reader, capt_ending *ending);
 
 /* Lets go what the reader, or the table, holds. */
@@ -148,7 +156,7 @@ uint32_t capt_table_write(capt_table *table, capt_text *text, capt_place *place)
 
 /* What the commands of the program capt print, of one file or of 1 to 32 files, byte for byte. CAPT_DONE, CAPT_REFUSED
  * or CAPT_MEMORY. After CAPT_REFUSED the text of list, blocks, convert, merge and join is what stands before the
- * refusal, and that of report and info is empty. */
+ * refusal, and that of report and info is empty. After CAPT_MEMORY it is what was made before, or {0}. */
 uint32_t capt_list(const uint8_t *at, size_t len, bool allow_cut, capt_text *text, capt_place *place);
 uint32_t capt_blocks(const uint8_t *at, size_t len, bool allow_cut, capt_text *text, capt_place *place);
 uint32_t capt_info(const capt_bytes *files, size_t count, bool allow_cut, capt_text *text, capt_place *place);
@@ -166,7 +174,7 @@ uint32_t capt_join(const capt_bytes *files, size_t count, bool allow_cut, bool b
 /* Lets go a text. */
 void capt_text_close(capt_text *text);
 
-/* Put as many bytes of a text into the buffer as it has room for, with no zero after them, and return how long the
+/* Put as many bytes of a text into the buffer as it has room for, leave those behind them, and return how long the
  * text is: the line that capt prints of a fault, with its end, as "refused: file 1 offset 24 rule 6 block-trailer\n",
  * or 0 of a status that is none; the name of a rule, as "block-trailer", or 0 if there is no such rule; and the
  * version of the library. */

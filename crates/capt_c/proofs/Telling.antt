@@ -1,5 +1,6 @@
 -- One packet more was told, at the end or in front.
-use Rattle.std.proofs.Common.{◌≡◌, ◌+◌, ℕ, suc, List, [], ◌∷◌, ◌++◌, length, slice_set, take, refl, sym, ◌∙◌, arith}
+use Rattle.std.proofs.Common.{◌≡◌, ◌+◌, ℕ, suc, List, [], ◌∷◌, ◌++◌, length, slice_set, take, drop, drop-drop, ap, refl, sym, ◌∙◌, arith}
+use Rattle.std.proofs.lemmas.List.{drop-set-lt}
 use Rattle.cap_source.specs.Feed.{Item, packet}
 use Rattle.cap_source.specs.declared.packets.Meta.{Meta}
 use Rattle.capt_c.specs.Packets.{ShowsFields, Told}
@@ -20,3 +21,17 @@ Told-first old mid new [] p others k one meta shows frame first told = absurd (o
 Told-first old mid new (q ∷ []) p others k one meta shows frame first told =
     let next : k + 1 ≡ suc k = omega arith in rw next (meta, frame, mid, first, shows, told)
 Told-first old mid new (q ∷ r ∷ fs) p others k one meta shows frame first told = absurd (omega (arith, one))
+
+-- the packets behind those that were told stay
+pub others-kept : (now was : List Packet) (k : ℕ) (p : Packet) → drop k now ≡ drop k was
+    → drop (k + 1) (slice_set now k p) ≡ drop (k + 1) was
+others-kept now was k p same =
+    drop-set-lt (k + 1) now k p (omega arith) ∙ (sym (drop-drop 1 k now) ∙ (ap (drop 1) same ∙ drop-drop 1 k was))
+
+pub others-behind : (firsts others was new : List Packet) (p : Packet) (k : ℕ) → length firsts ≡ 1
+    → was ≡ firsts ++ others → drop k new ≡ drop k others
+    → drop (k + 1) (slice_set firsts 0 p ++ new) ≡ drop (k + 1) was
+others-behind [] others was new p k one is same = absurd (omega (arith, one))
+others-behind (q ∷ []) others was new p k one is same =
+    let next : k + 1 ≡ suc k = omega arith in rw (next, is) same
+others-behind (q ∷ r ∷ firsts) others was new p k one is same = absurd (omega (arith, one))

@@ -1,5 +1,5 @@
 -- What the calls do to a capture whose bytes the caller feeds.
-use Rattle.std.specs.Prelude.{◌≡◌, ℕ, Bool, true, false, List, [], Option, Some, None, Result, Ok, Err, ⊤}
+use Rattle.std.specs.Prelude.{◌≡◌, ℕ, Bool, true, false, List, [], Option, Some, None, Result, Ok, Err}
 use Rattle.cap_bytes.specs.declared.faults.Fault.{Fault}
 use Rattle.cap_bytes.specs.declared.faults.Tail.{Tail}
 use Rattle.cap_source.specs.Fed.{FedState, fed_items}
@@ -58,15 +58,15 @@ abbrev pub place_of_fed : Result Fed Fault → Place
 place_of_fed (Ok fed) = nowhere
 place_of_fed (Err fault) = place_of_fault fault
 
--- a packet that comes is told
-abbrev pub FedTold : Result Fed Fault → Packet → Type 0
-FedTold (Ok (feds.Packet meta)) p = ShowsFields meta p
-FedTold (Ok feds.More) p = ⊤
-FedTold (Ok feds.End) p = ⊤
-FedTold (Err fault) p = ⊤
+-- a packet that comes is told, and nothing else is
+abbrev pub FedTold : Packet → Result Fed Fault → Packet → Type 0
+FedTold was (Ok (feds.Packet meta)) p = ShowsFields meta p
+FedTold was (Ok feds.More) p = p ≡ was
+FedTold was (Ok feds.End) p = p ≡ was
+FedTold was (Err fault) p = p ≡ was
 
 -- What a call for the next packet of a capture that is fed returns and leaves.
-abbrev pub StepsFedCapture : FedState → ℕ → Packet → Place → FedState → Type 0
-StepsFedCapture old status p place new =
+abbrev pub StepsFedCapture : FedState → Packet → ℕ → Packet → Place → FedState → Type 0
+StepsFedCapture old was status p place new =
     (answer : Result Fed Fault) × (status ≡ status_of_fed answer) × (place ≡ place_of_fed answer)
-    × GivesFed old answer new × FedTold answer p
+    × GivesFed old answer new × FedTold was answer p

@@ -1,7 +1,7 @@
 -- What a handle owns.
-use Rattle.std.specs.Prelude.{Option, Some, None}
+use Rattle.std.specs.Prelude.{◌≡◌, Bool, false, Option, Some, None}
 use base.Fml.{Fml, ftrue}
-use denote.RawPtr.{Ptr}
+use denote.RawPtr.{Ptr, null_ptr}
 use Rattle.std.specs.Box.Ownership.{box_owns}
 use Rattle.std.specs.contracts.impls.GlobalAllocator.TheImpl.{ghosts}
 use mir.Syntax.{Ty}
@@ -16,3 +16,9 @@ token = ghosts.dealloc_token (record { memory = record { seal = tt } })
 abbrev pub owned : Ptr → Option Held → Fml
 owned p None = ftrue
 owned p (Some x) = box_owns token held_row p x
+
+-- A handle is {0}: it holds nothing, at no address, and isn't open.
+pub record IsClosed (held : Option Held) (address : Ptr) (is_open : Bool) : Type 0 where
+  pub value : held ≡ None
+  pub at : address ≡ null_ptr
+  pub shut : is_open ≡ false

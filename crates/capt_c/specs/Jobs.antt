@@ -6,7 +6,10 @@ use Rattle.capt_c.specs.Answers.{nowhere, status_of_result, place_of_result}
 use Rattle.capt_c.specs.declared.answers.Place.{Place}
 use Rattle.capt_c.specs.declared.handles.Held.{Held}
 use Rattle.capt_c.specs.declared.handles.Held.TheVariants as helds
+use denote.RawPtr.{null_ptr}
+use Rattle.capt_c.specs.Held.{IsClosed}
 use Rattle.capt_c.specs.declared.jobs.Bytes.{Bytes}
+use Rattle.capt_c.specs.declared.jobs.Text.{Text}
 
 -- the bytes of a file
 abbrev pub file_bytes : Bytes → List ℕ
@@ -20,18 +23,25 @@ by_memory (Err (Read file offset)) = Err (Read file offset)
 by_memory (Err Write) = Err Memory
 by_memory (Err Memory) = Err Memory
 
--- A caller is shown that text of the job that ended so, or nothing for want of memory.
-abbrev pub Shown : List ℕ → Result Unit Fault → ℕ → ℕ → Place → Option Held → Type 0
-Shown items answer len status place None = (len ≡ 0) × (status ≡ 5) × (place ≡ nowhere)
-Shown items answer len status place (Some (helds.Capture c)) = ⊥
-Shown items answer len status place (Some (helds.Fed f)) = ⊥
-Shown items answer len status place (Some (helds.Table t)) = ⊥
-Shown items answer len status place (Some (helds.Text text)) =
-    (text.items ≡ items) × (len ≡ length items)
+-- A text is {0}.
+pub record IsTextClosed (text : Text) : Type 0 where
+  pub at : text.at ≡ null_ptr
+  pub len : text.len ≡ 0
+  pub handle : IsClosed text.handle.kept.value text.handle.kept.at text.handle.is_open
+
+-- A caller is shown that text of the job that ended so, or for want of memory a text that is closed.
+abbrev pub Shown : List ℕ → Result Unit Fault → ℕ → Place → Text → Option Held → Type 0
+Shown items answer status place text None = IsTextClosed text × (status ≡ 5) × (place ≡ nowhere)
+Shown items answer status place text (Some (helds.Capture c)) = ⊥
+Shown items answer status place text (Some (helds.Fed f)) = ⊥
+Shown items answer status place text (Some (helds.Table t)) = ⊥
+Shown items answer status place text (Some (helds.Text bytes)) =
+    (bytes.items ≡ items) × (text.len ≡ length items)
     × (status ≡ status_of_result (by_memory answer)) × (place ≡ place_of_result (by_memory answer))
 
--- A caller is shown a text of that length that was made as `Does` says, from nothing, and how the job ended; or nothing
--- for want of memory.
-abbrev pub JobEnds : (List ℕ → Result Unit Fault → List ℕ → Type 0) → ℕ → ℕ → Place → Option Held → Type 0
-JobEnds Does len status place held =
-    (answer : Result Unit Fault) × (items : List ℕ) × Does [] answer items × Shown items answer len status place held
+-- A caller is shown a text that was made as `Does` says, from nothing, and how the job ended; or nothing for want of
+-- memory.
+abbrev pub JobEnds : (List ℕ → Result Unit Fault → List ℕ → Type 0) → ℕ → Place → Text → Type 0
+JobEnds Does status place text =
+    (answer : Result Unit Fault) × (items : List ℕ) × Does [] answer items
+    × Shown items answer status place text text.handle.kept.value

@@ -1,6 +1,6 @@
 -- A packet in numbers, and what a call for the next one does.
 use Rattle.std.specs.Prelude.{◌≡◌, ℕ, ◌^◌, ◌≤◌, length, take, ℤ, pos, ◌+ℤ◌, ◌*ℤ◌, List, [], ◌∷◌, Bool, true, false}
-use Rattle.std.specs.Prelude.{IsTrue, Option, Some, None, IfSome, Result, Ok, Err}
+use Rattle.std.specs.Prelude.{IsTrue, Option, Some, None, IfSome, Result, Ok, Err, ⊤, drop}
 use Rattle.cap_bytes.specs.declared.faults.Fault.{Fault}
 use Rattle.cap_bytes.specs.declared.faults.Fault.TheVariants.{Refused, Read, Write, Memory}
 use Rattle.cap_source.specs.Feed.{Feed, Item, FeedBreaks, packet, refused}
@@ -40,9 +40,8 @@ abbrev pub AgreesWithKnown : Option Head → Result Bool Fault → Type 0
 AgreesWithKnown known answer = IfSome known (λ head. answer ≡ head_answer head)
 
 -- The next packet was returned and passed, or it is known that there is none. If the bytes of the capture are known,
--- it was
--- the next of its packets, and the refusal is the one that ends them. After a refused growth the packets to come are
--- the same.
+-- it was the next of its packets, and the refusal is the one that ends them. After a refused growth the packets to come
+-- are the same.
 abbrev pub LeavesPacket : Feed → Result Bool Fault → Packet → Feed → Type 0
 LeavesPacket old (Ok true) p new =
     (meta : Meta) × ShowsFields meta p × (IsTrue old.told → (frame : List ℕ)
@@ -54,9 +53,16 @@ LeavesPacket old (Err (Read file offset)) p new = FeedBreaks old file offset new
 LeavesPacket old (Err Write) p new = ⊥
 LeavesPacket old (Err Memory) p new = IsTrue old.told → new.items ≡ old.items
 
+-- a caller's packet is written only if one is returned
+abbrev pub KeepsUnless : Result Bool Fault → Packet → Packet → Type 0
+KeepsUnless (Ok true) was p = ⊤
+KeepsUnless (Ok false) was p = p ≡ was
+KeepsUnless (Err fault) was p = p ≡ was
+
 -- what a call for the next packet returns and leaves
-abbrev pub StepsPacket : Feed → Result Bool Fault → Packet → Feed → Type 0
-StepsPacket old answer p new = AgreesWithKnown old.known answer × LeavesPacket old answer p new
+abbrev pub StepsPacket : Feed → Packet → Result Bool Fault → Packet → Feed → Type 0
+StepsPacket old was answer p new =
+    AgreesWithKnown old.known answer × LeavesPacket old answer p new × KeepsUnless answer was p
 
 -- Those packets were told, one after another.
 abbrev pub Told : List Item → List Packet → List Item → Type 0
@@ -66,8 +72,7 @@ Told old (p ∷ ps) new =
     × (old ≡ packet meta frame ∷ rest) × ShowsFields meta p × Told rest ps new
 
 -- The next packets were told and passed, as many as `count` says, or it is known that there is none: as `LeavesPacket`
--- has it
--- for one.
+-- has it for one.
 abbrev pub LeavesMany : Feed → Result Bool Fault → ℕ → List Packet → Feed → Type 0
 LeavesMany old (Ok true) count packets new =
     (1 ≤ count) × (count ≤ length packets) × (IsTrue old.told → Told old.items (take count packets) new.items)
@@ -79,6 +84,7 @@ LeavesMany old (Err (Read file offset)) count packets new = (count ≡ 0) × Fee
 LeavesMany old (Err Write) count packets new = ⊥
 LeavesMany old (Err Memory) count packets new = (count ≡ 0) × (IsTrue old.told → new.items ≡ old.items)
 
--- what a call for the next packets returns and leaves
-abbrev pub StepsMany : Feed → Result Bool Fault → ℕ → List Packet → Feed → Type 0
-StepsMany old answer count packets new = AgreesWithKnown old.known answer × LeavesMany old answer count packets new
+-- what a call for the next packets returns and leaves: of a caller's packets it writes as many as `count` says
+abbrev pub StepsMany : Feed → List Packet → Result Bool Fault → ℕ → List Packet → Feed → Type 0
+StepsMany old was answer count packets new =
+    AgreesWithKnown old.known answer × LeavesMany old answer count packets new × (drop count packets ≡ drop count was)

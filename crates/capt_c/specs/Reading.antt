@@ -37,8 +37,7 @@ place_of_step (Ok found) = nowhere
 place_of_step (Err fault) = place_of_fault fault
 
 -- A capture is open of which no packet was returned; or no memory was found. `told` says whether its bytes are known,
--- which
--- are `bytes` then, and `can_fail` whether its reads can fail.
+-- which are `bytes` then, and `can_fail` whether its reads can fail.
 abbrev pub OpensCapture : (CaptureReader → Feed) → Tail → Bool → List ℕ → Bool → ℕ → Option Held → Type 0
 OpensCapture feed tail told bytes can_fail status None = status ≡ 5
 OpensCapture feed tail told bytes can_fail status (Some (helds.Text text)) = ⊥
@@ -48,28 +47,42 @@ OpensCapture feed tail told bytes can_fail status (Some (helds.Capture c)) =
     (status ≡ 0) × ((feed c).known ≡ None) × ((feed c).files ≡ 1 ∷ []) × ((feed c).told ≡ told)
     × ((feed c).items ≡ file_items tail 1 bytes) × ((feed c).can_fail 1 ≡ can_fail)
 
--- What a call for the next packet returns and leaves.
-abbrev pub Nexts : (CaptureReader → Feed) → Option Held → ℕ → Packet → Place → Option Held → Type 0
-Nexts feed None status p place new = (status ≡ 6) × (new ≡ None)
-Nexts feed (Some (helds.Text text)) status p place new = (status ≡ 6) × (new ≡ Some (helds.Text text))
-Nexts feed (Some (helds.Table t)) status p place new = (status ≡ 6) × (new ≡ Some (helds.Table t))
-Nexts feed (Some (helds.Fed f)) status p place new =
-    (later : FedState) × (new ≡ Some (helds.Fed later)) × StepsFedCapture f status p place later
-Nexts feed (Some (helds.Capture c)) status p place new =
-    (answer : Result Bool Fault) × (later : CaptureReader) × (status ≡ status_of_step answer)
-    × (place ≡ place_of_step answer)
-    × (new ≡ Some (helds.Capture later)) × StepsPacket (feed c) answer p (feed later) × FeedKeeps (feed c) (feed later)
+-- A call that is misused returns 6, and leaves the handle and the caller's object as they were.
+abbrev pub Misused : {X : Type 0} → ℕ → Option Held → Option Held → X → X → Type 0
+Misused status held new was object = (status ≡ 6) × (new ≡ held) × (object ≡ was)
 
--- What a call for the next packets returns and leaves.
-abbrev pub NextsMany : (CaptureReader → Feed) → Option Held → ℕ → ℕ → List Packet → Place → Option Held → Type 0
-NextsMany feed None status count packets place new = (status ≡ 6) × (new ≡ None)
-NextsMany feed (Some (helds.Text text)) status count packets place new = (status ≡ 6) × (new ≡ Some (helds.Text text))
-NextsMany feed (Some (helds.Table t)) status count packets place new = (status ≡ 6) × (new ≡ Some (helds.Table t))
-NextsMany feed (Some (helds.Fed f)) status count packets place new = (status ≡ 6) × (new ≡ Some (helds.Fed f))
-NextsMany feed (Some (helds.Capture c)) status count packets place new =
+-- What a call for the next packet returns and leaves: of a handle that is no open capture, nothing but that. `was` and
+-- `from` are the caller's packet and place before it.
+abbrev pub Nexts : (CaptureReader → Feed) → Option Held → Packet → Place → ℕ → Packet → Place → Option Held → Type 0
+Nexts feed None was from status p place new = Misused {X = Packet × Place} status None new (was, from) (p, place)
+Nexts feed (Some (helds.Text text)) was from status p place new =
+    Misused {X = Packet × Place} status (Some (helds.Text text)) new (was, from) (p, place)
+Nexts feed (Some (helds.Table t)) was from status p place new =
+    Misused {X = Packet × Place} status (Some (helds.Table t)) new (was, from) (p, place)
+Nexts feed (Some (helds.Fed f)) was from status p place new =
+    (later : FedState) × (new ≡ Some (helds.Fed later)) × StepsFedCapture f was status p place later
+Nexts feed (Some (helds.Capture c)) was from status p place new =
     (answer : Result Bool Fault) × (later : CaptureReader) × (status ≡ status_of_step answer)
     × (place ≡ place_of_step answer)
-    × (new ≡ Some (helds.Capture later)) × StepsMany (feed c) answer count packets (feed later)
+    × (new ≡ Some (helds.Capture later)) × StepsPacket (feed c) was answer p (feed later)
+    × FeedKeeps (feed c) (feed later)
+
+-- A caller's objects for the next packets: a number, packets and a place.
+pub record Batch : Type 0 where
+  pub count : ℕ
+  pub packets : List Packet
+  pub place : Place
+
+-- What a call for the next packets returns and leaves, if there is room for one.
+abbrev pub NextsMany : (CaptureReader → Feed) → Option Held → Batch → ℕ → Batch → Option Held → Type 0
+NextsMany feed None was status now new = Misused status None new was now
+NextsMany feed (Some (helds.Text text)) was status now new = Misused status (Some (helds.Text text)) new was now
+NextsMany feed (Some (helds.Table t)) was status now new = Misused status (Some (helds.Table t)) new was now
+NextsMany feed (Some (helds.Fed f)) was status now new = Misused status (Some (helds.Fed f)) new was now
+NextsMany feed (Some (helds.Capture c)) was status now new =
+    (answer : Result Bool Fault) × (later : CaptureReader) × (status ≡ status_of_step answer)
+    × (now.place ≡ place_of_step answer)
+    × (new ≡ Some (helds.Capture later)) × StepsMany (feed c) was.packets answer now.count now.packets (feed later)
     × FeedKeeps (feed c) (feed later)
 
 -- whether a file is a pcapng file
@@ -84,19 +97,20 @@ pub record ShowsEnding (ending : Ending) (end : End) : Type 0 where
   pub was_cut : end.was_cut ≡ ending.was_cut
 
 -- What is known of a feed of one file if that is returned for what comes next: how the file ended, if that is the end.
-abbrev pub EndTold : Feed → Result Head Fault → ℕ → End → Type 0
-EndTold feed (Ok (heads.Packet meta)) status end = status ≡ 6
-EndTold feed (Ok (heads.Refused refusal)) status end = status ≡ 6
-EndTold feed (Ok heads.End) status end =
+abbrev pub EndTold : Feed → End → Result Head Fault → ℕ → End → Type 0
+EndTold feed was (Ok (heads.Packet meta)) status end = (status ≡ 6) × (end ≡ was)
+EndTold feed was (Ok (heads.Refused refusal)) status end = (status ≡ 6) × (end ≡ was)
+EndTold feed was (Ok heads.End) status end =
     (status ≡ 0) × ((file : ℕ) → feed.files ≡ file ∷ [] → ShowsEnding (feed.endings file).ending end)
-EndTold feed (Err fault) status end = status ≡ 6
+EndTold feed was (Err fault) status end = (status ≡ 6) × (end ≡ was)
 
 -- What a call returns and leaves that tells how a capture ended.
-abbrev pub TellsEnd : (CaptureReader → Feed) → Option Held → ℕ → End → Option Held → Type 0
-TellsEnd feed None status end new = (status ≡ 6) × (new ≡ None)
-TellsEnd feed (Some (helds.Text text)) status end new = (status ≡ 6) × (new ≡ Some (helds.Text text))
-TellsEnd feed (Some (helds.Table t)) status end new = (status ≡ 6) × (new ≡ Some (helds.Table t))
-TellsEnd feed (Some (helds.Fed f)) status end new = (status ≡ 6) × (new ≡ Some (helds.Fed f))
-TellsEnd feed (Some (helds.Capture c)) status end new =
+abbrev pub TellsEnd : (CaptureReader → Feed) → Option Held → End → ℕ → End → Option Held → Type 0
+TellsEnd feed None was status end new = Misused status None new was end
+TellsEnd feed (Some (helds.Text text)) was status end new = Misused status (Some (helds.Text text)) new was end
+TellsEnd feed (Some (helds.Table t)) was status end new = Misused status (Some (helds.Table t)) new was end
+TellsEnd feed (Some (helds.Fed f)) was status end new = Misused status (Some (helds.Fed f)) new was end
+TellsEnd feed (Some (helds.Capture c)) was status end new =
     (answer : Result Head Fault) × (later : CaptureReader) × (new ≡ Some (helds.Capture later))
-    × GivesHead (feed c) answer (feed later) × EndTold (feed later) answer status end × FeedKeeps (feed c) (feed later)
+    × GivesHead (feed c) answer (feed later) × EndTold (feed later) was answer status end
+    × FeedKeeps (feed c) (feed later)

@@ -15,7 +15,9 @@ use Rattle.capt_c.specs.Jobs.{JobEnds, file_bytes}
 use Rattle.capt_c.specs.declared.answers.Place.{Place}
 use Rattle.capt_c.specs.declared.handles.Held.{Held}
 use Rattle.capt_c.specs.declared.handles.Held.TheVariants as helds
+use Rattle.capt_c.specs.Reading.{Misused}
 use Rattle.capt_c.specs.declared.jobs.Bytes.{Bytes}
+use Rattle.capt_c.specs.declared.jobs.Text.{Text}
 
 -- the reader of a file in memory
 abbrev pub reader_of_file : Bytes → ReaderFacts
@@ -48,23 +50,28 @@ abbrev pub place_of_step : Result Step Fault → Place
 place_of_step (Ok step) = nowhere
 place_of_step (Err fault) = place_of_fault fault
 
--- What a call that takes the next packet returns and leaves.
-abbrev pub StepsTable : Option Held → ℕ → Place → Option Held → Type 0
-StepsTable None status place new = (status ≡ 6) × (new ≡ None)
-StepsTable (Some (helds.Capture c)) status place new = (status ≡ 6) × (new ≡ Some (helds.Capture c))
-StepsTable (Some (helds.Fed f)) status place new = (status ≡ 6) × (new ≡ Some (helds.Fed f))
-StepsTable (Some (helds.Text text)) status place new = (status ≡ 6) × (new ≡ Some (helds.Text text))
-StepsTable (Some (helds.Table t)) status place new =
+-- What a call that takes the next packet returns and leaves; `from` is the caller's place before it.
+abbrev pub StepsTable : Option Held → Place → ℕ → Place → Option Held → Type 0
+StepsTable None from status place new = Misused status None new from place
+StepsTable (Some (helds.Capture c)) from status place new = Misused status (Some (helds.Capture c)) new from place
+StepsTable (Some (helds.Fed f)) from status place new = Misused status (Some (helds.Fed f)) new from place
+StepsTable (Some (helds.Text text)) from status place new = Misused status (Some (helds.Text text)) new from place
+StepsTable (Some (helds.Table t)) from status place new =
     (answer : Result Step Fault) × (status ≡ status_of_step answer) × (place ≡ place_of_step answer)
     × LeavesTable new (λ later. TableSteps (table_of t.value) answer later × StepKeeps (table_of t.value) later)
 
--- What a call returns that shows the report over the packets that were taken.
-abbrev pub WritesTable : Option Held → ℕ → ℕ → Place → Option Held → Type 0
-WritesTable None len status place text = status ≡ 6
-WritesTable (Some (helds.Capture c)) len status place text = status ≡ 6
-WritesTable (Some (helds.Fed f)) len status place text = status ≡ 6
-WritesTable (Some (helds.Text t)) len status place text = status ≡ 6
-WritesTable (Some (helds.Table t)) len status place text =
+-- A call that is misused returns 6, and leaves the caller's text and place as they were.
+abbrev pub ShowsNothing : ℕ → Text → Place → Text → Place → Type 0
+ShowsNothing status was from text place = (status ≡ 6) × (text ≡ was) × (place ≡ from)
+
+-- What a call returns that shows the report over the packets that were taken; `was` and `from` are the caller's text
+-- and place before it.
+abbrev pub WritesTable : Option Held → Text → Place → ℕ → Text → Place → Type 0
+WritesTable None was from status text place = ShowsNothing status was from text place
+WritesTable (Some (helds.Capture c)) was from status text place = ShowsNothing status was from text place
+WritesTable (Some (helds.Fed f)) was from status text place = ShowsNothing status was from text place
+WritesTable (Some (helds.Text t)) was from status text place = ShowsNothing status was from text place
+WritesTable (Some (helds.Table t)) was from status text place =
     (xs : List Taken) → TableStands (table_of t.value) xs
     → JobEnds (Prints (text_of (length (table_of t.value).totals.files) (endings_so_far (table_of t.value)) xs) None)
-    len status place text
+    status place text

@@ -1,5 +1,5 @@
 //! Several packets in one call.
-ghost use Rattle.std.specs.Prelude.{◌≡◌, ◌≤◌, ◌<◌, IsTrue, length, take};
+ghost use Rattle.std.specs.Prelude.{◌≡◌, ◌≤◌, ◌<◌, IsTrue, drop, length, take};
 ghost use Rattle.cap_source.specs.Feed.{FeedKeeps};
 ghost use Rattle.capt_c.specs.Packets.{StepsMany, Told};
 
@@ -13,6 +13,7 @@ fn more<F: PacketFeed>(feed: &mut F, packets: &mut [Packet]) -> usize
     ensures most { result ≤ length packets.new }
     ensures told { IsTrue (F.feed feed.old).told
         → Told (F.feed feed.old).items (take result packets.new) (F.feed feed.new).items }
+    ensures others { drop result packets.new ≡ drop result packets.old }
     ensures keeps { FeedKeeps (F.feed feed.old) (F.feed feed.new) }
 {
     let mut count = 0;
@@ -32,7 +33,7 @@ pub fn step_many<F: PacketFeed>(
     count: &mut usize,
 ) -> Result<bool, Fault>
     requires { 0 < length packets.old }
-    ensures answer { StepsMany (F.feed feed.old) result count.new packets.new (F.feed feed.new) }
+    ensures answer { StepsMany (F.feed feed.old) packets.old result count.new packets.new (F.feed feed.new) }
     ensures keeps { FeedKeeps (F.feed feed.old) (F.feed feed.new) }
 {
     *count = 0;

@@ -1,8 +1,9 @@
 //! A capture whose bytes the caller feeds piece by piece.
-ghost use Rattle.std.specs.Prelude.{Some};
+ghost use Rattle.std.specs.Prelude.{◌≡◌, Some};
 ghost use Rattle.cap_source.specs.inner.FedStates.{GivesFed};
 ghost use Rattle.cap_tool.specs.Jobs.{tail_of};
 ghost use Rattle.capt_c.specs.Feeding.{EndsHeld, FedTold, FeedsHeld, OpensFed, StepsFedCapture};
+ghost use Rattle.capt_c.specs.Held.{IsClosed};
 
 use crate::answers::{
     DONE, MEMORY, MISUSE, MORE, PACKET, Place, nowhere, place_of, status_of, tail_of,
@@ -16,7 +17,7 @@ use std::alloc::Global;
 // Tells what comes next of a capture that is fed, and passes it if that is a packet.
 fn tell_fed(fed: &mut FedCapture, packet: &mut Packet) -> Result<Fed, Fault>
     ensures gives { GivesFed fed.old result fed.new }
-    ensures shows { FedTold result packet.new }
+    ensures shows { FedTold packet.old result packet.new }
 {
     let next = fed.next()?;
     if let Fed::Packet(meta) = next {
@@ -27,7 +28,7 @@ fn tell_fed(fed: &mut FedCapture, packet: &mut Packet) -> Result<Fed, Fault>
 
 /// The next packet of a capture that is fed.
 pub fn step_fed(fed: &mut FedCapture, packet: &mut Packet, place: &mut Place) -> u32
-    ensures { StepsFedCapture fed.old result packet.new place.new fed.new }
+    ensures { StepsFedCapture fed.old packet.old result packet.new place.new fed.new }
 {
     match tell_fed(fed, packet) {
         Ok(next) => {
@@ -48,7 +49,8 @@ pub fn step_fed(fed: &mut FedCapture, packet: &mut Packet, place: &mut Place) ->
 /// Opens a capture whose bytes `capt_feed` feeds. What the handle held is let go.
 #[unsafe(no_mangle)]
 pub extern "C" fn capt_open_fed(alloc: Global, reader: &mut Handle, allow_cut: bool) -> u32
-    ensures { OpensFed (tail_of allow_cut) result reader.new.kept.value }
+    ensures closed { result ≡ 5 → IsClosed reader.new.kept.value reader.new.kept.at reader.new.is_open }
+    ensures opens { OpensFed (tail_of allow_cut) result reader.new.kept.value }
 {
     let fed = FedCapture::new(alloc, 1, tail_of(allow_cut));
     if reader.hold(alloc, Held::Fed(fed)) {

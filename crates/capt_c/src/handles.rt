@@ -1,5 +1,6 @@
 //! What the library keeps for a caller between calls.
-ghost use Rattle.std.specs.Prelude.{◌≡◌, IsSome, IfSome, Option, is_some, Some, None, if◌then◌else◌};
+ghost use Rattle.std.specs.Prelude.{◌≡◌, IsSome, IfSome, Option, is_some, Some, None, false, if◌then◌else◌};
+ghost use Rattle.capt_c.specs.Held.{IsClosed};
 ghost use Rattle.capt_c.specs.declared.handles.Held.{Held};
 
 use crate::loose::Loose;
@@ -48,7 +49,7 @@ impl Kept {
 
     // Keeps nothing.
     fn nothing(at: *mut u8) -> Kept
-        ensures value { result.value ≡ None }
+        ensures { (result.value ≡ None) × (result.at ≡ at) }
     {
         Kept { at }
     }
@@ -83,7 +84,7 @@ pub struct Handle {
 
 // A handle that isn't open.
 fn closed() -> Handle
-    ensures { result.kept.value ≡ None }
+    ensures { IsClosed result.kept.value result.kept.at result.is_open }
 {
     let at = null_mut();
     let kept = Kept::nothing(at);
@@ -109,7 +110,7 @@ impl Handle {
     pub fn take(&mut self, alloc: Global) -> Option<Box<Held>>
         ensures some { IfSome result (λ b. self.old.kept.value ≡ Some b.value) }
         ensures none { result ≡ None → self.old.kept.value ≡ None }
-        ensures after { self.new.kept.value ≡ None }
+        ensures after { IsClosed self.new.kept.value self.new.kept.at self.new.is_open }
     {
         let Handle { kept, is_open } = replace(self, closed());
         if is_open {
@@ -131,7 +132,8 @@ impl Handle {
 
     /// Lets go what is held, and holds that. If no memory is found, it isn't open.
     pub fn hold(&mut self, alloc: Global, value: Held) -> bool
-        ensures { self.new.kept.value ≡ (if result then Some value else None) }
+        ensures value { self.new.kept.value ≡ (if result then Some value else None) }
+        ensures closed { result ≡ false → IsClosed self.new.kept.value self.new.kept.at self.new.is_open }
     {
         let _ = self.take(alloc);
         match Box::new(alloc, value) {

@@ -1,5 +1,6 @@
 //! What `capt` makes of captures in memory: a text that the caller holds.
 ghost use Rattle.std.specs.Prelude.{◌≡◌, ◌≤◌, ◌↔◌, IfOk, IsOkUnless, IsTrue, None, length, map};
+ghost use denote.RawPtr.{null_ptr};
 ghost use Rattle.cap_bytes.specs.Printing.{IsReadFault, Prints};
 ghost use Rattle.cap_tool.specs.BlockText.{block_list, block_refusal};
 ghost use Rattle.cap_tool.specs.ListText.{list_refusal, list_text};
@@ -12,7 +13,7 @@ ghost use Rattle.cap_tool.specs.JoinText.{join_refusal, join_text};
 ghost use Rattle.cap_tool.specs.MergeText.{merge_refusal, merge_text};
 ghost use Rattle.cap_tool.specs.Jobs.{tail_of};
 ghost use Rattle.capt_c.specs.Answers.{order_of, format_of};
-ghost use Rattle.capt_c.specs.Jobs.{JobEnds, Shown, by_memory, file_bytes};
+ghost use Rattle.capt_c.specs.Jobs.{IsTextClosed, JobEnds, Shown, by_memory, file_bytes};
 ghost use Rattle.capt_c.specs.Sources.{rest_of};
 
 use crate::answers::{MEMORY, MISUSE, Place, finish, format_of, nowhere, order_of, tail_of};
@@ -24,6 +25,7 @@ use cap_bytes::{Fault, Order, Sink, Tail};
 use cap_talks::{file_lines, report};
 use cap_tool::{blocks_to, convert_to, join_to, list_to, merge_to};
 use std::alloc::Global;
+use std::ptr::null;
 
 /// The bytes of a file.
 #[repr(C)]
@@ -70,6 +72,16 @@ fn by_memory(answer: Result<(), Fault>) -> Result<(), Fault>
     }
 }
 
+// Shows no text.
+fn empty(text: &mut Text)
+    ensures at { text.new.at ≡ null_ptr }
+    ensures len { text.new.len ≡ 0 }
+    ensures handle { text.new.handle ≡ text.old.handle }
+{
+    text.at = null();
+    text.len = 0;
+}
+
 /// Shows a text to the caller, and tells how the job ended that made it.
 pub(crate) fn show(
     alloc: Global,
@@ -78,8 +90,8 @@ pub(crate) fn show(
     answer: Result<(), Fault>,
     place: &mut Place,
 ) -> u32
-    ensures text { Shown (⟦<Grown as Sink>⟧.held sink) answer
-        text.new.len result place.new text.new.handle.kept.value }
+    ensures text { Shown (⟦<Grown as Sink>⟧.held sink) answer result place.new text.new
+        text.new.handle.kept.value }
     ensures read { (IsReadFault answer → ⊥) → result ≡ 3 → ⊥ }
 {
     let bytes = sink.into_bytes();
@@ -88,7 +100,7 @@ pub(crate) fn show(
     if text.handle.hold(alloc, Held::Text(bytes)) {
         finish(by_memory(answer), place)
     } else {
-        text.len = 0;
+        empty(text);
         *place = nowhere();
         MEMORY
     }
@@ -133,7 +145,7 @@ pub extern "C" fn capt_report(
         (endings_of_files (tail_of allow_cut) (map file_bytes files.now))
         (clocked_run (tail_of allow_cut) (map file_bytes files.now)))
         (report_refusal (clocked_run (tail_of allow_cut) (map file_bytes files.now))))
-        text.new.len result place.new text.new.handle.kept.value }
+        result place.new text.new }
     ensures read { result ≡ 3 → ⊥ }
     ensures misuse { ((1 ≤ length files.now) × (length files.now ≤ 32) → ⊥)
         → (result ≡ 6) × (text.new ≡ text.old) × (place.new ≡ place.old) }
@@ -170,7 +182,7 @@ pub extern "C" fn capt_info(
     ensures text { (1 ≤ length files.now) × (length files.now ≤ 32)
         → JobEnds (Tells (info_text (tail_of allow_cut) (map file_bytes files.now))
         (first_refusal (tail_of allow_cut) 1 (map file_bytes files.now)))
-        text.new.len result place.new text.new.handle.kept.value }
+        result place.new text.new }
     ensures read { result ≡ 3 → ⊥ }
     ensures misuse { ((1 ≤ length files.now) × (length files.now ≤ 32) → ⊥)
         → (result ≡ 6) × (text.new ≡ text.old) × (place.new ≡ place.old) }
@@ -215,7 +227,7 @@ pub extern "C" fn capt_merge(
     ensures text { (1 ≤ length files.now) × (length files.now ≤ 32)
         → JobEnds (Prints (merge_text (order_of big) (tail_of allow_cut) (map file_bytes files.now))
         (merge_refusal (tail_of allow_cut) (map file_bytes files.now)))
-        text.new.len result place.new text.new.handle.kept.value }
+        result place.new text.new }
     ensures read { result ≡ 3 → ⊥ }
     ensures misuse { ((1 ≤ length files.now) × (length files.now ≤ 32) → ⊥)
         → (result ≡ 6) × (text.new ≡ text.old) × (place.new ≡ place.old) }
@@ -260,7 +272,7 @@ pub extern "C" fn capt_join(
     ensures text { (1 ≤ length files.now) × (length files.now ≤ 32)
         → JobEnds (Prints (join_text (order_of big) (tail_of allow_cut) (map file_bytes files.now))
         (join_refusal (tail_of allow_cut) (map file_bytes files.now)))
-        text.new.len result place.new text.new.handle.kept.value }
+        result place.new text.new }
     ensures read { result ≡ 3 → ⊥ }
     ensures misuse { ((1 ≤ length files.now) × (length files.now ≤ 32) → ⊥)
         → (result ≡ 6) × (text.new ≡ text.old) × (place.new ≡ place.old) }
@@ -284,7 +296,7 @@ pub extern "C" fn capt_list(
 ) -> u32
     ensures text { JobEnds (Prints (list_text (tail_of allow_cut) bytes.now)
         (list_refusal (tail_of allow_cut) bytes.now))
-        text.new.len result place.new text.new.handle.kept.value }
+        result place.new text.new }
     ensures read { result ≡ 3 → ⊥ }
 {
     let mut sink = Grown::new(alloc);
@@ -303,7 +315,7 @@ pub extern "C" fn capt_blocks(
 ) -> u32
     ensures text { JobEnds (Prints (block_list (tail_of allow_cut) bytes.now)
         (block_refusal (tail_of allow_cut) bytes.now))
-        text.new.len result place.new text.new.handle.kept.value }
+        result place.new text.new }
     ensures read { result ≡ 3 → ⊥ }
 {
     let mut sink = Grown::new(alloc);
@@ -324,7 +336,7 @@ pub extern "C" fn capt_convert(
 ) -> u32
     ensures text { JobEnds (Prints (convert_text (format_of pcap) (order_of big) (tail_of allow_cut) bytes.now)
         (convert_refusal (format_of pcap) (tail_of allow_cut) bytes.now))
-        text.new.len result place.new text.new.handle.kept.value }
+        result place.new text.new }
     ensures read { result ≡ 3 → ⊥ }
 {
     let mut sink = Grown::new(alloc);
@@ -342,9 +354,8 @@ pub extern "C" fn capt_convert(
 /// Lets go a text. It may be closed already.
 #[unsafe(no_mangle)]
 pub extern "C" fn capt_text_close(alloc: Global, text: &mut Text)
-    ensures length { text.new.len ≡ 0 }
-    ensures closed { text.new.handle.kept.value ≡ None }
+    ensures { IsTextClosed text.new }
 {
-    text.len = 0;
+    empty(text);
     let _ = text.handle.take(alloc);
 }

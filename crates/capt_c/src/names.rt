@@ -47,7 +47,7 @@ fn rule_of(number: u32) -> Option<Rule>
 
 // Puts as much of a text into a buffer as it has room for, and returns how long the text is.
 fn put(text: &[u8], buffer: &mut [u8]) -> usize
-    ensures { PutsText text.now result (length buffer.old) buffer.new }
+    ensures { PutsText text.now result buffer.old buffer.new }
 {
     let count = min(text.len(), buffer.len());
     let (front, _) = text.split_at(count);
@@ -60,7 +60,7 @@ fn put(text: &[u8], buffer: &mut [u8]) -> usize
 /// such rule.
 #[unsafe(no_mangle)]
 pub extern "C" fn capt_rule_name(rule: u32, buffer: &mut [u8]) -> usize
-    ensures { NamesRule rule result (length buffer.old) buffer.new }
+    ensures { NamesRule rule result buffer.old buffer.new }
 {
     match rule_of(rule) {
         Some(rule) => put(rule.name().as_bytes(), buffer),
@@ -101,8 +101,8 @@ fn fault_of(status: u32, place: &Place) -> Option<Fault>
 #[unsafe(no_mangle)]
 pub extern "C" fn capt_error_text(status: u32, place: &Place, buffer: &mut [u8]) -> usize
     ensures text { (fault : Fault) → status_of fault ≡ status → place_of_fault fault ≡ place.now
-        → PutsText (fault_text fault) result (length buffer.old) buffer.new }
-    ensures none { ((fault : Fault) → status_of fault ≡ status → ⊥) → result ≡ 0 }
+        → PutsText (fault_text fault) result buffer.old buffer.new }
+    ensures none { ((fault : Fault) → status_of fault ≡ status → ⊥) → (result ≡ 0) × (buffer.new ≡ buffer.old) }
 {
     match fault_of(status, place) {
         Some(fault) => put(fault_line(fault).as_slice(), buffer),
@@ -113,7 +113,7 @@ pub extern "C" fn capt_error_text(status: u32, place: &Place, buffer: &mut [u8])
 /// Puts as much of the version into a buffer as it has room for, and returns how long it is.
 #[unsafe(no_mangle)]
 pub extern "C" fn capt_version(buffer: &mut [u8]) -> usize
-    ensures { PutsText (codes "1.0.0") result (length buffer.old) buffer.new }
+    ensures { PutsText (codes "1.0.0") result buffer.old buffer.new }
 {
     put(VERSION.as_bytes(), buffer)
 }

@@ -4,10 +4,11 @@ ghost use Rattle.cap_source.specs.Feed.{GivesHead, FeedKeeps};
 ghost use Rattle.cap_bytes.specs.declared.faults.Fault.{Fault};
 ghost use Rattle.cap_source.specs.declared.feeds.Head.{Head};
 ghost use Rattle.cap_tool.specs.Jobs.{tail_of};
+ghost use Rattle.capt_c.specs.Held.{IsClosed};
 ghost use Rattle.capt_c.specs.Packets.{StepsPacket};
 ghost use Rattle.capt_c.specs.Sources.{tells_of, input_coming, input_can_fail};
-ghost use Rattle.capt_c.specs.Reading.{Nexts, NextsMany, OpensCapture, EndTold, TellsEnd, status_of_step};
-ghost use Rattle.capt_c.specs.Reading.{place_of_step};
+ghost use Rattle.capt_c.specs.Reading.{Batch, EndTold, Misused, Nexts, NextsMany, OpensCapture, TellsEnd};
+ghost use Rattle.capt_c.specs.Reading.{place_of_step, status_of_step};
 
 use crate::answers::{DONE, MEMORY, MISUSE, PACKET, Place, nowhere, place_of, status_of, tail_of};
 use crate::batches::step_many;
@@ -23,7 +24,7 @@ use std::io::Stdin;
 /// Tells the next packet and passes it, if there is one.
 #[inline(always)]
 pub fn step<F: PacketFeed>(feed: &mut F, packet: &mut Packet) -> Result<bool, Fault>
-    ensures answer { StepsPacket (F.feed feed.old) result packet.new (F.feed feed.new) }
+    ensures answer { StepsPacket (F.feed feed.old) packet.old result packet.new (F.feed feed.new) }
     ensures keeps { FeedKeeps (F.feed feed.old) (F.feed feed.new) }
 {
     match next_packet(feed)? {
@@ -55,8 +56,8 @@ fn told(answer: Result<bool, Fault>, place: &mut Place) -> u32
 
 // Tells the next packet of what is held, if that is a capture.
 fn next_of(held: &mut Held, packet: &mut Packet, place: &mut Place) -> u32
-    ensures { Nexts (λ c. ⟦<Capture<Input> as PacketFeed>⟧.feed c) (Some held.old) result packet.new place.new
-        (Some held.new) }
+    ensures { Nexts (λ c. ⟦<Capture<Input> as PacketFeed>⟧.feed c) (Some held.old) packet.old place.old result
+        packet.new place.new (Some held.new) }
 {
     match held {
         Held::Capture(capture) => told(step(capture, packet), place),
@@ -79,7 +80,8 @@ pub struct End {
 
 // Opens a capture over what `input` gives. What the handle held is let go.
 fn open(alloc: Global, reader: &mut Handle, input: Input, allow_cut: bool) -> u32
-    ensures { OpensCapture (λ c. ⟦<Capture<Input> as PacketFeed>⟧.feed c) (tail_of allow_cut)
+    ensures closed { result ≡ 5 → IsClosed reader.new.kept.value reader.new.kept.at reader.new.is_open }
+    ensures opens { OpensCapture (λ c. ⟦<Capture<Input> as PacketFeed>⟧.feed c) (tail_of allow_cut)
         (tells_of input) (input_coming input) (input_can_fail input) result reader.new.kept.value }
 {
     let capture = Capture::new(alloc, input, 1, tail_of(allow_cut));
@@ -98,7 +100,8 @@ pub extern "C" fn capt_open(
     bytes: &'static [u8],
     allow_cut: bool,
 ) -> u32
-    ensures { OpensCapture (λ c. ⟦<Capture<Input> as PacketFeed>⟧.feed c) (tail_of allow_cut)
+    ensures closed { result ≡ 5 → IsClosed reader.new.kept.value reader.new.kept.at reader.new.is_open }
+    ensures opens { OpensCapture (λ c. ⟦<Capture<Input> as PacketFeed>⟧.feed c) (tail_of allow_cut)
         true bytes.now false result reader.new.kept.value }
 {
     open(alloc, reader, Input::Memory(Slice::new(bytes)), allow_cut)
@@ -112,7 +115,8 @@ pub extern "C" fn capt_open_stdin(
     reader: &mut Handle,
     allow_cut: bool,
 ) -> u32
-    ensures { OpensCapture (λ c. ⟦<Capture<Input> as PacketFeed>⟧.feed c) (tail_of allow_cut)
+    ensures closed { result ≡ 5 → IsClosed reader.new.kept.value reader.new.kept.at reader.new.is_open }
+    ensures opens { OpensCapture (λ c. ⟦<Capture<Input> as PacketFeed>⟧.feed c) (tail_of allow_cut)
         false [] true result reader.new.kept.value }
 {
     open(
@@ -131,8 +135,8 @@ pub extern "C" fn capt_next(
     packet: &mut Packet,
     place: &mut Place,
 ) -> u32
-    ensures { Nexts (λ c. ⟦<Capture<Input> as PacketFeed>⟧.feed c) reader.old.kept.value result packet.new place.new
-        reader.new.kept.value }
+    ensures { Nexts (λ c. ⟦<Capture<Input> as PacketFeed>⟧.feed c) reader.old.kept.value packet.old place.old result
+        packet.new place.new reader.new.kept.value }
 {
     match reader.take(alloc) {
         Some(held) => {
@@ -141,7 +145,7 @@ pub extern "C" fn capt_next(
             reader.put(held);
             status
         }
-        None => MISUSE,
+        None => MISUSE, // packet and place stay
     }
 }
 
@@ -153,8 +157,9 @@ fn next_many_of(
     place: &mut Place,
 ) -> u32
     requires { 0 < length packets.old }
-    ensures { NextsMany (λ c. ⟦<Capture<Input> as PacketFeed>⟧.feed c)
-        (Some held.old) result count.new packets.new place.new (Some held.new) }
+    ensures { NextsMany (λ c. ⟦<Capture<Input> as PacketFeed>⟧.feed c) (Some held.old)
+        (record { count = count.old; packets = packets.old; place = place.old }) result
+        (record { count = count.new; packets = packets.new; place = place.new }) (Some held.new) }
 {
     match held {
         Held::Capture(capture) => told(step_many(capture, packets, count), place),
@@ -172,9 +177,14 @@ pub extern "C" fn capt_next_many(
     count: &mut usize,
     place: &mut Place,
 ) -> u32
-    ensures { 0 < length packets.old
-        → NextsMany (λ c. ⟦<Capture<Input> as PacketFeed>⟧.feed c) reader.old.kept.value result count.new packets.new
-        place.new reader.new.kept.value }
+    ensures nexts { 0 < length packets.old
+        → NextsMany (λ c. ⟦<Capture<Input> as PacketFeed>⟧.feed c) reader.old.kept.value
+        (record { count = count.old; packets = packets.old; place = place.old }) result
+        (record { count = count.new; packets = packets.new; place = place.new }) reader.new.kept.value }
+    ensures misuse { length packets.old ≡ 0
+        → Misused {X = Batch} result reader.old.kept.value reader.new.kept.value
+        (record { count = count.old; packets = packets.old; place = place.old })
+        (record { count = count.new; packets = packets.new; place = place.new }) }
 {
     if packets.is_empty() {
         return MISUSE;
@@ -193,7 +203,7 @@ pub extern "C" fn capt_next_many(
 /// Lets go what a handle holds. It may be closed already.
 #[unsafe(no_mangle)]
 pub extern "C" fn capt_close(alloc: Global, handle: &mut Handle)
-    ensures { handle.new.kept.value ≡ None }
+    ensures { IsClosed handle.new.kept.value handle.new.kept.at handle.new.is_open }
 {
     let _ = handle.take(alloc);
 }
@@ -203,7 +213,7 @@ fn tell_end(capture: &mut Capture<Input>, ending: &mut End) -> u32
     ensures answer { (answer : Result Head Fault)
         × GivesHead (⟦<Capture<Input> as PacketFeed>⟧.feed capture.old) answer
         (⟦<Capture<Input> as PacketFeed>⟧.feed capture.new)
-        × EndTold (⟦<Capture<Input> as PacketFeed>⟧.feed capture.new) answer result ending.new }
+        × EndTold (⟦<Capture<Input> as PacketFeed>⟧.feed capture.new) ending.old answer result ending.new }
     ensures keeps { FeedKeeps (⟦<Capture<Input> as PacketFeed>⟧.feed capture.old)
         (⟦<Capture<Input> as PacketFeed>⟧.feed capture.new) }
 {
@@ -227,7 +237,7 @@ fn tell_end(capture: &mut Capture<Input>, ending: &mut End) -> u32
 
 // Tells how what is held ended, if that is a capture of which nothing comes next.
 fn end_of(held: &mut Held, ending: &mut End) -> u32
-    ensures { TellsEnd (λ c. ⟦<Capture<Input> as PacketFeed>⟧.feed c) (Some held.old) result ending.new
+    ensures { TellsEnd (λ c. ⟦<Capture<Input> as PacketFeed>⟧.feed c) (Some held.old) ending.old result ending.new
         (Some held.new) }
 {
     match held {
@@ -239,8 +249,8 @@ fn end_of(held: &mut Held, ending: &mut End) -> u32
 /// Tells how a capture ended of which all packets were told.
 #[unsafe(no_mangle)]
 pub extern "C" fn capt_end(alloc: Global, reader: &mut Handle, ending: &mut End) -> u32
-    ensures { TellsEnd (λ c. ⟦<Capture<Input> as PacketFeed>⟧.feed c) reader.old.kept.value result ending.new
-        reader.new.kept.value }
+    ensures { TellsEnd (λ c. ⟦<Capture<Input> as PacketFeed>⟧.feed c) reader.old.kept.value ending.old result
+        ending.new reader.new.kept.value }
 {
     match reader.take(alloc) {
         Some(held) => {

@@ -4,6 +4,7 @@ ghost use Rattle.cap_merge.specs.inner.Readers.{IsUnreadRun};
 ghost use Rattle.cap_talks.specs.inner.table.Stepping.{TableStands};
 ghost use Rattle.cap_talks.specs.inner.table.TableView.{table_of};
 ghost use Rattle.cap_tool.specs.Jobs.{tail_of};
+ghost use Rattle.capt_c.specs.Held.{IsClosed};
 ghost use Rattle.capt_c.specs.Tables.{OpensTable, StepsTable, WritesTable, reader_of_file, status_of_step};
 ghost use Rattle.capt_c.specs.Tables.{place_of_step};
 
@@ -47,6 +48,7 @@ pub extern "C" fn capt_table_open(
 ) -> u32
     ensures opens { (1 ≤ length files.now) × (length files.now ≤ 32)
         → OpensTable (tail_of allow_cut) files.now result table.new.kept.value }
+    ensures closed { result ≡ 5 → IsClosed table.new.kept.value table.new.kept.at table.new.is_open }
     ensures misuse { ((1 ≤ length files.now) × (length files.now ≤ 32) → ⊥)
         → (result ≡ 6) × (table.new.kept.value ≡ table.old.kept.value) }
 {
@@ -88,7 +90,7 @@ fn told(answer: Result<Step, Fault>, place: &mut Place) -> u32
 
 // Takes the next packet of what is held, if that is a table.
 fn step_of(held: &mut Held, place: &mut Place) -> u32
-    ensures { StepsTable (Some held.old) result place.new (Some held.new) }
+    ensures { StepsTable (Some held.old) place.old result place.new (Some held.new) }
 {
     match held {
         Held::Table(table) => told(table.step(), place),
@@ -99,7 +101,7 @@ fn step_of(held: &mut Held, place: &mut Place) -> u32
 /// Takes the packet of a table that comes next, in the order of exact time.
 #[unsafe(no_mangle)]
 pub extern "C" fn capt_table_step(alloc: Global, table: &mut Handle, place: &mut Place) -> u32
-    ensures { StepsTable table.old.kept.value result place.new table.new.kept.value }
+    ensures { StepsTable table.old.kept.value place.old result place.new table.new.kept.value }
 {
     match table.take(alloc) {
         Some(held) => {
@@ -108,13 +110,13 @@ pub extern "C" fn capt_table_step(alloc: Global, table: &mut Handle, place: &mut
             table.put(held);
             status
         }
-        None => MISUSE,
+        None => MISUSE, // place stays
     }
 }
 
 // Shows the report so far of what is held, if that is a table.
 fn write_of(alloc: Global, held: &Held, text: &mut Text, place: &mut Place) -> u32
-    ensures { WritesTable (Some held.now) text.new.len result place.new text.new.handle.kept.value }
+    ensures { WritesTable (Some held.now) text.old place.old result text.new place.new }
 {
     match held {
         Held::Table(table) => {
@@ -134,7 +136,7 @@ pub extern "C" fn capt_table_write(
     text: &mut Text,
     place: &mut Place,
 ) -> u32
-    ensures text { WritesTable table.old.kept.value text.new.len result place.new text.new.handle.kept.value }
+    ensures text { WritesTable table.old.kept.value text.old place.old result text.new place.new }
     ensures table { table.new.kept.value ≡ table.old.kept.value }
 {
     match table.take(alloc) {
@@ -143,6 +145,6 @@ pub extern "C" fn capt_table_write(
             table.put(held);
             status
         }
-        None => MISUSE,
+        None => MISUSE, // text and place stay
     }
 }

@@ -163,6 +163,7 @@ StepsFed old bytes (Ok (steps.Packet meta place size)) new =
 StepsFed old bytes (Ok steps.Short) new =
     (old.ended ≡ false) × AreShort (items_after old bytes)
     × ((later : List ℕ) → items_after old (bytes ++ later) ≡ items_after new (bytes ++ later))
+    × (length bytes < 2 ^ 19)
 StepsFed old bytes (Ok steps.Ends) new =
     ((later : List ℕ) → MayBeFed old later → items_after old (bytes ++ later) ≡ [])
     × ((rest : List ℕ) → items_after new rest ≡ [])

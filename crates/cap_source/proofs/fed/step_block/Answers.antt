@@ -1,6 +1,7 @@
-use Rattle.std.proofs.Common.{◌-◌, min, length, is_some, Ok, refl, sym, ◌∙◌, subst}
+use Rattle.std.proofs.Common.{◌-◌, min, length, is_some, Ok, Some, ap, refl, sym, ◌∙◌, subst}
 use Rattle.cap_blocks.specs.Grammar.{is_known_kind}
 use Rattle.cap_blocks.proofs.Faults.{block_fault-header}
+use Rattle.cap_source.proofs.FedShort.{block-header-few}
 use Rattle.cap_source.proofs.FedStops.{broken-keeps, broken-sound}
 use Rattle.cap_source.proofs.FedBlockSteps.{block-breaks, not-read, skip-begins, skip-least, skip-sound}
 use Rattle.cap_source.specs.declared.fed.FedStep.{FedStep}
@@ -12,6 +13,7 @@ returns-in-Err-clause-step c =
     block-breaks (course_of c.args.course.now) c.args.section c.args.bytes.now c.requires.stage c.in-Err.rule
     c.break_off.result (course_of c.break_off.new.course)
     (block_fault-header c.args.section c.args.course.now.offset c.args.bytes.now c.in-Err.rule c.in-Err.ensures)
+    (λ cut. block-header-few c.args.section c.args.course.now.offset c.args.bytes.now (c.in-Err.ensures ∙ ap Some cut))
     (rw c.is_some.ensures at c.break_off.ensures)
 
 pub returns-in-Err-clause-keeps : goal.returns-in-Err-clause-keeps

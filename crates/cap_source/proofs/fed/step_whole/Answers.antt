@@ -1,7 +1,8 @@
-use Rattle.std.proofs.Common.{Some, sym, ◌∙◌}
+use Rattle.std.proofs.Common.{Some, ap, sym, ◌∙◌}
 use Rattle.cap_blocks.proofs.Looking.{IsHeader-parsed}
 use Rattle.cap_blocks.proofs.Whole.{fault-cut, fault-whole}
 use Rattle.cap_bytes.specs.declared.faults.Rule.TheVariants.{Cut}
+use Rattle.cap_source.proofs.FedShort.{whole-few}
 use Rattle.cap_source.proofs.FedStops.{broken-keeps, broken-sound}
 use Rattle.cap_source.proofs.FedBlockSteps.{block-breaks, header-facts, taken}
 use Rattle.cap_source.specs.inner.FedSteps.{course_of}
@@ -13,6 +14,9 @@ returns-then-bytes-block-clause-step c =
     c.break_off.result (course_of c.break_off.new.course)
     (fault-cut c.args.section c.args.course.now.offset c.args.bytes.now c.args.block c.requires.header
     c.if-bytes-block.true)
+    (λ cut. whole-few c.args.section c.args.course.now.offset c.args.bytes.now c.args.block (λ k. (c.type_inv.bytes k).fits)
+    c.requires.header c.requires.read (fault-cut c.args.section c.args.course.now.offset c.args.bytes.now c.args.block
+    c.requires.header c.if-bytes-block.true))
     (rw c.is_some-inside.ensures at c.break_off.ensures)
 
 pub body_rule-requires-clause-header : goal.body_rule-requires-clause-header
@@ -37,6 +41,10 @@ returns-in-Some-clause-step c =
     c.break_off-in-Some.result (course_of c.break_off-in-Some.new.course)
     (fault-whole c.args.section c.args.course.now.offset c.args.bytes.now c.args.block (Some c.in-Some.rule)
     c.requires.header (sym c.body_rule.ensures ∙ c.in-Some.is))
+    (λ cut. whole-few c.args.section c.args.course.now.offset c.args.bytes.now c.args.block (λ k. (c.type_inv.bytes k).fits)
+    c.requires.header c.requires.read
+    (fault-whole c.args.section c.args.course.now.offset c.args.bytes.now c.args.block (Some c.in-Some.rule)
+    c.requires.header (sym c.body_rule.ensures ∙ c.in-Some.is) ∙ ap Some cut))
     (rw c.is_some-inside.ensures at c.break_off-in-Some.ensures)
 
 pub returns-in-Some-clause-keeps : goal.returns-in-Some-clause-keeps

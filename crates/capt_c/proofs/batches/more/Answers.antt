@@ -2,7 +2,7 @@ use Rattle.std.proofs.Common.{◌≡◌, ◌∷◌, List, drop, sym, ap, ◌∙�
 use Rattle.std.proofs.lemmas.List.{take_more_set, length-set}
 use Rattle.cap_source.specs.Feed.{Item, packet}
 use Rattle.cap_source.proofs.Onward.{Keeps-trans}
-use Rattle.capt_c.proofs.Telling.{Told-more}
+use Rattle.capt_c.proofs.Telling.{Told-more, others-kept}
 use Rattle.capt_c.proofs.batches.more.Goals as goal
 
 -- the next packet is told, and the others come after it
@@ -22,6 +22,7 @@ loop-count-preserved g c =
           ∙ ap (λ (xs : List Item). packet meta mid.frame ∷ xs) (sym (c.pass.ensures.passes.items told_mid)) in
           rw (take_more_set c.loop-count.packets c.loop-count.count c.packet_of.result c.loop-count-test.true)
           (Told-more _ _ _ (i.3 told) meta mid.frame _ c.packet_of.result next c.packet_of.ensures),
+      others-kept c.loop-count.packets c.args.packets.now c.loop-count.count c.packet_of.result i.4,
     )
 
 pub returns-else-shows_packet-clause-keeps : goal.returns-else-shows_packet-clause-keeps

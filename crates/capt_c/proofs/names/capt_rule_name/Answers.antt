@@ -15,5 +15,5 @@ returns-in-Some c = record {
 pub returns-in-None : goal.returns-in-None
 returns-in-None c = record {
   name = λ rule is. absurd (none_of_a_number rule c.args.rule (c.rule_of.ensures.none c.in-None.is) is);
-  none = λ no. refl;
+  none = λ no. (refl, refl);
 }

@@ -21,4 +21,5 @@ returns-in-Some-clause-answer g c =
             let rest = sym (passed ∙ ap (λ (xs : List Item). drop 1 xs) shown.0.items) in
             (mid.frame, shown.1 ∙ ap (λ (xs : List Item). packet c.in-Some.meta mid.frame ∷ xs) rest),
       ),
+      tt,
     )
