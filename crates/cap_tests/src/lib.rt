@@ -63,6 +63,8 @@ mod source;
 mod steps;
 pub mod surface;
 #[cfg(test)]
+mod systems;
+#[cfg(test)]
 mod time;
 #[cfg(test)]
 mod vectors;

@@ -1,20 +1,18 @@
 -- Files that are checked, as a job has them, and as they are opened by their names.
 use Rattle.std.proofs.Common.{◌≡◌, ◌<◌, ◌+◌, ℕ, Bool, true, false, List, [], ◌∷◌, ◌++◌, map, length, Option, Some}
-use Rattle.std.proofs.Common.{None, Ok, Err, Result, get_or, refl, sym, ap, subst, ◌∙◌, arith, length-append}
-use Rattle.std.proofs.lemmas.List.{length-map, map-append}
+use Rattle.std.proofs.Common.{Ok, Err, get_or, refl, sym, ap, subst, ◌∙◌, arith, length-append}
+use Rattle.std.specs.Borrow.{Bor}
+use Rattle.std.proofs.lemmas.List.{get_or-map, length-map, map-append}
 use Rattle.std.specs.Prelude.{◌&&◌, option_map}
 use Rattle.std.specs.List.{list_all}
 use Rattle.cap_bytes.specs.declared.faults.Fault.{Fault}
-use Rattle.cap_bytes.specs.declared.faults.Fault.TheVariants.{Memory, Read, Refused, Write}
 use Rattle.cap_bytes.specs.declared.faults.Tail.{Tail}
 use Rattle.cap_check.proofs.Following.{ArePrinted, printed-all, printed-fault, printed-more, printed-none}
 use Rattle.cap_check.specs.CheckText.{WritesCheck, WritesChecks}
-use Rattle.cap_check.specs.Checking.{IsChecked}
-use Rattle.cap_check.specs.declared.checked.Check.{Check}
+use Rattle.cap_check.specs.Checking.{Opened}
 use Rattle.cap_print.specs.declared.forms.Form.{Form}
-use Rattle.cap_tool.specs.CheckedNames.{AreOpenedBy, ChecksName, ChecksNames, IsOpenedBy, system_file}
+use Rattle.cap_tool.specs.CheckedNames.{AreGiven, ChecksName, ChecksNames}
 use Rattle.cap_tool.specs.Jobs.{opened_files, whole_by, whole_finding}
-use Rattle.cap_tool.specs.declared.streams.Input.{Input}
 
 -- files all of which tell their bytes
 pub opened-are : {R : Type 0} (tells : R → Bool) (coming : R → List ℕ) (can_fail : R → Bool) (files : List R)
@@ -38,110 +36,115 @@ whole-is true = refl
 whole-is false = refl
 
 -- one file more is opened, or could not be
-pub AreOpenedBy-more : (is_closed : Bool) (names : List (List ℕ)) (inputs : List (Option Input)) (name : List ℕ)
-    (input : Option Input)
-    → AreOpenedBy is_closed names inputs → length inputs < length names → name ≡ get_or names (length inputs) []
-    → IsOpenedBy is_closed name input
-    → AreOpenedBy is_closed names (inputs ++ input ∷ [])
-AreOpenedBy-more is_closed [] inputs name input are within is one = absurd (none (length inputs) within)
+pub AreGiven-more : {R : Type 0} (gives : List ℕ → Option R → Type 0) (names : List (List ℕ))
+    (readers : List (Option R)) (name : List ℕ) (reader : Option R)
+    → AreGiven gives names readers → length readers < length names → name ≡ get_or names (length readers) []
+    → gives name reader
+    → AreGiven gives names (readers ++ reader ∷ [])
+AreGiven-more gives [] readers name reader are within is one = absurd (none (length readers) within)
   where
     none : (n : ℕ) → n < 0 → ⊥
     none n below = omega (arith, below)
-AreOpenedBy-more is_closed (n ∷ names) [] name input are within is one =
-    (subst (λ l. IsOpenedBy is_closed l input) is one, tt)
-AreOpenedBy-more is_closed (n ∷ names) (i ∷ inputs) name input are within is one =
-    (are.0, AreOpenedBy-more is_closed names inputs name input are.1 (omega (arith, within)) is one)
-
--- what is found of a file of the system, of which nothing is told before
-known-check : {W : Type 0} (told : W → Bool) (coming : W → List ℕ) (inner : W → Input) (source : Option W)
-    (tail : Tail) (file : ℕ) (check : Check)
-    → IsChecked tail file
-    (option_map (λ s. record { told = told s; bytes = coming s; can_fail = true }) source) check
-    → IsChecked tail file (option_map system_file (option_map inner source)) check
-known-check told coming inner None tail file check is = is
-known-check told coming inner (Some s) tail file check is = (is.0, λ t. absurd (cc))
-
-pub known-written : {W : Type 0} (told : W → Bool) (coming : W → List ℕ) (inner : W → Input) (source : Option W)
-    (form : Form) (tail : Tail) (file : ℕ) (old : List ℕ) (result : Result Bool Fault) (new : List ℕ)
-    → WritesCheck form tail file
-    (option_map (λ s. record { told = told s; bytes = coming s; can_fail = true }) source) old result new
-    → WritesCheck form tail file (option_map system_file (option_map inner source)) old result new
-known-written told coming inner source form tail file old (Ok whole) new wrote =
-    (wrote.0, known-check told coming inner source tail file wrote.0 wrote.1, wrote.2, wrote.3)
-known-written told coming inner source form tail file old (Err (Refused refusal)) new wrote = wrote
-known-written told coming inner source form tail file old (Err (Read f offset)) new wrote = wrote
-known-written told coming inner source form tail file old (Err Write) new wrote =
-    (wrote.0, known-check told coming inner source tail file wrote.0 wrote.1, wrote.2)
-known-written told coming inner source form tail file old (Err Memory) new wrote = wrote
+AreGiven-more gives (n ∷ names) [] name reader are within is one = (subst (λ l. gives l reader) is one, tt)
+AreGiven-more gives (n ∷ names) (i ∷ readers) name reader are within is one =
+    (are.0, AreGiven-more gives names readers name reader are.1 (omega (arith, within)) is one)
 
 -- The first files of some names were opened or could not be, and were checked, and their lines are printed.
-pub record AreNamed (is_closed : Bool) (form : Form) (tail : Tail) (names : List (List ℕ)) (place : ℕ) (whole : Bool)
-    (old held : List ℕ) : Type 0 where
-  pub inputs : List (Option Input)
-  pub opened : AreOpenedBy is_closed names inputs
-  pub count : length inputs ≡ place
-  pub printed : ArePrinted form tail (map (option_map system_file) inputs) whole old held
+pub record AreNamed {R : Type 0} (gives : List ℕ → Option R → Type 0) (known : R → Opened) (form : Form) (tail : Tail)
+    (names : List (List ℕ)) (place : ℕ) (whole : Bool) (old held : List ℕ) : Type 0 where
+  pub readers : List (Option R)
+  pub opened : AreGiven gives names readers
+  pub count : length readers ≡ place
+  pub printed : ArePrinted form tail (map (option_map known) readers) whole old held
 
 -- none was
-pub named-none : (is_closed : Bool) (form : Form) (tail : Tail) (names : List (List ℕ)) (held : List ℕ)
-    → AreNamed is_closed form tail names 0 true held held
-named-none is_closed form tail names held =
-    record { inputs = []; opened = tt; count = refl; printed = printed-none form tail held }
+pub named-none : {R : Type 0} (gives : List ℕ → Option R → Type 0) (known : R → Opened) (form : Form) (tail : Tail)
+    (names : List (List ℕ)) (held : List ℕ)
+    → AreNamed gives known form tail names 0 true held held
+named-none gives known form tail names held =
+    record { readers = []; opened = tt; count = refl; printed = printed-none form tail held }
 
 -- one file more is
-pub named-more : (is_closed : Bool) (form : Form) (tail : Tail) (names : List (List ℕ)) (place : ℕ) (whole one : Bool)
-    (old mid new : List ℕ)
-    → place < length names → AreNamed is_closed form tail names place whole old mid
-    → ChecksName is_closed form tail names place mid (Ok one) new
-    → AreNamed is_closed form tail names (place + 1) (whole && one) old new
-named-more is_closed form tail names place whole one old mid new within a next =
-    let files = map (option_map system_file) a.inputs in
+pub named-more : {R : Type 0} (gives : List ℕ → Option R → Type 0) (known : R → Opened) (form : Form) (tail : Tail)
+    (names : List (List ℕ)) (place : ℕ) (whole one : Bool) (old mid new : List ℕ)
+    → place < length names → AreNamed gives known form tail names place whole old mid
+    → ChecksName gives known form tail names place mid (Ok one) new
+    → AreNamed gives known form tail names (place + 1) (whole && one) old new
+named-more gives known form tail names place whole one old mid new within a next =
+    let files = map (option_map known) a.readers in
     let number : place + 1 ≡ 1 + length files =
-    omega (arith, a.count, length-map a.inputs (option_map system_file)) in
+    omega (arith, a.count, length-map a.readers (option_map known)) in
     record {
-      inputs = a.inputs ++ next.input ∷ [];
-      opened = AreOpenedBy-more is_closed names a.inputs (get_or names place []) next.input a.opened
+      readers = a.readers ++ next.reader ∷ [];
+      opened = AreGiven-more gives names a.readers (get_or names place []) next.reader a.opened
           (omega (arith, within, a.count)) (ap (λ n. get_or names n []) (sym a.count)) next.opened;
-      count = length-append a.inputs (next.input ∷ []) ∙ ap (λ n. n + 1) a.count;
+      count = length-append a.readers (next.reader ∷ []) ∙ ap (λ n. n + 1) a.count;
       printed = subst (λ l. ArePrinted form tail l (whole && one) old new)
-          (sym (map-append (option_map system_file) a.inputs (next.input ∷ [])))
-          (printed-more form tail files (option_map system_file next.input) whole one old mid new a.printed
-          (subst (λ n. WritesCheck form tail n (option_map system_file next.input) mid (Ok one) new) number
-          next.checks));
+          (sym (map-append (option_map known) a.readers (next.reader ∷ [])))
+          (printed-more form tail files (option_map known next.reader) whole one old mid new a.printed
+          (subst (λ n. WritesCheck form tail n (option_map known next.reader) mid (Ok one) new) number next.checks));
     }
 
 -- a growth is refused or a write fails
-pub named-fault : (is_closed : Bool) (form : Form) (tail : Tail) (names : List (List ℕ)) (place : ℕ) (whole : Bool)
-    (fault : Fault) (old mid new : List ℕ)
-    → place < length names → AreNamed is_closed form tail names place whole old mid
-    → ChecksName is_closed form tail names place mid (Err fault) new
-    → ChecksNames is_closed form tail names old (Err fault) new
-named-fault is_closed form tail names place whole fault old mid new within a next =
-    let files = map (option_map system_file) a.inputs in
+pub named-fault : {R : Type 0} (gives : List ℕ → Option R → Type 0) (known : R → Opened) (form : Form) (tail : Tail)
+    (names : List (List ℕ)) (place : ℕ) (whole : Bool) (fault : Fault) (old mid new : List ℕ)
+    → place < length names → AreNamed gives known form tail names place whole old mid
+    → ChecksName gives known form tail names place mid (Err fault) new
+    → ChecksNames gives known form tail names old (Err fault) new
+named-fault gives known form tail names place whole fault old mid new within a next =
+    let files = map (option_map known) a.readers in
     let number : place + 1 ≡ 1 + length files =
-    omega (arith, a.count, length-map a.inputs (option_map system_file)) in
+    omega (arith, a.count, length-map a.readers (option_map known)) in
     record {
-      inputs = a.inputs ++ next.input ∷ [];
-      opened = AreOpenedBy-more is_closed names a.inputs (get_or names place []) next.input a.opened
+      readers = a.readers ++ next.reader ∷ [];
+      opened = AreGiven-more gives names a.readers (get_or names place []) next.reader a.opened
           (omega (arith, within, a.count)) (ap (λ n. get_or names n []) (sym a.count)) next.opened;
       all = tt;
       checks = subst (λ l. WritesChecks form tail l old (Err fault) new)
-          (sym (map-append (option_map system_file) a.inputs (next.input ∷ [])))
-          (printed-fault form tail files [] (option_map system_file next.input) whole fault old mid new a.printed
-          (subst (λ n. WritesCheck form tail n (option_map system_file next.input) mid (Err fault) new) number
+          (sym (map-append (option_map known) a.readers (next.reader ∷ [])))
+          (printed-fault form tail files [] (option_map known next.reader) whole fault old mid new a.printed
+          (subst (λ n. WritesCheck form tail n (option_map known next.reader) mid (Err fault) new) number
           next.checks));
     }
 
 -- all are
-pub named-all : (is_closed : Bool) (form : Form) (tail : Tail) (names : List (List ℕ)) (place : ℕ) (whole : Bool)
-    (old new : List ℕ)
-    → place ≡ length names → AreNamed is_closed form tail names place whole old new
-    → ChecksNames is_closed form tail names old (Ok (whole_finding whole)) new
-named-all is_closed form tail names place whole old new over a =
+pub named-all : {R : Type 0} (gives : List ℕ → Option R → Type 0) (known : R → Opened) (form : Form) (tail : Tail)
+    (names : List (List ℕ)) (place : ℕ) (whole : Bool) (old new : List ℕ)
+    → place ≡ length names → AreNamed gives known form tail names place whole old new
+    → ChecksNames gives known form tail names old (Ok (whole_finding whole)) new
+named-all gives known form tail names place whole old new over a =
     record {
-      inputs = a.inputs;
+      readers = a.readers;
       opened = a.opened;
       all = a.count ∙ over;
-      checks = subst (λ r. WritesChecks form tail (map (option_map system_file) a.inputs) old r new)
+      checks = subst (λ r. WritesChecks form tail (map (option_map known) a.readers) old r new)
           (sym (whole-is whole)) (printed-all form tail _ whole old new a.printed);
     }
+
+-- what is given for the name at a place of a job's files is what is given for that name among the texts
+pub given-at : {R : Type 0} (gives : List ℕ → Option R → Type 0) (names items : List (Bor (List ℕ))) (place : ℕ)
+    (none : Bor (List ℕ)) (found reader : Option R)
+    → names ≡ items → place < length items → gives (get_or names place none).now found → reader ≡ found
+    → gives (get_or (map (λ n. n.now) items) place []) reader
+given-at gives names items place none found reader same within given is =
+    subst (λ r. gives (get_or (map (λ n. n.now) items) place []) r) (sym is)
+    (subst (λ name. gives name found) (sym (get_or-map (λ n. n.now) items place none [] within))
+    (subst (λ l. gives (get_or l place none).now found) same given))
+
+-- one file more of some that were all opened
+pub next-given : {R : Type 0} (gives : List ℕ → Option R → Type 0) (names : List (Bor (List ℕ))) (old new : List R)
+    (place : ℕ) (none : Bor (List ℕ)) (input : R) (found : Option R)
+    → place < length names → AreGiven gives (map (λ n. n.now) names) (map Some old) → length old ≡ place
+    → gives (get_or names place none).now found → found ≡ Some input → new ≡ old ++ input ∷ []
+    → AreGiven gives (map (λ n. n.now) names) (map Some new)
+next-given gives names old new place none input found below are count given is all =
+    let texts = map (λ n. n.now) names in
+    let same : length (map Some old) ≡ place = length-map old Some ∙ count in
+    let within : length (map Some old) < length texts =
+    omega (arith, below, same, length-map names (λ n. n.now)) in
+    let name_is : (get_or names place none).now ≡ get_or texts (length (map Some old)) [] =
+    sym (ap (λ n. get_or texts n []) same ∙ get_or-map (λ n. n.now) names place none [] below) in
+    subst (λ l. AreGiven gives texts (map Some l)) (sym all)
+    (subst (λ l. AreGiven gives texts l) (sym (map-append Some old (input ∷ [])))
+    (AreGiven-more gives texts (map Some old) (get_or names place none).now (Some input) are within name_is
+    (subst (λ r. gives (get_or names place none).now r) is given)))

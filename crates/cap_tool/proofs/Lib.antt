@@ -11,3 +11,4 @@ pub mod Telling
 pub mod Pieces
 pub mod Escaping
 pub mod Paths
+mod Running

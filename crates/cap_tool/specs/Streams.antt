@@ -1,10 +1,8 @@
 -- The opening of a run's files and of its output.
-use Rattle.std.specs.Prelude.{◌≡◌, ◌≤◌, ◌-◌, ℕ, List, [], Bool, true, false, codes, get_or, length, map, IsFalse}
+use Rattle.std.specs.Prelude.{◌≡◌, ◌≤◌, ◌-◌, ℕ, List, [], Bool, true, false, codes, get_or, length, Option, None}
 use Rattle.std.specs.Prelude.{IsTrue}
 use Rattle.std.specs.Str.{bytes_eq}
-use Rattle.cap_bytes.specs.Tracked.{tracked_inner}
 use Rattle.cap_bytes.specs.declared.faults.Fault.TheVariants as faults
-use Rattle.cap_bytes.specs.declared.streams.Tracked.{Tracked}
 use Rattle.cap_tool.specs.declared.outcomes.Outcome.{Outcome}
 use Rattle.cap_tool.specs.declared.outcomes.Outcome.TheVariants as outcomes
 use Rattle.cap_tool.specs.declared.streams.Input.{Input}
@@ -20,10 +18,6 @@ is_dash name = bytes_eq name (codes "-")
 abbrev pub is_standard : Input → Bool
 is_standard (inputs.File file) = false
 is_standard (inputs.Standard standard) = true
-
--- which of some inputs are standard input
-abbrev pub standards_of : List (Tracked Input) → List Bool
-standards_of sources = map (λ source. is_standard (tracked_inner source)) sources
 
 -- it is a file that was created
 abbrev pub IsOutFile : Output → Type 0
@@ -49,12 +43,12 @@ StopsAtDash names (outcomes.Fault fault) = ⊥
 StopsAtDash names (outcomes.Open n) = (1 ≤ n) × (n ≤ length names) × IsTrue (is_dash (get_or names (n - 1) []))
 StopsAtDash names outcomes.Create = ⊥
 
--- the file of one of those names, which isn't `-`, could not be opened, or there was no memory
-abbrev pub StopsOpening : List (List ℕ) → Outcome → Type 0
-StopsOpening names outcomes.Done = ⊥
-StopsOpening names outcomes.Differ = ⊥
-StopsOpening names outcomes.NotWhole = ⊥
-StopsOpening names (outcomes.Line fault) = ⊥
-StopsOpening names (outcomes.Fault fault) = fault ≡ faults.Memory
-StopsOpening names (outcomes.Open n) = (1 ≤ n) × (n ≤ length names) × IsFalse (is_dash (get_or names (n - 1) []))
-StopsOpening names outcomes.Create = ⊥
+-- the file of one of those names could not be opened, by what its opener gives, or there was no memory
+abbrev pub StopsOpening : {R : Type 0} → (List ℕ → Option R → Type 0) → List (List ℕ) → Outcome → Type 0
+StopsOpening gives names outcomes.Done = ⊥
+StopsOpening gives names outcomes.Differ = ⊥
+StopsOpening gives names outcomes.NotWhole = ⊥
+StopsOpening gives names (outcomes.Line fault) = ⊥
+StopsOpening gives names (outcomes.Fault fault) = fault ≡ faults.Memory
+StopsOpening gives names (outcomes.Open n) = (1 ≤ n) × (n ≤ length names) × gives (get_or names (n - 1) []) None
+StopsOpening gives names outcomes.Create = ⊥

@@ -2,6 +2,7 @@
 ghost use Rattle.std.specs.Prelude.{◌≡◌, ◌+◌, ◌≤◌, ◌++◌, length};
 ghost use Rattle.cap_print.specs.Lines.{room_in, text_in};
 ghost use Rattle.cap_tool.specs.Left.{count_text, dropped_text, left_text, left_told, names_label as names_label_text};
+ghost use Rattle.cap_tool.specs.Left.{nothing_left};
 
 use crate::outcomes::Outcome;
 use cap_print::Line;
@@ -15,6 +16,30 @@ pub struct Left {
     pub named: u128,
     /// How many packets had a time below the greatest so far of their file.
     pub ran_back: u128,
+}
+
+/// What is told of a job beside how it ended.
+#[derive(Clone, Copy, Debug, PartialEq, Eq)]
+pub struct Told {
+    /// Whether it is told what the job leaves out, or why it isn't done.
+    pub counts: bool,
+    /// What it leaves out, if that is told.
+    pub left: Left,
+}
+
+impl Told {
+    /// Nothing is left out yet.
+    pub fn new(counts: bool) -> Told
+        ensures counts { result.counts ≡ counts }
+        ensures left { result.left ≡ nothing_left }
+    {
+        let left = Left {
+            skipped: 0,
+            named: 0,
+            ran_back: 0,
+        };
+        Told { counts, left }
+    }
 }
 
 // Puts a label and a count before what was put, and what is counted after it, unless the count is 0.

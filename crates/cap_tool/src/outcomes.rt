@@ -52,6 +52,10 @@ pub struct Stop {
 }
 
 impl From<Outcome> for Stop {
+    ghost use Rattle.std.specs.Prelude.{None};
+
+    ghost from_gives = { λ outcome stop. stop ≡ record { outcome = outcome; error = None } };
+
     fn from(outcome: Outcome) -> Stop {
         Stop {
             outcome,

@@ -112,21 +112,35 @@ struct Screen {
 pub struct Progress<'a, C: Clock> {
     clock: &'a C,
     // none if nothing is to be shown
-    screen: Option<Screen>,
+    screen: Cell<Option<Screen>>,
     // whether what is written is seen on the same screen
-    is_shared: bool,
+    is_shared: Cell<bool>,
     // how many bytes there are to read, if that is known
-    total: Option<u64>,
+    total: Cell<Option<u64>>,
     read: Cell<u64>,
     // how long after the beginning the next line is due
     due: Cell<Duration>,
     // whether a line stands on the screen
     stands: Cell<bool>,
-    // the output, if a read may wait while its reader does
+    // the output, which is written before a read that may wait
     output: Option<&'a SharedOutput>,
 }
 
 impl<'a, C: Clock> Progress<'a, C> {
+    /// The progress of a run that has not begun, which shows nothing.
+    pub fn idle(clock: &'a C) -> Progress<'a, C> {
+        Progress {
+            clock,
+            screen: Cell::new(None),
+            is_shared: Cell::new(false),
+            total: Cell::new(None),
+            read: Cell::new(0),
+            due: Cell::new(Duration::from_secs(PATIENCE)),
+            stands: Cell::new(false),
+            output: None,
+        }
+    }
+
     /// The progress of a run that begins now, and that has that many bytes to read, if that is known. It is shown on
     /// the terminal `screen`, if there is one; if `is_shared`, what is written goes there too, and progress is shown
     /// only until something is written.
@@ -136,23 +150,24 @@ impl<'a, C: Clock> Progress<'a, C> {
         is_shared: bool,
         total: Option<u64>,
     ) -> Progress<'a, C> {
-        let screen = match (screen, Instant::now(clock)) {
+        let progress = Progress::idle(clock);
+        progress.begin(screen, is_shared, total);
+        progress
+    }
+
+    /// Begins now, as `new` does.
+    pub fn begin(&self, screen: Option<Stderr>, is_shared: bool, total: Option<u64>) {
+        let screen = match (screen, Instant::now(self.clock)) {
             (Some(stream), Ok(begun)) => Some(Screen { stream, begun }),
             _ => None,
         };
-        Progress {
-            clock,
-            screen,
-            is_shared,
-            total,
-            read: Cell::new(0),
-            due: Cell::new(Duration::from_secs(PATIENCE)),
-            stands: Cell::new(false),
-            output: None,
-        }
+        self.screen.set(screen);
+        self.is_shared.set(is_shared);
+        self.total.set(total);
     }
 
-    /// The same of a run whose reads may wait: what waits in `output` is written before each of them.
+    /// The same of a run whose reads may wait, if it isn't known how many bytes there are, as of a pipe: what waits in
+    /// `output` is written before each of them.
     pub fn with_output(self, output: &'a SharedOutput) -> Progress<'a, C> {
         Progress {
             output: Some(output),
@@ -162,6 +177,9 @@ impl<'a, C: Clock> Progress<'a, C> {
 
     /// Writes what waits in the output, if the read that follows may wait. A failure shows at the end of the run.
     pub fn before_read(&self) {
+        if self.total.get().is_some() {
+            return;
+        }
         if let Some(output) = self.output {
             let _ = output.flush();
         }
@@ -171,7 +189,7 @@ impl<'a, C: Clock> Progress<'a, C> {
     pub fn add(&self, bytes: usize) {
         let read = self.read.get().saturating_add(bytes as u64);
         self.read.set(read);
-        let Some(screen) = self.screen else {
+        let Some(screen) = self.screen.get() else {
             return;
         };
         let Ok(elapsed) = screen.begun.elapsed(self.clock) else {
@@ -183,12 +201,12 @@ impl<'a, C: Clock> Progress<'a, C> {
         self.due
             .set(elapsed.saturating_add(Duration::from_millis(PAUSE)));
         self.stands.set(true);
-        show(screen.stream, read, self.total, elapsed);
+        show(screen.stream, read, self.total.get(), elapsed);
     }
 
     /// Wipes the line, if one stands.
     pub fn wipe(&self) {
-        if let Some(screen) = self.screen {
+        if let Some(screen) = self.screen.get() {
             if self.stands.replace(false) {
                 let _ = (&screen.stream).write_all(WIPE);
             }
@@ -197,7 +215,7 @@ impl<'a, C: Clock> Progress<'a, C> {
 
     /// Makes way for what is about to be written: if it is seen on the same screen, no line is shown from now on.
     pub fn make_way(&self) {
-        if self.is_shared {
+        if self.is_shared.get() {
             self.wipe();
             self.due.set(Duration::MAX);
         }

@@ -38,6 +38,10 @@ impl<W> Remembered<W> {
 }
 
 impl<W: Write> Write for Remembered<W> {
+    ghost use Rattle.cap_tool.specs.Remembered.{remembered_inner};
+
+    ghost contents = { λ r. W.contents (remembered_inner r) };
+
     fn write(&mut self, bytes: &[u8]) -> io::Result<usize> {
         let answer = self.inner.write(bytes);
         if let Err(error) = &answer {

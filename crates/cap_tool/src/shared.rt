@@ -1,41 +1,55 @@
 //! An output that a run's inputs can reach, to write what waits in its buffer before they wait themselves.
-ghost use Rattle.std.specs.Prelude.{◌≤◌, IfOk, length};
+ghost use Rattle.std.specs.Prelude.{◌≤◌, ◌<◌, IfOk, length};
 
-use crate::remembered::Remembered;
+use crate::outlets::{Buffered, Outlet};
 use crate::streams::Output;
+use cap_bytes::{Broken, Device, Sink};
 use std::cell::RefCell;
 use std::io;
-use std::io::{BufWriter, ErrorKind, Write};
+use std::io::ErrorKind;
 
-/// A buffered output that is shared: what writes to it goes through a `Shared`, and what reads may write out what
-/// waits.
+/// A buffered output that is shared, once there is one: what writes to it goes through a `Shared`, and what reads may
+/// write out what waits. A contract can't say what a cell holds, so `checks/program.sh` watches that these calls do what
+/// the same call of the output does.
 #[derive(Drop)]
 pub struct SharedOutput {
-    buffered: RefCell<BufWriter<Remembered<Output>>>,
+    buffered: RefCell<Option<Buffered<Output>>>,
 }
 
 impl SharedOutput {
-    /// An output whose buffer is `buffered`'s.
-    pub fn new(buffered: BufWriter<Remembered<Output>>) -> SharedOutput {
+    /// No output yet.
+    pub fn new() -> SharedOutput {
         SharedOutput {
-            buffered: RefCell::new(buffered),
+            buffered: RefCell::new(None),
         }
     }
 
+    /// Shares that output from now on.
+    pub fn begin(&self, output: Buffered<Output>) {
+        let _ = self.buffered.try_replace(Some(output));
+    }
+
     // Writes bytes, or lets them wait in the buffer.
-    fn write(&self, bytes: &[u8]) -> io::Result<usize>
-        ensures { IfOk result (λ n. n ≤ length bytes.now) }
+    fn give(&self, bytes: &[u8]) -> Result<usize, Broken>
+        ensures count { IfOk result (λ n. n ≤ length bytes.now) }
+        ensures some { IfOk result (λ n. 0 < length bytes.now → 0 < n) }
     {
         match self.buffered.try_borrow_mut() {
-            Ok(mut buffered) => buffered.write(bytes),
-            Err(_) => Err(io::Error::from(ErrorKind::WouldBlock)),
+            Ok(mut output) => match &mut *output {
+                Some(output) => output.give(bytes),
+                None => Err(Broken),
+            },
+            Err(_) => Err(Broken),
         }
     }
 
     /// The number of the system's error at which the last write or flush failed, if one did.
     pub fn error(&self) -> Option<i32> {
         match self.buffered.try_borrow() {
-            Ok(buffered) => buffered.get_ref().error(),
+            Ok(output) => match &*output {
+                Some(output) => output.error(),
+                None => None,
+            },
             Err(_) => None,
         }
     }
@@ -43,31 +57,69 @@ impl SharedOutput {
     /// Writes what waits in the buffer. Bytes that could not be written wait on, so a later flush fails too.
     pub fn flush(&self) -> io::Result<()> {
         match self.buffered.try_borrow_mut() {
-            Ok(mut buffered) => buffered.flush(),
+            Ok(mut output) => match &mut *output {
+                Some(output) => output.flush(),
+                None => Ok(()),
+            },
             Err(_) => Err(io::Error::from(ErrorKind::WouldBlock)),
         }
     }
 }
 
 /// What a run writes to: a shared output.
-#[derive(Clone, Copy)]
+#[derive(Drop)]
 pub struct Shared<'a> {
     output: &'a SharedOutput,
+    failed: bool,
 }
 
 impl<'a> Shared<'a> {
     /// What writes to `output`.
     pub fn new(output: &'a SharedOutput) -> Shared<'a> {
-        Shared { output }
+        Shared {
+            output,
+            failed: false,
+        }
     }
 }
 
-impl<'a> Write for Shared<'a> {
-    fn write(&mut self, bytes: &[u8]) -> io::Result<usize> {
-        self.output.write(bytes)
+impl<'a> Device for Shared<'a> {
+    ghost use Rattle.std.specs.Prelude.{true};
+    ghost use Rattle.cap_tool.specs.Shared.{shared_failed};
+
+    ghost has_failed = { λ s. shared_failed s };
+
+    ghost can_fail = { λ _. true };
+
+    fn failed(&self) -> bool {
+        self.failed
     }
+}
+
+impl<'a> Sink for Shared<'a> {
+    ghost use Rattle.std.specs.Prelude.{false, []};
+
+    ghost tells_held = { λ _. false };
+
+    ghost held = { λ _. [] };
+
+    fn give(&mut self, bytes: &[u8]) -> Result<usize, Broken> {
+        let answer = self.output.give(bytes);
+        self.failed = self.failed || answer.is_err();
+        answer
+    }
+}
+
+impl<'a> Outlet for Shared<'a> {
+    ghost use Rattle.std.specs.Prelude.{[]};
+
+    ghost waiting = { λ _. [] };
 
     fn flush(&mut self) -> io::Result<()> {
         self.output.flush()
+    }
+
+    fn error(&self) -> Option<i32> {
+        self.output.error()
     }
 }

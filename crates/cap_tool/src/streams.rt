@@ -1,24 +1,21 @@
 //! The files and the standard streams of a run.
-ghost use Rattle.std.specs.Prelude.{◌≡◌, ◌≢◌, ◌≤◌, ◌+◌, ◌++◌, ◌∷◌, [], codes, length, map, vec_len, IfOk, IfErr, IsErr};
+ghost use Rattle.std.specs.Prelude.{◌≡◌, ◌≢◌, ◌≤◌, ◌+◌, ◌++◌, ◌∷◌, [], codes, length, map, vec_len, IfOk, IfErr, IfSome, IsErr};
 ghost use Rattle.std.specs.Prelude.{Contains, Err, IsFalse, IsSomeAnd, IsTrue, option_map, Some, None};
-ghost use Rattle.cap_tool.specs.Watched.{watched_inner};
+ghost use Rattle.cap_tool.specs.CheckedNames.{AreGiven};
 ghost use Rattle.cap_tool.specs.Streams.{IsOutFile, IsStandardOut, StopsOpening, StopsCreating, is_dash, is_standard};
-ghost use Rattle.cap_tool.specs.Streams.{standards_of};
 
+use crate::openers::Opener;
 use crate::outcomes::Outcome;
-use crate::progress::Progress;
 use crate::regular::{
     FileId, Regular, id_of, is_any_input, is_input, regular_at, regular_file, regular_of,
     standard_id,
 };
-use crate::watched::Watched;
-use cap_bytes::{Fault, Tracked};
+use cap_bytes::Fault;
 use std::alloc::{AllocError, Global};
 use std::fs::{File, OpenOptions};
 use std::io;
 use std::io::{ErrorKind, IsTerminal, Read, Stdin, Stdout, Write};
 use std::rt::Files;
-use std::time::Clock;
 
 /// What a capture is read from.
 #[derive(Drop)]
@@ -42,8 +39,8 @@ impl Input {
         Ok(Input::File(File::open(files, name)?))
     }
 
-    // Which regular file is read, if it is one and that can be found out.
-    fn regular<R: Files<File = File>>(&self, files: &R) -> Option<Regular> {
+    /// Which regular file is read, if it is one and that can be found out.
+    pub fn regular<R: Files<File = File>>(&self, files: &R) -> Option<Regular> {
         match self {
             Input::File(file) => regular_file(file),
             Input::Standard(_) => regular_at(files, "/dev/stdin"),
@@ -180,6 +177,7 @@ pub fn create_output<R: Files<File = File>>(
     ensures standard { option_map (λ n. n.now) name.entry ≡ None → IfOk result (λ o. o ≡ Output.Standard standard) }
     ensures dash { option_map (λ n. n.now) name.entry ≡ Some (codes "-")
         → IfOk result (λ o. o ≡ Output.Standard standard) }
+    ensures file { IfSome name.entry (λ n. n.now ≢ codes "-" → IfOk result IsOutFile) }
     ensures stops { IfErr result StopsCreating }
 {
     match name {
@@ -217,9 +215,9 @@ pub fn check_terminal(standard: Stdout, name: Option<&str>) -> Result<(), Outcom
 
 /// The inputs of a run.
 #[derive(Drop)]
-pub struct Inputs {
+pub struct Inputs<R> {
     /// What is read, in the order of the names.
-    pub sources: Vec<Tracked<Input>>,
+    pub sources: Vec<R>,
     /// Which regular file each of them is, if it is one and that can be found out.
     pub ids: Vec<Option<FileId>>,
     /// How many bytes they have together, if each of them is a regular file.
@@ -231,33 +229,31 @@ fn add_size(size: Option<u64>, regular: Option<Regular>) -> Option<u64> {
     size?.checked_add(regular?.size)
 }
 
-impl Inputs {
+impl<R: Drop> Inputs<R> {
     // Adds an input, of which that is known.
-    fn add(&mut self, input: Input, regular: Option<Regular>) -> Result<(), AllocError>
-        ensures all { IfOk result (λ _. standards_of self.new.sources.items ≡ standards_of self.old.sources.items
-            ++ is_standard input ∷ []) }
+    fn add(&mut self, input: R, regular: Option<Regular>) -> Result<(), AllocError>
+        ensures all { IfOk result (λ _. self.new.sources.items ≡ self.old.sources.items ++ input ∷ []) }
         ensures len { IfOk result (λ _. vec_len self.new.sources ≡ vec_len self.old.sources + 1) }
     {
         self.ids.push(id_of(regular))?;
-        self.sources.push(Tracked::new(input))?;
+        self.sources.push(input)?;
         self.size = add_size(self.size, regular);
         Ok(())
     }
 }
 
-/// Opens every file of a run, in order, and reads none: an input is standard input exactly if its name
-/// is `-`. Returns `Outcome::Open` with the number, from 1, of the first that can't be opened, which is
-/// never one named `-`, or `Fault::Memory` if a growth is refused.
-pub fn open_all<R: Files<File = File>>(
-    files: &R,
+/// Opens every file of a run, in order, and reads none: each input is what the opener gives for its name. Returns
+/// `Outcome::Open` with the number, from 1, of the first that it can't open, or `Fault::Memory` if a growth is refused.
+pub fn open_all<O: Opener>(
+    opener: &O,
     alloc: Global,
-    standard: Stdin,
     names: &[&str],
-) -> Result<Inputs, Outcome>
+) -> Result<Inputs<O::Reader>, Outcome>
     requires most { length names.now ≤ 4294967295 }
-    ensures all { IfOk result (λ inputs. standards_of inputs.sources.items ≡ map (λ n. is_dash n.now) names.now) }
+    ensures all { IfOk result (λ inputs. AreGiven (O.gives opener.now) (map (λ n. n.now) names.now)
+        (map Some inputs.sources.items)) }
     ensures len { IfOk result (λ inputs. vec_len inputs.sources ≡ length names.now) }
-    ensures stops { IfErr result (StopsOpening (map (λ n. n.now) names.now)) }
+    ensures stops { IfErr result (StopsOpening (O.gives opener.now) (map (λ n. n.now) names.now)) }
 {
     let mut inputs = Inputs {
         sources: Vec::new(alloc),
@@ -265,33 +261,12 @@ pub fn open_all<R: Files<File = File>>(
         size: Some(0),
     };
     for (place, name) in names.iter().enumerate() {
-        let Ok(input) = Input::open(files, standard, name) else {
+        let Some((input, regular)) = opener.open(name) else {
             return Err(Outcome::Open(place as u32 + 1));
         };
-        let regular = input.regular(files);
         if inputs.add(input, regular).is_err() {
             return Err(Outcome::Fault(Fault::Memory));
         }
     }
     Ok(inputs)
-}
-
-/// The inputs of a run, watched, in the same order. Returns `Fault::Memory`, and no other outcome, if a growth is
-/// refused.
-pub fn watch_all<'a, C: Clock>(
-    alloc: Global,
-    sources: Vec<Tracked<Input>>,
-    progress: &'a Progress<'a, C>,
-) -> Result<Vec<Watched<'a, Tracked<Input>, C>>, Outcome>
-    ensures same { IfOk result (λ watched. map watched_inner watched.items ≡ sources.items) }
-    ensures len { IfOk result (λ watched. vec_len watched ≡ vec_len sources) }
-    ensures stops { IfErr result (λ outcome. outcome ≡ Outcome.Fault Fault.Memory) }
-{
-    let mut watched = Vec::new(alloc);
-    for source in sources {
-        if watched.push(Watched::new(source, progress)).is_err() {
-            return Err(Outcome::Fault(Fault::Memory));
-        }
-    }
-    Ok(watched)
 }

@@ -2,8 +2,10 @@
 ghost use Rattle.std.specs.Prelude.{◌≡◌};
 ghost use Rattle.cap_tool.specs.Watched.{watched_inner};
 
+use crate::outlets::Outlet;
 use crate::progress::Progress;
 use cap_bytes::{Broken, Device, Sink, Source};
+use std::io;
 use std::time::Clock;
 
 /// A device that does what `inner` does. Of a reader the progress learns how many bytes came, and of a writer
@@ -63,5 +65,17 @@ impl<'a, T: Sink, C: Clock> Sink for Watched<'a, T, C> {
     fn give(&mut self, bytes: &[u8]) -> Result<usize, Broken> {
         self.progress.make_way();
         self.inner.give(bytes)
+    }
+}
+
+impl<'a, T: Outlet, C: Clock> Outlet for Watched<'a, T, C> {
+    ghost waiting = { λ w. T.waiting (watched_inner w) };
+
+    fn flush(&mut self) -> io::Result<()> {
+        self.inner.flush()
+    }
+
+    fn error(&self) -> Option<i32> {
+        self.inner.error()
     }
 }

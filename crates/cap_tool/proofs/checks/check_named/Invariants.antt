@@ -11,6 +11,9 @@ invariant-loop-place g l = record {
   told : IsTrue (g.W.Sink.tells_held l.fn.writer) → IsTrue (g.W.Sink.tells_held l.writer);
   cannot : IsTrue (g.W.Device.can_fail l.writer) → IsTrue (g.W.Device.can_fail l.fn.writer);
   printed : IsTrue (g.W.Sink.tells_held l.fn.writer)
-      → AreNamed l.is_closed (form_by l.job.json) (tail_of l.job.allow_cut) (map (λ n. n.now) l.job.files.items) l.place
-      l.are_whole (g.W.Sink.held l.fn.writer) (g.W.Sink.held l.writer);
+      → AreNamed (g.O.Opener.gives l.opener) (λ s. record {
+        told = g.O.Reader.Source.tells_coming s;
+        bytes = g.O.Reader.Source.coming s;
+        can_fail = g.O.Reader.Device.can_fail s;
+      }) (form_by l.job.json) (tail_of l.job.allow_cut) (map (λ n. n.now) l.job.files.items) l.place l.are_whole (g.W.Sink.held l.fn.writer) (g.W.Sink.held l.writer);
 }

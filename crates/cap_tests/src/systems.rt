@@ -1,0 +1,191 @@
+//! Runs over a system in memory: files by their names, and an output.
+ghost use Rattle.std.specs.Prelude.{if◌then◌else◌, Some, None, option_map};
+
+use crate::checks::same;
+use crate::files::bytes_of;
+use cap_bytes::{Fault, Refusal, Rule, Tracked};
+use cap_line::{Job, LineFault};
+use cap_tool::{Buffered, FileId, Opener, Outcome, Regular, Stop, System, Told, run_words};
+use std::alloc::Global;
+use std::cell::RefCell;
+use std::io;
+use std::io::{ErrorKind, Write};
+use std::process::Abort;
+
+// A pcap file of one packet of 4 bytes, at 2.5 seconds.
+const ONE: &str = "d4c3b2a1020004000000000000000000000004000100000001000000\
+    60e31600040000000400000001020304";
+
+const LINE: &str =
+    "packet 1 offset 24 time 2+500000/1000000 captured 4 original 4 link 1 data 01020304\n";
+
+// Of that file, and of one that can't be opened.
+const CHECKS: &str =
+    "check 1 pcap packets 1 backward 0 untimed 0 truncated 0 skipped 0 interfaces 1 whole\n\
+    check 2 - packets 0 backward 0 untimed 0 truncated 0 skipped 0 interfaces 0 open\n";
+
+// One file, which is named `one`.
+#[derive(Clone, Copy)]
+struct Shelf<'a> {
+    one: &'a [u8],
+}
+
+impl<'a> Opener for Shelf<'a> {
+    ghost use Rattle.std.specs.Prelude.{◌≡◌, codes};
+    ghost use Rattle.std.specs.Str.{bytes_eq};
+    ghost use Rattle.cap_bytes.specs.Tracked.{tracked_inner};
+
+    type Reader = Tracked<&'a [u8]>;
+
+    ghost gives = { λ s name reader. option_map (λ r. tracked_inner r) reader
+        ≡ (if bytes_eq name (codes "one") then Some s.one else None) };
+
+    fn open(&self, name: &str) -> Option<(Tracked<&'a [u8]>, Option<Regular>)> {
+        if name == "one" {
+            Some((Tracked::new(self.one), None))
+        } else {
+            None
+        }
+    }
+}
+
+// What a run writes, kept where the test sees it.
+#[derive(Drop)]
+struct Sheet<'a> {
+    written: &'a RefCell<Vec<u8>>,
+}
+
+impl<'a> Write for Sheet<'a> {
+    fn write(&mut self, bytes: &[u8]) -> io::Result<usize> {
+        match self.written.try_borrow_mut() {
+            Ok(mut written) => {
+                written.extend_from_slice(bytes)?;
+                Ok(bytes.len())
+            }
+            Err(_) => Err(io::Error::from(ErrorKind::WouldBlock)),
+        }
+    }
+
+    fn flush(&mut self) -> io::Result<()> {
+        Ok(())
+    }
+}
+
+// A shelf, and a sheet to be written; no sheet, if a job is to be written in big-endian order.
+#[derive(Drop)]
+struct Desk<'a> {
+    alloc: Global,
+    shelf: Shelf<'a>,
+    written: &'a RefCell<Vec<u8>>,
+}
+
+impl<'a> Opener for Desk<'a> {
+    ghost use Rattle.std.specs.Prelude.{◌≡◌, codes};
+    ghost use Rattle.std.specs.Str.{bytes_eq};
+    ghost use Rattle.cap_bytes.specs.Tracked.{tracked_inner};
+
+    type Reader = Tracked<&'a [u8]>;
+
+    ghost gives = { λ d name reader. option_map (λ r. tracked_inner r) reader
+        ≡ (if bytes_eq name (codes "one") then Some d.shelf.one else None) };
+
+    fn open(&self, name: &str) -> Option<(Tracked<&'a [u8]>, Option<Regular>)> {
+        self.shelf.open(name)
+    }
+}
+
+impl<'a> System for Desk<'a> {
+    ghost use Rattle.std.specs.Prelude.{◌≡◌, false};
+
+    type Writer = Buffered<Sheet<'a>>;
+
+    type Name = ();
+
+    ghost lacks_input = { λ _. false };
+
+    ghost makes = { λ d job ids result. Unit {0} };
+
+    ghost settles = { λ d name answer result. result ≡ answer };
+
+    fn has_no_input(&self) -> bool {
+        false
+    }
+
+    fn explains(&self) -> bool {
+        false
+    }
+
+    fn create(
+        &self,
+        job: &Job<'_>,
+        _inputs: &[Option<FileId>],
+        _size: Option<u64>,
+    ) -> Result<(Buffered<Sheet<'a>>, ()), Outcome> {
+        if job.whole {
+            return Err(Outcome::Create);
+        }
+        let sheet = Sheet {
+            written: self.written,
+        };
+        Ok((Buffered::new(self.alloc, 64, sheet)?, ()))
+    }
+
+    fn settle(&self, _name: (), answer: Result<(), Stop>) -> Result<(), Stop> {
+        answer
+    }
+
+    fn tell(&self, stop: Stop, _job: Option<&Job<'_>>, _said: &[u8], _told: &Told) -> Outcome {
+        stop.outcome
+    }
+}
+
+// How a run of some words ends over a shelf, and what it writes.
+fn runs(rt: &impl Abort, alloc: Global, words: &[&str], ending: Outcome, text: &str) {
+    let one = bytes_of(rt, alloc, &[ONE]);
+    let written = RefCell::new(Vec::new(alloc));
+    let desk = Desk {
+        alloc,
+        shelf: Shelf {
+            one: one.as_slice(),
+        },
+        written: &written,
+    };
+    same!(rt; run_words(&desk, alloc, words), ending);
+    match written.try_borrow() {
+        Ok(bytes) => same!(rt; bytes.as_slice(), text.as_bytes()),
+        Err(_) => panic!(rt; "it is borrowed"),
+    }
+}
+
+// The words, how their run ends, and what it writes.
+const RUNS: [(&[&str], Outcome, &str); 7] = [
+    (&["capt", "list", "one"], Outcome::Done, LINE),
+    (&["capt", "list", "two"], Outcome::Open(1), ""),
+    (
+        &["capt", "blocks", "one"],
+        Outcome::Fault(Fault::Refused(NO_BLOCKS)),
+        "",
+    ),
+    (&["capt", "check", "one", "two"], Outcome::NotWhole, CHECKS),
+    (&["capt", "info", "one", "two"], Outcome::Open(2), ""),
+    (
+        &["capt", "merge", "--whole", "-o", "new", "one"],
+        Outcome::Create,
+        "",
+    ),
+    (&["capt", "diff", "one"], Outcome::Line(LineFault::Line), ""),
+];
+
+// A pcap file is no pcapng file.
+const NO_BLOCKS: Refusal = Refusal {
+    file: 1,
+    offset: 0,
+    rule: Rule::Magic,
+};
+
+#[test]
+fn always_memory_words_are_run(rt: HostRuntime) {
+    for (words, ending, text) in &RUNS {
+        runs(&rt, rt.alloc(), *words, *ending, *text);
+    }
+}

@@ -1,0 +1,29 @@
+use Rattle.std.proofs.Common.{true, false}
+use Rattle.cap_tool.proofs.Running.{runs-which}
+use Rattle.cap_tool.proofs.runs.run_task.Goals as goal
+
+pub returns-then-is_check-clause-runs : goal.returns-then-is_check-clause-runs
+returns-then-is_check-clause-runs g c =
+    runs-which (g.S.Opener.gives c.args.system.now) (λ s. record {
+      told = g.S.Reader.Source.tells_coming s;
+      bytes = g.S.Reader.Source.coming s;
+      can_fail = g.S.Reader.Device.can_fail s;
+    }) (g.S.System.makes c.args.system.now c.args.job.now) (λ w. record {
+      told = g.S.Writer.Sink.tells_held w;
+      held = g.S.Writer.Sink.held w;
+      waiting = g.S.Writer.Outlet.waiting w;
+    }) (g.S.System.settles c.args.system.now) (g.S.System.lacks_input c.args.system.now) c.args.job.now c.run_checks.result
+    c.is_check.result true c.is_check.ensures c.if-is_check.true c.run_checks.ensures.runs
+
+pub returns-else-is_check-clause-runs : goal.returns-else-is_check-clause-runs
+returns-else-is_check-clause-runs g c =
+    runs-which (g.S.Opener.gives c.args.system.now) (λ s. record {
+      told = g.S.Reader.Source.tells_coming s;
+      bytes = g.S.Reader.Source.coming s;
+      can_fail = g.S.Reader.Device.can_fail s;
+    }) (g.S.System.makes c.args.system.now c.args.job.now) (λ w. record {
+      told = g.S.Writer.Sink.tells_held w;
+      held = g.S.Writer.Sink.held w;
+      waiting = g.S.Writer.Outlet.waiting w;
+    }) (g.S.System.settles c.args.system.now) (g.S.System.lacks_input c.args.system.now) c.args.job.now c.run_files.result
+    c.is_check.result false c.is_check.ensures c.if-is_check.false c.run_files.ensures.runs

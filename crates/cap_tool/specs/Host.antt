@@ -1,0 +1,18 @@
+-- The program's run over the system that it runs on.
+use Rattle.std.specs.Prelude.{◌≡◌, Bool, true, false, Result, Ok, Err}
+use Rattle.cap_bytes.specs.declared.faults.Fault.TheVariants.{Write}
+use Rattle.cap_tool.specs.declared.host.Host.{Host}
+use Rattle.cap_tool.specs.declared.outcomes.Outcome.TheVariants as outcomes
+use Rattle.cap_tool.specs.declared.outcomes.Stop.{Stop}
+
+-- whether standard input was closed
+abbrev pub host_is_closed : {R : Type 0} → Host R → Bool
+host_is_closed host = host.is_closed
+
+-- How a run ends once its output is settled, whose job ended so: as that did, but for a job that was done and whose
+-- output, beside the file of its name, can't take that name.
+abbrev pub Settles : Bool → Result (Unit {0}) Stop → Result (Unit {0}) Stop → Type 0
+Settles is_beside (Err stop) result = result ≡ Err stop
+Settles is_beside (Ok done) (Ok settled) = Unit {0}
+Settles true (Ok done) (Err stop) = stop.outcome ≡ outcomes.Fault Write
+Settles false (Ok done) (Err stop) = ⊥

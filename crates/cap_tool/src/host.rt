@@ -1,0 +1,233 @@
+//! The program's run over the system that it runs on.
+ghost use Rattle.std.specs.Prelude.{◌≡◌, ◌⊎◌, ◌&&◌, IfErr, IsFalse, is_some};
+ghost use Rattle.cap_tool.specs.Outcomes.{is_help};
+ghost use Rattle.cap_line.specs.declared.faults.LineFault.{LineFault};
+
+use crate::created::create_for;
+use crate::hints::hint;
+use crate::left::{Told, left_lines};
+use crate::objects::tell_in;
+use crate::openers::Opener;
+use crate::outcomes::{Outcome, Stop, status_of, tell};
+use crate::outlets::Buffered;
+use crate::progress::Progress;
+use crate::regular::{FileId, Regular};
+use crate::runs::{run_words, tell_unread};
+use crate::shared::{Shared, SharedOutput};
+use crate::streams::{Input, Output};
+use crate::systems::System;
+use crate::watched::Watched;
+use crate::whole::Beside;
+use cap_bytes::{Tracked, put_all};
+use cap_line::{Job, LineFault};
+use cap_print::Form;
+use std::alloc::Global;
+use std::env;
+use std::fs::File;
+use std::io::{ErrorKind, IsTerminal, Stderr, Stdin, Stdout};
+use std::rt::{Env, Files};
+use std::time::Clock;
+
+/// The standard streams.
+#[derive(Clone, Copy)]
+pub struct StandardStreams {
+    /// Standard input.
+    pub input: Stdin,
+    /// Standard output.
+    pub output: Stdout,
+    /// Standard error.
+    pub faults: Stderr,
+}
+
+// How many bytes wait for a write: none at a terminal, if each line is seen as it comes. A write that begins or ends
+// within a page costs the system more, so few and large ones are made.
+fn output_buffer(is_terminal: bool) -> usize {
+    if is_terminal { 0 } else { 262_144 }
+}
+
+// The words of the command line, the first of which is the program's name.
+fn words_of<R: Env + AllocGlobal>(rt: &R) -> Result<Vec<String>, LineFault>
+    ensures { IfErr result (λ fault. (fault ≡ LineFault.Line) ⊎ (fault ≡ LineFault.Memory)) }
+{
+    match env::args(rt) {
+        Ok(words) => words.collect(rt.alloc()).map_err(|_| LineFault::Memory),
+        Err(error) if error.kind() == ErrorKind::OutOfMemory => Err(LineFault::Memory),
+        Err(_) => Err(LineFault::Line),
+    }
+}
+
+// Where progress is shown: at a terminal, unless what is written goes to a program that may use the same one.
+fn screen_of<R: Files<File = File>>(files: &R, faults: Stderr, output: &Output) -> Option<Stderr> {
+    if faults.is_terminal() && (output.is_terminal() || output.is_regular(files)) {
+        Some(faults)
+    } else {
+        None
+    }
+}
+
+// The system that the program runs on.
+#[derive(Drop)]
+pub(crate) struct Host<'a, R: Clock> {
+    rt: &'a R,
+    streams: StandardStreams,
+    is_closed: bool,
+    output: &'a SharedOutput,
+    progress: &'a Progress<'a, R>,
+}
+
+impl<'a, R: Files<File = File> + Clock + AllocGlobal> Opener for Host<'a, R> {
+    ghost use Rattle.std.specs.Prelude.{option_map};
+    ghost use Rattle.cap_bytes.specs.Tracked.{tracked_inner};
+    ghost use Rattle.cap_tool.specs.CheckedNames.{IsOpenedBy};
+    ghost use Rattle.cap_tool.specs.Host.{host_is_closed};
+    ghost use Rattle.cap_tool.specs.Watched.{watched_inner};
+
+    type Reader = Watched<'a, Tracked<Input>, R>;
+
+    ghost gives = { λ h name reader. IsOpenedBy (host_is_closed h) name
+        (option_map (λ w. tracked_inner (watched_inner w)) reader) };
+
+    fn open(&self, name: &str) -> Option<(Watched<'a, Tracked<Input>, R>, Option<Regular>)> {
+        if self.is_closed && name == "-" {
+            return None;
+        }
+        match Input::open(self.rt, self.streams.input, name) {
+            Ok(input) => {
+                let regular = input.regular(self.rt);
+                Some((Watched::new(Tracked::new(input), self.progress), regular))
+            }
+            Err(_) => None,
+        }
+    }
+}
+
+// Prints how a run ended: with `--json` a refusal or a fault of a job is an object.
+fn tell_job(
+    outcome: Outcome,
+    said: &[u8],
+    job: Option<&Job<'_>>,
+    output: &mut Tracked<Stdout>,
+    faults: &mut Tracked<Stderr>,
+) -> Outcome
+    ensures same { IsFalse (is_help outcome) → result ≡ outcome }
+{
+    match job {
+        Some(job) if job.json => {
+            let paths = job.files.as_slice();
+            tell_in(outcome, said, Form::Json, paths, output, faults)
+        }
+        _ => tell(outcome, said, output, faults),
+    }
+}
+
+// Tells more of a run than its line, on standard error: what is left out of what was written, or why it isn't done.
+fn explain<R: Files<File = File> + AllocGlobal>(
+    rt: &R,
+    job: Option<&Job<'_>>,
+    stop: &Stop,
+    told: &Told,
+    faults: &mut Tracked<Stderr>,
+) {
+    let lines = left_lines(&stop.outcome, &told.left);
+    let _ = put_all(faults, lines.as_slice());
+    if let Some(line) = hint(rt, rt.alloc(), stop, job) {
+        let _ = put_all(faults, line.as_bytes());
+    }
+}
+
+impl<'a, R: Files<File = File> + Clock + AllocGlobal> System for Host<'a, R> {
+    ghost use Rattle.std.specs.Prelude.{MatchResult};
+    ghost use Rattle.cap_bytes.specs.declared.faults.Fault.TheVariants.{Memory};
+    ghost use Rattle.cap_tool.specs.declared.outcomes.Outcome.TheVariants as Outcome;
+    ghost use Rattle.cap_tool.specs.Host.{Settles, host_is_closed};
+
+    type Writer = Watched<'a, Shared<'a>, R>;
+
+    type Name = Option<Beside>;
+
+    ghost lacks_input = { λ h. host_is_closed h };
+
+    ghost makes = { λ h job ids result. MatchResult result (λ made. is_some made.1 ≡ (job.whole && is_some job.out))
+        (λ outcome. (outcome ≡ Outcome.Create) ⊎ (outcome ≡ Outcome.Fault Memory)) };
+
+    ghost settles = { λ h name answer result. Settles (is_some name) answer result };
+
+    fn has_no_input(&self) -> bool {
+        self.is_closed
+    }
+
+    fn explains(&self) -> bool {
+        self.streams.faults.is_terminal()
+    }
+
+    fn create(
+        &self,
+        job: &Job<'_>,
+        inputs: &[Option<FileId>],
+        size: Option<u64>,
+    ) -> Result<(Watched<'a, Shared<'a>, R>, Option<Beside>), Outcome> {
+        let alloc = self.rt.alloc();
+        let (output, beside) = create_for(self.rt, alloc, job, self.streams.output, inputs)?;
+        let screen = screen_of(self.rt, self.streams.faults, &output);
+        let is_terminal = output.is_terminal();
+        match Buffered::new(alloc, output_buffer(is_terminal), output) {
+            Ok(buffered) => self.output.begin(buffered),
+            Err(outcome) => {
+                if let Some(beside) = beside {
+                    beside.remove(self.rt);
+                }
+                return Err(outcome);
+            }
+        }
+        self.progress.begin(screen, is_terminal, size);
+        Ok((
+            Watched::new(Shared::new(self.output), self.progress),
+            beside,
+        ))
+    }
+
+    fn settle(&self, name: Option<Beside>, answer: Result<(), Stop>) -> Result<(), Stop> {
+        self.progress.wipe();
+        match name {
+            Some(beside) => beside.settle(self.rt, answer),
+            None => answer,
+        }
+    }
+
+    fn tell(&self, stop: Stop, job: Option<&Job<'_>>, said: &[u8], told: &Told) -> Outcome {
+        let mut faults = Tracked::new(self.streams.faults);
+        let mut output = Tracked::new(self.streams.output);
+        let outcome = tell_job(stop.outcome, said, job, &mut output, &mut faults);
+        if told.counts {
+            let stop = Stop {
+                outcome,
+                error: stop.error,
+            };
+            explain(self.rt, job, &stop, told, &mut faults);
+        }
+        outcome
+    }
+}
+
+/// Runs the program: does what the words of its command line ask for, tells how that ended, and returns its status.
+/// `has_no_input` says whether standard input is closed.
+pub fn run<R: Files<File = File> + Clock + AllocGlobal + Env>(
+    rt: &R,
+    streams: StandardStreams,
+    has_no_input: bool,
+) -> u8 {
+    let output = SharedOutput::new();
+    let progress = Progress::idle(rt).with_output(&output);
+    let host = Host {
+        rt,
+        streams,
+        is_closed: has_no_input,
+        output: &output,
+        progress: &progress,
+    };
+    let outcome = match words_of(rt) {
+        Ok(words) => run_words(&host, rt.alloc(), words.as_slice()),
+        Err(fault) => tell_unread(&host, fault),
+    };
+    status_of(&outcome)
+}

@@ -1,0 +1,64 @@
+//! What a run reaches besides its words: the files that it opens, its output, and who is told how it ended.
+ghost use Rattle.std.specs.Prelude.{◌≡◌, ◌⊎◌, Bool, List, Option, Result, IfErr, IsErr, IsFalse, IsOk};
+ghost use Rattle.cap_line.specs.declared.jobs.Job.{Job};
+ghost use Rattle.cap_tool.specs.Outcomes.{is_help};
+ghost use Rattle.cap_tool.specs.declared.outcomes.Outcome.{Outcome};
+ghost use Rattle.cap_tool.specs.declared.outcomes.Stop.{Stop};
+ghost use Rattle.cap_tool.specs.declared.regular.FileId.{FileId};
+
+use crate::left::Told;
+use crate::openers::Opener;
+use crate::outcomes::{Outcome, Stop};
+use crate::outlets::Outlet;
+use crate::regular::FileId;
+use cap_bytes::Fault;
+use cap_line::Job;
+
+/// What a run reaches besides its words: the files that it opens, its output, and who is told how it ended.
+pub trait System: Opener {
+    /// What a job is written to.
+    type Writer: Outlet;
+
+    /// What is to be settled of an output once its job is done: whether it takes its name only then.
+    type Name: Drop;
+
+    /// Whether standard input is closed.
+    ghost lacks_input: { Self → Bool };
+
+    /// What the creation of a job's output may give, of a job that reads those regular files.
+    ghost makes: { Self → Job → List (Option FileId) → Result (Self.Writer × Self.Name) Outcome → Type 0 };
+
+    /// How a run may end whose job ended so, once its output is settled.
+    ghost settles: { Self → Self.Name → Result (Unit {0}) Stop → Result (Unit {0}) Stop → Type 0 };
+
+    /// Whether standard input is closed.
+    fn has_no_input(&self) -> bool
+        ensures { result ≡ lacks_input self.now };
+
+    /// Whether a failure is explained also if the words of the command line don't ask for it.
+    fn explains(&self) -> bool;
+
+    /// Creates the output of a job that reads those regular files, and as many bytes together as `size` says, if that
+    /// is known. Returns `Outcome::Create` if it can't be created, or `Fault::Memory`.
+    fn create(
+        &self,
+        job: &Job<'_>,
+        inputs: &[Option<FileId>],
+        size: Option<u64>,
+    ) -> Result<(Self::Writer, Self::Name), Outcome>
+        ensures makes { makes self.now job.now inputs.now result }
+        ensures stops { IfErr result (λ outcome. (outcome ≡ Outcome.Create)
+            ⊎ (outcome ≡ Outcome.Fault Fault.Memory)) };
+
+    /// Settles the output of a run whose job ended so. A job that wasn't done ends as it did; one that was done can
+    /// end by `Fault::Write`, if the output can't take its name.
+    fn settle(&self, name: Self::Name, answer: Result<(), Stop>) -> Result<(), Stop>
+        ensures settles { settles self.now name answer result }
+        ensures stopped { IsErr answer → result ≡ answer }
+        ensures done { IsOk answer → IfErr result (λ stop. stop.outcome ≡ Outcome.Fault Fault.Write) };
+
+    /// Tells how a run ended, and more of it if that is asked for: `said` is what is printed of words that give no job.
+    /// Returns how the program ends: as the run did, unless help could not be written.
+    fn tell(&self, stop: Stop, job: Option<&Job<'_>>, said: &[u8], told: &Told) -> Outcome
+        ensures { IsFalse (is_help stop.outcome) → result ≡ stop.outcome };
+}
