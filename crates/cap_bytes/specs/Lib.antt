@@ -1,5 +1,6 @@
 pub mod Number
 pub mod Device
+pub mod Formats
 pub mod Items
 pub mod Printing
 pub mod Rules

@@ -4,6 +4,7 @@
 mod buffers;
 mod devices;
 mod faults;
+mod formats;
 mod limits;
 mod memory;
 mod numbers;
@@ -13,6 +14,7 @@ mod windows;
 
 pub use crate::devices::{Broken, Device, Sink, Source, put_all};
 pub use crate::faults::{Fault, Refusal, Rule, Tail};
+pub use crate::formats::Format;
 pub use crate::limits::{FILE_LIMIT, PACKET_LIMIT};
 pub use crate::memory::{Pieces, Room};
 pub use crate::numbers::{Order, put_u16, put_u32, put_u64, u16_at, u32_at, u64_at};

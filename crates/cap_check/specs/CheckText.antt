@@ -8,9 +8,9 @@ use Rattle.cap_bytes.specs.declared.faults.Fault.TheVariants.{Memory, Read, Refu
 use Rattle.cap_bytes.specs.declared.faults.Tail.{Tail}
 use Rattle.cap_print.specs.Facts.{Facts, Field, flag, group, line_in, number, one, word}
 use Rattle.cap_print.specs.declared.forms.Form.{Form}
-use Rattle.cap_source.specs.Formats.{format_name}
+use Rattle.cap_bytes.specs.Formats.{format_name}
 use Rattle.cap_source.specs.declared.feeds.FileEnd.{FileEnd}
-use Rattle.cap_source.specs.declared.packets.Format.{Format}
+use Rattle.cap_bytes.specs.declared.formats.Format.{Format}
 use Rattle.cap_check.specs.Checking.{AreChecked, IsChecked, Opened, are_whole, is_whole_end}
 use Rattle.cap_check.specs.declared.checked.Check.{Check}
 use Rattle.cap_check.specs.declared.checked.CheckEnd.{CheckEnd}

@@ -6,7 +6,7 @@ ghost use Rattle.cap_print.specs.Lines.{room_in, text_in};
 ghost use Rattle.cap_print.specs.declared.forms.Form.TheVariants.{Json, Text};
 ghost use Rattle.cap_check.specs.CheckText.{check_facts, end_fields, known_end, ending_format, ending_interfaces};
 ghost use Rattle.cap_check.specs.CheckText.{ending_skipped};
-ghost use Rattle.cap_source.specs.Formats.{format_name};
+ghost use Rattle.cap_bytes.specs.Formats.{format_name};
 
 use crate::checked::{Check, CheckEnd};
 use cap_bytes::Refusal;

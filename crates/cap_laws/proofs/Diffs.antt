@@ -18,7 +18,7 @@ use Rattle.cap_time.specs.declared.stamps.Stamp.{Stamp}
 use Rattle.cap_tool.specs.DiffText.{Comparison, compared, differences_of, do_differ, is_same, is_same_time}
 use Rattle.cap_tool.specs.DiffText.{other_packet, same_packets}
 use Rattle.cap_source.specs.Items.{file_first, file_items}
-use Rattle.cap_source.specs.declared.packets.Format.TheVariants.{Pcap, Pcapng}
+use Rattle.cap_bytes.specs.declared.formats.Format.TheVariants.{Pcap, Pcapng}
 use Rattle.cap_merge.specs.inner.Clocks.{clock_total}
 use Rattle.cap_time.specs.Stamp.{stamp_in}
 use Rattle.cap_write.specs.Pcap.{pcap_bytes}

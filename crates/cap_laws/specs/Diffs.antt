@@ -5,7 +5,7 @@ use Rattle.cap_blocks.specs.Split.{AreBytes}
 use Rattle.cap_bytes.specs.declared.faults.Tail.{Tail}
 use Rattle.cap_bytes.specs.declared.numbers.Order.{Order}
 use Rattle.cap_source.specs.Items.{file_items}
-use Rattle.cap_source.specs.declared.packets.Format.{Format}
+use Rattle.cap_bytes.specs.declared.formats.Format.{Format}
 use Rattle.cap_tool.specs.Converted.{convert_refusal, convert_text}
 use Rattle.cap_tool.specs.DiffText.{comparison_of, is_same, same_packets}
 use Rattle.cap_laws.specs.again.Laws.{SamePackets}

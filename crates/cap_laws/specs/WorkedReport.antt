@@ -2,7 +2,7 @@
 use Rattle.std.specs.Prelude.{◌≡◌, ℕ, ◌*◌, List, [], ◌∷◌, ◌++◌, codes, Some, None, pos, length, false}
 use Rattle.cap_source.specs.TimeBases.{microseconds}
 use Rattle.cap_source.specs.declared.feeds.FileEnd.{FileEnd}
-use Rattle.cap_source.specs.declared.packets.Format.TheVariants.{Pcap}
+use Rattle.cap_bytes.specs.declared.formats.Format.TheVariants.{Pcap}
 use Rattle.cap_source.specs.declared.packets.Meta.{Meta}
 use Rattle.cap_time.specs.Stamp.{stamp_in}
 use Rattle.cap_time.specs.declared.resolutions.Interface.{Interface}

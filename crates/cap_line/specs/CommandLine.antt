@@ -5,7 +5,7 @@ use Rattle.clap.specs.Words.{App, Row, Text, all_of, first_of, fault_of, subcomm
 use Rattle.clap.specs.declared.error.kind.ErrorKind.{ErrorKind}
 use Rattle.clap.specs.declared.error.kind.ErrorKind.TheVariants as kind
 use Rattle.cap_line.specs.Command.{IsCapt}
-use Rattle.cap_source.specs.declared.packets.Format.{Format}
+use Rattle.cap_bytes.specs.declared.formats.Format.{Format}
 use Rattle.cap_line.specs.Jobs.{IsShownJob, IsWholeJob, can_replace, can_show, data_by, files_fault, format_by}
 use Rattle.cap_line.specs.Jobs.{is_whole_task, order_by, task_by}
 use Rattle.cap_line.specs.declared.jobs.Job.{Job}

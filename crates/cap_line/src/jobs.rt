@@ -7,8 +7,7 @@ ghost use Rattle.cap_line.specs.Jobs.{can_replace, can_show, count_in, data_by, 
 ghost use Rattle.cap_line.specs.Jobs.{is_also_file, is_digits, is_whole_task, most_files, order_by, task_by};
 
 use crate::faults::LineFault;
-use cap_bytes::Order;
-use cap_source::Format;
+use cap_bytes::{Format, Order};
 
 // How many files a command reads at most, and how many `check` does, which reads one after the other.
 const FILES_LIMIT: usize = 32;

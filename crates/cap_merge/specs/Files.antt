@@ -6,7 +6,7 @@ use Rattle.cap_merge.specs.Run.{Clocked, opened_track, run}
 use Rattle.cap_source.specs.Feed.{Item}
 use Rattle.cap_source.specs.Items.{file_items, file_ending}
 use Rattle.cap_source.specs.declared.feeds.FileEnd.{FileEnd}
-use Rattle.cap_source.specs.declared.packets.Format.TheVariants.{Pcap}
+use Rattle.cap_bytes.specs.declared.formats.Format.TheVariants.{Pcap}
 
 -- the items of some files in the order of exact time, up to the first refusal
 abbrev pub run_of_lists : List (List Item) → List Item

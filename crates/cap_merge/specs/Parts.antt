@@ -12,7 +12,7 @@ use Rattle.cap_source.specs.declared.feeds.Head.{Head}
 use Rattle.cap_source.specs.declared.feeds.Head.TheVariants as heads
 use Rattle.cap_source.specs.declared.feeds.FileEnd.{FileEnd}
 use Rattle.cap_source.specs.declared.feeds.FeedHeld.{FeedHeld}
-use Rattle.cap_source.specs.declared.packets.Format.TheVariants.{Pcap}
+use Rattle.cap_bytes.specs.declared.formats.Format.TheVariants.{Pcap}
 use Rattle.cap_source.specs.Feed.{Item, packet, refused, Feed}
 use Rattle.cap_source.specs.Times.{meta_time}
 use Rattle.cap_merge.specs.declared.lanes.Lane.{Lane}

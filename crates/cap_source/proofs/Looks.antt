@@ -14,7 +14,7 @@ use Rattle.cap_source.specs.Items.{Progress, interface_of, is_pcapng, items_of_b
 use Rattle.cap_source.specs.Items.{pcap_ending, unless_refused, items_from, ending_from, first_from}
 use Rattle.cap_source.specs.inner.FileState.{FileKeeps, unread_state, FileWaits}
 use Rattle.cap_source.specs.inner.Readers.{reader_file_state, reader_by, has_format, LooksAtWindow}
-use Rattle.cap_source.specs.declared.packets.Format.{Format}
+use Rattle.cap_bytes.specs.declared.formats.Format.{Format}
 use Rattle.cap_source.specs.declared.readers.Reader.{Reader}
 use Rattle.cap_source.specs.declared.readers.Reader.TheVariants as readers
 

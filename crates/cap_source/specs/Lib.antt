@@ -1,4 +1,3 @@
-pub mod Formats
 pub mod Feed
 pub mod Times
 pub mod TimeBases

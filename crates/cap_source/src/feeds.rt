@@ -3,8 +3,8 @@ ghost use Rattle.std.specs.Prelude.{◌≡◌, IsTrue, Some};
 ghost use Rattle.cap_source.specs.Feed.{Feed, GivesHead, FeedKeeps, KeepsItems, SameItems, FindsPacket, ShowsPacket};
 ghost use Rattle.cap_source.specs.Feed.{FindsItem, FeedPasses, IsPacket, HasFile, IsFeed};
 
-use crate::packets::{Format, Meta};
-use cap_bytes::{Fault, Refusal};
+use crate::packets::Meta;
+use cap_bytes::{Fault, Format, Refusal};
 
 /// What comes next of a feed, of however many files: what its caller needs to know of it, and no more.
 #[derive(Clone, Copy, Debug, PartialEq, Eq)]

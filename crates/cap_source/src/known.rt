@@ -6,9 +6,9 @@ ghost use Rattle.cap_source.specs.inner.FileState.{next_head, is_packet, start_o
 ghost use Rattle.cap_source.specs.declared.readers.Next.TheVariants.{Packet, Refused, End};
 
 use crate::feeds::FileEnd;
-use crate::packets::{Format, Meta};
+use crate::packets::Meta;
 use crate::readers::Next;
-use cap_bytes::Refusal;
+use cap_bytes::{Format, Refusal};
 use cap_time::{Interface, Resolution};
 use std::marker::Model;
 

@@ -22,5 +22,6 @@ pub use crate::captures::Capture;
 pub use crate::fed_captures::{Fed, FedCapture};
 pub use crate::feeds::{Ending, FeedHeld, FileEnd, Head, PacketFeed};
 pub use crate::listed::Listed;
-pub use crate::packets::{Format, Meta};
+pub use crate::packets::Meta;
 pub use crate::walks::next_packet;
+pub use cap_bytes::Format;

@@ -4,8 +4,8 @@ ghost use Rattle.std.specs.Option.{ForSome};
 ghost use Rattle.cap_source.specs.inner.Listed.{head_at, list_feed, lists_lawful};
 
 use crate::feeds::{Ending, FeedHeld, Head, PacketFeed};
-use crate::packets::{Format, Meta};
-use cap_bytes::{Fault, Refusal, Rule};
+use crate::packets::Meta;
+use cap_bytes::{Fault, Format, Refusal, Rule};
 use cap_time::Interface;
 
 // The most packets that a list gives.

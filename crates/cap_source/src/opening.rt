@@ -8,10 +8,9 @@ ghost use Rattle.cap_source.specs.inner.Readers.{reader_file_state, is_there, Is
 ghost use Rattle.cap_source.specs.inner.Readers.{LooksAtWindow, reader_by, reader_room};
 ghost use Rattle.cap_source.specs.declared.reached.Reached.{Reached};
 
-use crate::packets::Format;
 use crate::readers::Reader;
 use cap_blocks::{BlockReader, is_section};
-use cap_bytes::{Fault, Source, Window};
+use cap_bytes::{Fault, Format, Source, Window};
 use cap_pcap::PcapReader;
 use std::mem;
 

@@ -1,30 +1,8 @@
 //! What is known of a packet beside its bytes.
 ghost use Rattle.std.specs.Prelude.{◌≡◌, ◌<ℤ◌, ◌^◌, pos, IfSome};
 
+use cap_bytes::Format;
 use cap_time::{Interface, Stamp};
-
-/// The format of a capture file.
-#[derive(Clone, Copy, Debug, PartialEq, Eq)]
-pub enum Format {
-    /// Pcap 2.4. draft-ietf-opsawg-pcap.
-    Pcap,
-    /// Pcapng 1.0 and 1.2. draft-ietf-opsawg-pcapng.
-    Pcapng,
-}
-
-impl Format {
-    ghost use Rattle.cap_source.specs.Formats.{format_name};
-
-    /// The name that is printed: `pcap` or `pcapng`.
-    pub fn name(&self) -> &'static str
-        ensures { result.now ≡ format_name self.now }
-    {
-        match self {
-            Format::Pcap => "pcap",
-            Format::Pcapng => "pcapng",
-        }
-    }
-}
 
 /// What is known of a packet beside its captured bytes.
 #[derive(Clone, Copy, Debug, PartialEq, Eq)]

@@ -6,8 +6,8 @@ ghost use Rattle.cap_source.specs.inner.FileState.{pcap_state};
 
 use crate::feeds::{Ending, FileEnd};
 use crate::known::Known;
-use crate::packets::{Format, Meta};
-use cap_bytes::{Fault, Source};
+use crate::packets::Meta;
+use cap_bytes::{Fault, Format, Source};
 use cap_pcap::{PcapHeader, PcapReader, Record};
 use cap_time::{Interface, Resolution, Unit};
 

@@ -12,10 +12,10 @@ ghost use Rattle.cap_source.specs.inner.Reached.{progress_of, counted_blocks, ha
 use crate::contents::{Content, Packet, content_of, enhanced_packet};
 use crate::feeds::{Ending, FileEnd};
 use crate::known::Known;
-use crate::packets::{Format, Meta};
+use crate::packets::Meta;
 use crate::reached::{Reached, go_on};
 use cap_blocks::{Block, BlockReader, is_known};
-use cap_bytes::{Fault, Refusal, Rule, Source};
+use cap_bytes::{Fault, Format, Refusal, Rule, Source};
 use cap_time::Interface;
 
 // How a pcapng file ended of which that much was read.

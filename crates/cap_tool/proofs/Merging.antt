@@ -9,7 +9,7 @@ use Rattle.cap_bytes.specs.declared.numbers.Order.{Order}
 use Rattle.cap_merge.proofs.Unread.{told-readers, bytes-readers, run-items}
 use Rattle.cap_merge.specs.Parts.{Part, merged_feed, run_of}
 use Rattle.cap_merge.specs.inner.Readers.{ReaderFacts, IsUnreadRun}
-use Rattle.cap_source.specs.declared.packets.Format.{Format}
+use Rattle.cap_bytes.specs.declared.formats.Format.{Format}
 use Rattle.cap_tool.specs.JoinText.{join_text_in, join_refusal_in}
 use Rattle.cap_tool.specs.MergeText.{merge_text_in, merge_refusal_in}
 use Rattle.cap_tool.specs.RunText.{datagrams_refusal, datagrams_text, packets_refusal, packets_text}

@@ -14,8 +14,8 @@ use Rattle.cap_line.specs.declared.jobs.Task.TheVariants as tasks
 use Rattle.cap_print.specs.declared.forms.Form.{Form}
 use Rattle.cap_print.specs.declared.forms.Form.TheVariants.{Json, Text}
 use Rattle.cap_merge.specs.Files.{clocked_run, endings_of_files}
-use Rattle.cap_source.specs.declared.packets.Format.{Format}
-use Rattle.cap_source.specs.declared.packets.Format.TheVariants.{Pcapng}
+use Rattle.cap_bytes.specs.declared.formats.Format.{Format}
+use Rattle.cap_bytes.specs.declared.formats.Format.TheVariants.{Pcapng}
 use Rattle.cap_talks.specs.talks.InfoText.{first_refusal, info_text_in}
 use Rattle.cap_talks.specs.talks.ReportText.{report_refusal, report_text_in}
 use Rattle.cap_talks.specs.talks.Telling.{Tells}

@@ -4,8 +4,8 @@ use Rattle.cap_bytes.specs.declared.faults.Refusal.{Refusal}
 use Rattle.cap_bytes.specs.declared.faults.Tail.{Tail}
 use Rattle.cap_bytes.specs.declared.numbers.Order.{Order}
 use Rattle.cap_merge.specs.Files.{run_of_files}
-use Rattle.cap_source.specs.declared.packets.Format.{Format}
-use Rattle.cap_source.specs.declared.packets.Format.TheVariants.{Pcapng}
+use Rattle.cap_bytes.specs.declared.formats.Format.{Format}
+use Rattle.cap_bytes.specs.declared.formats.Format.TheVariants.{Pcapng}
 use Rattle.cap_tool.specs.RunText.{packets_refusal, packets_text}
 
 -- what is written in that format of files of those bytes in the order of time, and the refusal that is then returned,

@@ -4,8 +4,8 @@ use Rattle.cap_bytes.specs.declared.faults.Refusal.{Refusal}
 use Rattle.cap_bytes.specs.declared.numbers.Order.{Order}
 use Rattle.cap_merge.specs.Run.{Clocked}
 use Rattle.cap_source.specs.Feed.{Item}
-use Rattle.cap_source.specs.declared.packets.Format.{Format}
-use Rattle.cap_source.specs.declared.packets.Format.TheVariants.{Pcap, Pcapng}
+use Rattle.cap_bytes.specs.declared.formats.Format.{Format}
+use Rattle.cap_bytes.specs.declared.formats.Format.TheVariants.{Pcap, Pcapng}
 use Rattle.cap_write.specs.Joined.{joined_bytes, joined_refusal}
 use Rattle.cap_write.specs.PcapRun.{joined_pcap_bytes, joined_pcap_refusal, run_bytes, run_refusal}
 use Rattle.cap_write.specs.Texts.{merged_bytes, merged_refusal}

@@ -3,8 +3,8 @@ use Rattle.std.specs.Prelude.{ℕ, Bool, true, false, Result, Ok, Err}
 use Rattle.cap_bytes.specs.Rules.{rule_number}
 use Rattle.cap_bytes.specs.declared.faults.Fault.{Fault}
 use Rattle.cap_bytes.specs.declared.faults.Fault.TheVariants.{Refused, Read, Write, Memory}
-use Rattle.cap_source.specs.declared.packets.Format.{Format}
-use Rattle.cap_source.specs.declared.packets.Format.TheVariants.{Pcap, Pcapng}
+use Rattle.cap_bytes.specs.declared.formats.Format.{Format}
+use Rattle.cap_bytes.specs.declared.formats.Format.TheVariants.{Pcap, Pcapng}
 use Rattle.cap_bytes.specs.declared.numbers.Order.{Order}
 use Rattle.cap_bytes.specs.declared.numbers.Order.TheVariants.{Big, Little}
 use Rattle.capt_c.specs.declared.answers.Place.{Place}

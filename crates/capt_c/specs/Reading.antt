@@ -15,8 +15,8 @@ use Rattle.capt_c.specs.declared.answers.Place.{Place}
 use Rattle.cap_source.specs.declared.feeds.Ending.{Ending}
 use Rattle.cap_source.specs.declared.feeds.Head.{Head}
 use Rattle.cap_source.specs.declared.feeds.Head.TheVariants as heads
-use Rattle.cap_source.specs.declared.packets.Format.{Format}
-use Rattle.cap_source.specs.declared.packets.Format.TheVariants.{Pcap, Pcapng}
+use Rattle.cap_bytes.specs.declared.formats.Format.{Format}
+use Rattle.cap_bytes.specs.declared.formats.Format.TheVariants.{Pcap, Pcapng}
 use Rattle.capt_c.specs.declared.handles.Held.{Held}
 use Rattle.capt_c.specs.declared.handles.Held.TheVariants as helds
 use Rattle.capt_c.specs.declared.packets.Packet.{Packet}

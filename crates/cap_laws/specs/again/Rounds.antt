@@ -11,7 +11,7 @@ use Rattle.cap_bytes.specs.declared.numbers.Order.{Order}
 use Rattle.cap_source.specs.Feed.{Item, packet, refused, refusal_of}
 use Rattle.cap_bytes.specs.declared.faults.Refusal.{Refusal}
 use Rattle.cap_source.specs.Items.{file_first, file_items}
-use Rattle.cap_source.specs.declared.packets.Format.TheVariants.{Pcapng}
+use Rattle.cap_bytes.specs.declared.formats.Format.TheVariants.{Pcapng}
 use Rattle.cap_source.specs.declared.packets.Meta.{Meta}
 use Rattle.cap_time.specs.Clock.{clock_cmp, greatest}
 use Rattle.cap_write.specs.Numbering.{Numbered, numbered, refusal_in}

@@ -6,8 +6,8 @@ use Rattle.cap_bytes.specs.declared.faults.Fault.{Fault}
 use Rattle.cap_bytes.specs.declared.faults.Fault.TheVariants.{Refused, Read, Write, Memory}
 use Rattle.cap_bytes.specs.inner.Reader.{opened_reader}
 use Rattle.cap_source.specs.Items.{is_pcapng}
-use Rattle.cap_source.specs.declared.packets.Format.{Format}
-use Rattle.cap_source.specs.declared.packets.Format.TheVariants.{Pcap, Pcapng}
+use Rattle.cap_bytes.specs.declared.formats.Format.{Format}
+use Rattle.cap_bytes.specs.declared.formats.Format.TheVariants.{Pcap, Pcapng}
 use Rattle.cap_source.specs.Items.{Progress, ending_with}
 use Rattle.cap_source.specs.inner.FileState.{FileState, FileFails, FileWaits, unread_state, pcap_state, pcapng_state}
 use Rattle.cap_source.specs.inner.Reached.{has_room}

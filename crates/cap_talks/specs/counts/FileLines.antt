@@ -2,10 +2,10 @@
 use Rattle.std.specs.Prelude.{ℕ, ◌+◌, Bool, false, List, [], ◌∷◌, ◌++◌, codes, Option, Some, None, option_map}
 use Rattle.cap_print.specs.Facts.{Facts, one, number, word, moment, flag, line_in}
 use Rattle.cap_print.specs.declared.forms.Form.{Form}
-use Rattle.cap_source.specs.Formats.{format_name}
+use Rattle.cap_bytes.specs.Formats.{format_name}
 use Rattle.cap_source.specs.declared.feeds.Ending.{Ending}
 use Rattle.cap_source.specs.declared.feeds.FileEnd.{FileEnd}
-use Rattle.cap_source.specs.declared.packets.Format.{Format}
+use Rattle.cap_bytes.specs.declared.formats.Format.{Format}
 use Rattle.cap_time.specs.Stamp.{printed_of}
 use Rattle.cap_talks.specs.declared.counts.counts.Counts.{Counts}
 use Rattle.cap_talks.specs.declared.counts.files.Counted.{Counted}

@@ -3,7 +3,7 @@ ghost use Rattle.std.specs.Prelude.{◌≡◌, ◌+◌, ◌≤◌, ◌++◌, cod
 ghost use Rattle.cap_print.specs.Facts.{line_in};
 ghost use Rattle.cap_print.specs.Lines.{room_in, text_in};
 ghost use Rattle.cap_print.specs.declared.forms.Form.TheVariants.{Text, Json};
-ghost use Rattle.cap_source.specs.Formats.{format_name};
+ghost use Rattle.cap_bytes.specs.Formats.{format_name};
 ghost use Rattle.cap_talks.specs.counts.FileLines.{counts_facts, file_facts, files_facts};
 
 use crate::counts::counts::Counts;
