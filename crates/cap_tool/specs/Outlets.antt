@@ -14,7 +14,8 @@ buffered_waiting buffered = writer_buffer buffered.writer
 
 -- the bytes that it holds, those that were written and those that wait, if what it writes to tells its own
 abbrev pub buffered_contents : {W : Type 0} → (W → Option (List ℕ)) → Buffered W → Option (List ℕ)
-buffered_contents contents buffered = writer_contents (λ remembered. contents (remembered_inner remembered)) buffered.writer
+buffered_contents contents buffered =
+    writer_contents (λ remembered. contents (remembered_inner remembered)) buffered.writer
 
 -- whether a write of it has failed
 abbrev pub buffered_failed : {W : Type 0} → Buffered W → Bool

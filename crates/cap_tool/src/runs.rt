@@ -121,7 +121,8 @@ fn run_files<S: System>(
     told: &mut Told,
 ) -> Result<(), Stop>
     requires { IsWholeJob job.now }
-    ensures runs { StopsFirst (S.gives system.now) (S.makes system.now job.now) (S.lacks_input system.now) job.now result
+    ensures runs { StopsFirst (S.gives system.now) (S.makes system.now job.now) (S.lacks_input system.now) job.now
+        result
         ⊎ RunsFiles (S.gives system.now) (λ s. record {
           told = S.Reader.tells_coming s;
           bytes = S.Reader.coming s;
@@ -148,7 +149,8 @@ fn run_files<S: System>(
 // Does `check`, whose files are opened one after another once its output is created.
 fn run_checks<S: System>(system: &S, alloc: Global, job: &Job<'_>) -> Result<(), Stop>
     requires { IsWholeJob job.now }
-    ensures runs { StopsFirst (S.gives system.now) (S.makes system.now job.now) (S.lacks_input system.now) job.now result
+    ensures runs { StopsFirst (S.gives system.now) (S.makes system.now job.now) (S.lacks_input system.now) job.now
+        result
         ⊎ RunsChecks (S.gives system.now) (λ s. record {
           told = S.Reader.tells_coming s;
           bytes = S.Reader.coming s;

@@ -9,8 +9,8 @@ use std::io;
 use std::io::ErrorKind;
 
 /// A buffered output that is shared, once there is one: what writes to it goes through a `Shared`, and what reads may
-/// write out what waits. A contract can't say what a cell holds, so `checks/program.sh` watches that these calls do what
-/// the same call of the output does.
+/// write out what waits. No contract says what a cell holds, so `checks/program.sh` watches that each of these calls
+/// does what the same call of the output does.
 #[derive(Drop)]
 pub struct SharedOutput {
     buffered: RefCell<Option<Buffered<Output>>>,

@@ -1,6 +1,6 @@
 //! The files and the standard streams of a run.
-ghost use Rattle.std.specs.Prelude.{◌≡◌, ◌≢◌, ◌≤◌, ◌+◌, ◌++◌, ◌∷◌, [], codes, length, map, vec_len, IfOk, IfErr, IfSome, IsErr};
-ghost use Rattle.std.specs.Prelude.{Contains, Err, IsFalse, IsSomeAnd, IsTrue, option_map, Some, None};
+ghost use Rattle.std.specs.Prelude.{◌≡◌, ◌≢◌, ◌≤◌, ◌+◌, ◌++◌, ◌∷◌, [], codes, length, map, vec_len, IfOk, IfErr};
+ghost use Rattle.std.specs.Prelude.{Contains, Err, IfSome, IsErr, IsFalse, IsSomeAnd, IsTrue, option_map, Some, None};
 ghost use Rattle.cap_tool.specs.CheckedNames.{AreGiven};
 ghost use Rattle.cap_tool.specs.Streams.{IsOutFile, IsStandardOut, StopsOpening, StopsCreating, is_dash, is_standard};
 
