@@ -400,27 +400,29 @@ def check_line(number, end, packets=(), format="-", skipped=0, interfaces=0):
             f"interfaces {interfaces} {end}\n")
 
 
+def checked_to(file, offset, end):
+    """The line of a file that was read up to that offset and ends so. A pcap file has one interface, once its header was
+    read. A record or a block that is refused is counted in nothing, so what stands before the offset is all that is."""
+    if offset == 0:
+        return check_line(file.number, end)
+    packets = [packet for packet in file.packets if packet.offset < offset]
+    kinds = [block.kind for block in file.blocks if block.offset < offset]
+    skipped = sum(kind not in LEAST for kind in kinds)
+    interfaces = 1 if file.format == "pcap" else kinds.count(INTERFACE)
+    return check_line(file.number, end, packets, file.format, skipped, interfaces)
+
+
 def checked(file):
-    """The line of a file of which no read fails; a pcap file has one interface, once its header is read."""
+    """The line of a file of which no read fails."""
     refusal = file.refusal
     if refusal:
-        end = f"refused offset {refusal.offset} rule {refusal.rule} {RULES[refusal.rule]}"
-    else:
-        end = "whole cut" if file.ending.cut else "whole"
-    if refusal and refusal.offset == 0:
-        return check_line(file.number, end)
-    interfaces = 1 if file.format == "pcap" else file.instances
-    return check_line(file.number, end, file.packets, file.format, file.skipped, interfaces)
+        return checked_to(file, refusal.offset, f"refused offset {refusal.offset} rule {refusal.rule} {RULES[refusal.rule]}")
+    return checked_to(file, MOST_FILE + 1, "whole cut" if file.ending.cut else "whole")
 
 
 def unread(number, content, offset):
-    """The line of a file of which a read fails in the header, record or block at that offset. The packets before that
-    tell the format, the skipped blocks up to the last one, and the interfaces up to the last that has one of them."""
-    packets = [packet for packet in File(number, content, False).packets if packet.offset < offset]
-    if not packets:
-        return check_line(number, f"read offset {offset}")
-    last, interfaces = packets[-1], 1 + max(packet.instance for packet in packets)
-    return check_line(number, f"read offset {offset}", packets, last.format, last.skipped, interfaces)
+    """The line of a file of which a read fails in the header, record or block at that offset."""
+    return checked_to(File(number, content, False), offset, f"read offset {offset}")
 
 
 def unopened(number):

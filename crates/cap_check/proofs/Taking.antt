@@ -1,6 +1,6 @@
 -- The packets of a feed, taken one by one.
-use Rattle.std.proofs.Common.{◌≡◌, ◌≤◌, ◌+◌, ◌^◌, ℕ, List, [], ◌∷◌, ◌++◌, drop, length, take, sym, ap, ◌∙◌}
-use Rattle.std.proofs.Common.{arith, refl, Some, None, IsTrue, Ok, Err, append-nil, append_assoc, take_at}
+use Rattle.std.proofs.Common.{◌≡◌, ◌≤◌, ◌+◌, ◌^◌, ℕ, List, [], ◌∷◌, ◌++◌, drop, sym, ap, ◌∙◌}
+use Rattle.std.proofs.Common.{arith, refl, Some, None, IsTrue, Ok, Err, append_assoc}
 use Rattle.cap_bytes.specs.declared.faults.Fault.{Fault}
 use Rattle.cap_bytes.specs.declared.faults.Fault.TheVariants.{Refused, Read, Write, Memory}
 use Rattle.cap_source.proofs.Onward.{Keeps-refl, Keeps-trans}
@@ -40,12 +40,12 @@ Taking-none old checked few is = record {
   after = λ items. rw is refl;
 }
 
-after-packet : (checked : Checked) (meta : Meta) (frame : List ℕ) (items : List Item)
+pub after-packet : (checked : Checked) (meta : Meta) (frame : List ℕ) (items : List Item)
     → checked_after checked (packet meta frame ∷ items) ≡ checked_after (with_checked checked meta) items
 unfolding checked_after
 after-packet checked meta frame items = refl
 
-after-none : (checked : Checked) → checked_after checked [] ≡ checked
+pub after-none : (checked : Checked) → checked_after checked [] ≡ checked
 unfolding checked_after
 after-none checked = refl
 
@@ -115,12 +115,7 @@ Taking-fault old mid shown checked (Refused r) i shows t =
       sym (all-taken old mid checked i t ∙ after-refused checked mid.items r s.1),
       λ file. s.0.endings file ∙ i.endings t file,
     )
-Taking-fault old mid shown checked (Read file offset) i shows t = (
-  length i.taken,
-  sym (ap (λ l. checked_after nothing_checked (take (length i.taken) l)) (i.items t)
-      ∙ (ap (checked_after nothing_checked) (take_at i.taken mid.items (length i.taken) refl
-      ∙ sym (append-nil i.taken)) ∙ (i.after [] ∙ after-none checked))),
-)
+Taking-fault old mid shown checked (Read file offset) i shows t = tt
 Taking-fault old mid shown checked Write i shows t = shows (i.keeps.told t)
 Taking-fault old mid shown checked Memory i shows t = tt
 

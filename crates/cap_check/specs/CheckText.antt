@@ -10,31 +10,31 @@ use Rattle.cap_print.specs.Facts.{Facts, Field, flag, group, line_in, number, on
 use Rattle.cap_print.specs.declared.forms.Form.{Form}
 use Rattle.cap_bytes.specs.Formats.{format_name}
 use Rattle.cap_source.specs.declared.feeds.FileEnd.{FileEnd}
-use Rattle.cap_bytes.specs.declared.formats.Format.{Format}
 use Rattle.cap_check.specs.Checking.{AreChecked, IsChecked, Opened, are_whole, is_whole_end}
 use Rattle.cap_check.specs.declared.checked.Check.{Check}
 use Rattle.cap_check.specs.declared.checked.CheckEnd.{CheckEnd}
 use Rattle.cap_check.specs.declared.checked.CheckEnd.TheVariants.{Opening, Reading, Refusing, Whole}
 
--- what a file has of blocks and interfaces up to its end, or up to its refusal, unless it is refused at its first byte
+-- What a file has of blocks and interfaces up to its end, to its refusal, or to a read that failed. Nothing is known of
+-- one that is refused at its first byte, nor of one of which not even the header or the first block was read.
 abbrev pub known_end : CheckEnd → Option FileEnd
 known_end (Whole end) = Some end
 known_end (Refusing refusal end) = if refusal.offset == 0 then None else Some end
-known_end (Reading offset) = None
+known_end (Reading offset end) = end
 known_end Opening = None
 
--- the format of a file, its skipped blocks, and its interfaces: if a read failed, those of its last packet
-abbrev pub ending_format : Option FileEnd → Option Format → Option Format
-ending_format (Some end) last = Some end.ending.format
-ending_format None last = last
+-- the format of a file by its name, how many of its blocks are skipped, and how many interface blocks it has (1 in a
+-- pcap file), up to there
+abbrev pub end_format_name : FileEnd → List ℕ
+end_format_name end = format_name end.ending.format
 
-abbrev pub ending_skipped : Option FileEnd → ℕ → ℕ
-ending_skipped (Some end) last = end.ending.skipped
-ending_skipped None last = last
+abbrev pub end_skipped : Option FileEnd → ℕ
+end_skipped (Some end) = end.ending.skipped
+end_skipped None = 0
 
-abbrev pub ending_interfaces : Option FileEnd → ℕ → ℕ
-ending_interfaces (Some end) last = end.interfaces
-ending_interfaces None last = last
+abbrev pub end_interfaces : Option FileEnd → ℕ
+end_interfaces (Some end) = end.interfaces
+end_interfaces None = 0
 
 -- how it ends: whole, a rest of it dropped or not; refused, at an offset and by a rule; by a read that failed, at an
 -- offset; or it could not be opened
@@ -48,7 +48,7 @@ end_fields (Refusing refusal end) =
     (record { label = codes " rule "; key = codes "rule"; value = number (rule_number refusal.rule) }
     ∷ record { label = codes " "; key = codes "name"; value = word (Some (rule_name refusal.rule)) } ∷ [])
     ∷ []
-end_fields (Reading offset) =
+end_fields (Reading offset end) =
     group (codes "read")
     (record { label = codes " read offset "; key = codes "offset"; value = number offset }) [] ∷ []
 end_fields Opening = one (record { label = codes " open"; key = codes "open"; value = flag true }) ∷ []
@@ -62,7 +62,7 @@ check_facts file check = record {
       ∷ one (record {
         label = codes " ";
         key = codes "format";
-        value = word (option_map format_name (ending_format (known_end check.end) check.counts.format));
+        value = word (option_map end_format_name (known_end check.end));
       })
       ∷ one (record { label = codes " packets "; key = codes "packets"; value = number check.counts.packets })
       ∷ one (record { label = codes " backward "; key = codes "backward"; value = number check.counts.backward })
@@ -71,12 +71,12 @@ check_facts file check = record {
       ∷ one (record {
         label = codes " skipped ";
         key = codes "skipped";
-        value = number (ending_skipped (known_end check.end) check.counts.skipped);
+        value = number (end_skipped (known_end check.end));
       })
       ∷ one (record {
         label = codes " interfaces ";
         key = codes "interfaces";
-        value = number (ending_interfaces (known_end check.end) check.counts.interfaces);
+        value = number (end_interfaces (known_end check.end));
       })
       ∷ end_fields check.end;
 }

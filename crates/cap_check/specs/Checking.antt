@@ -1,12 +1,13 @@
 -- What is counted of the packets of a file that is checked, and how the file ends.
-use Rattle.std.specs.Prelude.{◌≡◌, ℕ, ◌+◌, ◌&&◌, max, nat_lt, Bool, true, false, List, [], ◌∷◌, take, Option, Some}
-use Rattle.std.specs.Prelude.{None, is_none, is_some, if◌then◌else◌, IsTrue}
+use Rattle.std.specs.Prelude.{◌≡◌, ℕ, ◌+◌, ◌≤◌, ◌&&◌, nat_lt, Bool, true, false, List, [], ◌∷◌, length, take, Option}
+use Rattle.std.specs.Prelude.{Some, None, is_none, is_some, if◌then◌else◌, IsTrue}
 use Rattle.std.specs.List.{list_all}
 use Rattle.std.specs.Ordering.{is_lt}
 use Rattle.cap_bytes.specs.declared.faults.Tail.{Tail}
 use Rattle.cap_source.specs.Feed.{Item, packet, refused, refusal_of}
 use Rattle.cap_source.specs.Items.{file_ending, file_items}
 use Rattle.cap_source.specs.Times.{meta_time}
+use Rattle.cap_source.specs.declared.feeds.FileEnd.{FileEnd}
 use Rattle.cap_source.specs.declared.packets.Meta.{Meta}
 use Rattle.cap_time.specs.Clock.{clock_cmp, later}
 use Rattle.cap_time.specs.declared.stamps.Stamp.{Stamp}
@@ -27,27 +28,21 @@ counted_if is_so = if is_so then 1 else 0
 abbrev pub nothing_checked : Checked
 nothing_checked =
     record {
-      format = None;
       packets = 0;
       backward = 0;
       untimed = 0;
       truncated = 0;
-      skipped = 0;
-      interfaces = 0;
       clock = None;
     }
 
--- what is counted with one packet more, by which the file has the interfaces up to the one of its instance
+-- what is counted with one packet more
 abbrev pub with_checked : Checked → Meta → Checked
 with_checked checked meta =
     record {
-      format = Some meta.format;
       packets = checked.packets + 1;
       backward = checked.backward + counted_if (is_backward checked.clock (meta_time meta));
       untimed = checked.untimed + counted_if (is_none (meta_time meta));
       truncated = checked.truncated + counted_if (nat_lt meta.captured meta.original);
-      skipped = meta.skipped;
-      interfaces = max checked.interfaces (meta.instance + 1);
       clock = later checked.clock (meta_time meta);
     }
 
@@ -67,22 +62,32 @@ pub record Opened : Type 0 where
 abbrev pub FailsIf : Bool → CheckEnd → Type 0
 FailsIf can_fail (Whole end) = Unit {0}
 FailsIf can_fail (Refusing refusal end) = Unit {0}
-FailsIf can_fail (Reading offset) = IsTrue can_fail
+FailsIf can_fail (Reading offset end) = IsTrue can_fail
 FailsIf can_fail Opening = ⊥
 
--- The file of that number with those bytes was read to its end, to its refusal, or to a read that failed, after some of
--- its packets.
-abbrev pub IsCounted : Tail → ℕ → List ℕ → Checked → CheckEnd → Type 0
-IsCounted tail file bytes counts (Whole end) =
+-- The file of that number with those bytes isn't refused, has those packets, and ends so.
+abbrev pub HasCounts : Tail → ℕ → List ℕ → Checked → FileEnd → Type 0
+HasCounts tail file bytes counts end =
     (refusal_of (file_items tail file bytes) ≡ None)
     × (counts ≡ checked_after nothing_checked (file_items tail file bytes))
     × (end ≡ file_ending tail file bytes)
+
+-- The file was read up to that offset, at which a read failed: a record or a block begins there, or its bytes end. It
+-- has the packets, the skipped blocks and the interfaces of the same file that ends there, which isn't cut. If the read
+-- failed in the header or in the first block, nothing was read.
+abbrev pub IsReadTo : Tail → ℕ → List ℕ → Checked → ℕ → Option FileEnd → Type 0
+IsReadTo tail file bytes counts offset (Some end) =
+    (offset ≤ length bytes) × (end.ending.was_cut ≡ false) × HasCounts tail file (take offset bytes) counts end
+IsReadTo tail file bytes counts offset None = (offset ≡ 0) × (counts ≡ nothing_checked)
+
+-- The file of that number with those bytes was read to its end, to its refusal, or to a read that failed.
+abbrev pub IsCounted : Tail → ℕ → List ℕ → Checked → CheckEnd → Type 0
+IsCounted tail file bytes counts (Whole end) = HasCounts tail file bytes counts end
 IsCounted tail file bytes counts (Refusing refusal end) =
     (refusal_of (file_items tail file bytes) ≡ Some refusal)
     × (counts ≡ checked_after nothing_checked (file_items tail file bytes))
     × (end ≡ file_ending tail file bytes)
-IsCounted tail file bytes counts (Reading offset) =
-    (n : ℕ) × (counts ≡ checked_after nothing_checked (take n (file_items tail file bytes)))
+IsCounted tail file bytes counts (Reading offset end) = IsReadTo tail file bytes counts offset end
 IsCounted tail file bytes counts Opening = ⊥
 
 -- The file of that number was checked, whether it could be opened or not.
@@ -103,7 +108,7 @@ AreChecked tail file (opened ∷ files) (check ∷ checks) =
 abbrev pub is_whole_end : CheckEnd → Bool
 is_whole_end (Whole end) = true
 is_whole_end (Refusing refusal end) = false
-is_whole_end (Reading offset) = false
+is_whole_end (Reading offset end) = false
 is_whole_end Opening = false
 
 -- whether each of some files was

@@ -1,17 +1,15 @@
 //! What is counted of the packets of a file that is checked.
-ghost use Rattle.std.specs.Prelude.{◌≡◌, ◌<◌, ◌^◌, ◌+◌, max};
+ghost use Rattle.std.specs.Prelude.{◌≡◌, ◌<◌, ◌^◌, ◌+◌};
 ghost use Rattle.cap_time.specs.Clock.{later};
 ghost use Rattle.cap_check.specs.Checking.{is_backward, is_whole_end, nothing_checked, counted_if, with_checked};
 
 use cap_bytes::Refusal;
-use cap_source::{FileEnd, Format, Meta};
+use cap_source::{FileEnd, Meta};
 use cap_time::Stamp;
 
 /// What is counted of the packets of a file, as far as they were taken.
 #[derive(Clone, Copy, Debug, PartialEq, Eq)]
 pub struct Checked {
-    /// The file's format, once a packet was taken.
-    pub format: Option<Format>,
     /// How many packets there are.
     pub packets: u64,
     /// How many of them have a time below the greatest time before them.
@@ -20,10 +18,6 @@ pub struct Checked {
     pub untimed: u64,
     /// How many of them had more bytes than were captured.
     pub truncated: u64,
-    /// How many blocks of the file were skipped before the last of them.
-    pub skipped: u64,
-    /// How many interfaces the file has up to the last one at which a packet was captured.
-    pub interfaces: u128,
     /// Their greatest time, of equal ones the first; `None` if no packet has a time.
     pub clock: Option<Stamp>,
 }
@@ -35,8 +29,9 @@ pub enum CheckEnd {
     Whole(FileEnd),
     /// It is refused, and has that much up to there.
     Refusing(Refusal, FileEnd),
-    /// A read of it failed, of the header, the record or the block that begins at that offset, in bytes.
-    Reading(u64),
+    /// A read of it failed, of the header, the record or the block that begins at that offset, in bytes. It has that much
+    /// up to there; `None` if not even its header or its first block was read.
+    Reading(u64, Option<FileEnd>),
     /// It could not be opened.
     Opening,
 }
@@ -48,7 +43,7 @@ impl CheckEnd {
     {
         match self {
             CheckEnd::Whole(_) => true,
-            CheckEnd::Refusing(_, _) | CheckEnd::Reading(_) | CheckEnd::Opening => false,
+            CheckEnd::Refusing(_, _) | CheckEnd::Reading(_, _) | CheckEnd::Opening => false,
         }
     }
 }
@@ -114,13 +109,10 @@ impl Checked {
         ensures { result ≡ nothing_checked }
     {
         Checked {
-            format: None,
             packets: 0,
             backward: 0,
             untimed: 0,
             truncated: 0,
-            skipped: 0,
-            interfaces: 0,
             clock: None,
         }
     }
@@ -134,13 +126,10 @@ impl Checked {
         ensures { self.new ≡ with_checked self.old meta.now }
     {
         let time = meta.time();
-        self.format = Some(meta.format);
         self.packets += 1;
         self.backward += counted_if(is_backward(self.clock, time));
         self.untimed += counted_if(time.is_none());
         self.truncated += counted_if(meta.captured < meta.original);
-        self.skipped = meta.skipped;
-        self.interfaces = self.interfaces.max(u128::from(meta.instance) + 1);
         self.clock = later(self.clock, time);
     }
 }

@@ -1,37 +1,71 @@
 //! A file, checked: its packets counted to its end, to its refusal, or to a read that fails; and files, one after
 //! another.
 ghost use Rattle.std.specs.Prelude.{◌≡◌, ◌⊎◌, ◌+◌, ◌≤◌, ◌^◌, Some, IfErr, IfOk, IsOkUnless, IsTrue, false, map};
-ghost use Rattle.std.specs.Prelude.{option_map, vec_len};
+ghost use Rattle.std.specs.Prelude.{◌==◌, None, if◌then◌else◌, option_map, vec_len};
 ghost use Rattle.cap_bytes.specs.Device.{WriterKeeps, writer_of};
 ghost use Rattle.cap_bytes.specs.Printing.{is_write};
 ghost use Rattle.cap_source.specs.Feed.{FeedKeeps};
+ghost use Rattle.cap_source.specs.inner.Captures.{capture_fronts};
+ghost use Rattle.cap_source.specs.inner.Walk.{GivesPacket, ShowsItem};
 ghost use Rattle.cap_check.specs.CheckText.{WritesCheck, WritesChecks};
 ghost use Rattle.cap_check.specs.Checking.{IsChecked, nothing_checked};
-ghost use Rattle.cap_check.specs.inner.Taking.{EndsAt, FailsHere, TakesPackets};
+ghost use Rattle.cap_check.specs.inner.Taking.{EndsAt, FailsHere, FrontsNext, StopsIf, TakesPackets};
 
 use crate::checked::{Check, CheckEnd, Checked};
 use crate::lines::check_line;
 use cap_bytes::{Fault, Sink, Source, Tail, put_all};
 use cap_print::Form;
-use cap_source::{Capture, PacketFeed, next_packet};
+use cap_source::{Capture, FileEnd, Meta, PacketFeed};
 use std::alloc::Global;
 
-// Takes all packets that a feed still gives. After a fault those before it were taken.
-fn take_all<F: PacketFeed>(feed: &mut F, checked: &mut Checked) -> Result<(), Fault>
-    requires few { (F.feed feed.old).left ≤ 2 ^ 40 }
-    requires nothing { checked.old ≡ nothing_checked }
-    ensures counts { IsTrue (F.feed feed.old).told
-        → TakesPackets (F.feed feed.old) result (F.feed feed.new) checked.new }
-    ensures ends { EndsAt result (F.feed feed.new).known }
-    ensures keeps { FeedKeeps (F.feed feed.old) (F.feed feed.new) }
-    ensures write { is_write result ≡ false }
-    ensures fails { FailsHere (F.feed feed.old) result }
+// What comes next of a file: a packet, which stays until it is passed, or none at the end.
+fn next_of<R: Source>(capture: &mut Capture<R>) -> Result<Option<Meta>, Fault>
+    ensures answer { GivesPacket (⟦<Capture<R> as PacketFeed>⟧.feed capture.old) result
+        (⟦<Capture<R> as PacketFeed>⟧.feed capture.new) }
+    ensures keeps { FeedKeeps (⟦<Capture<R> as PacketFeed>⟧.feed capture.old)
+        (⟦<Capture<R> as PacketFeed>⟧.feed capture.new) }
+    ensures items { IsTrue (⟦<Capture<R> as PacketFeed>⟧.feed capture.old).told
+        → ShowsItem (⟦<Capture<R> as PacketFeed>⟧.feed capture.old) result
+        (⟦<Capture<R> as PacketFeed>⟧.feed capture.new) }
+    ensures fronts { IsTrue (capture_fronts capture.old).told
+        → (⟦<Capture<R> as PacketFeed>⟧.feed capture.old).known ≡ None
+        → FrontsNext (capture_fronts capture.old) result (capture_fronts capture.new) }
 {
-    while let Some(meta) = next_packet(feed)? {
+    if capture.has_packet()? {
+        Ok(Some(*capture.packet()))
+    } else {
+        Ok(None)
+    }
+}
+
+// Takes all packets of a file that are still to come. After a fault those before it were taken.
+fn take_all<R: Source>(capture: &mut Capture<R>, checked: &mut Checked) -> Result<(), Fault>
+    requires few { (⟦<Capture<R> as PacketFeed>⟧.feed capture.old).left ≤ 2 ^ 40 }
+    requires nothing { checked.old ≡ nothing_checked }
+    requires unknown { (⟦<Capture<R> as PacketFeed>⟧.feed capture.old).known ≡ None }
+    ensures counts { IsTrue (⟦<Capture<R> as PacketFeed>⟧.feed capture.old).told
+        → TakesPackets (⟦<Capture<R> as PacketFeed>⟧.feed capture.old) result
+        (⟦<Capture<R> as PacketFeed>⟧.feed capture.new) checked.new }
+    ensures stops { IsTrue (capture_fronts capture.old).told → (capture_fronts capture.old).broken ≡ None
+        → StopsIf (capture_fronts capture.old) result (capture_fronts capture.new) checked.new }
+    ensures ends { EndsAt result (⟦<Capture<R> as PacketFeed>⟧.feed capture.new).known }
+    ensures keeps { FeedKeeps (⟦<Capture<R> as PacketFeed>⟧.feed capture.old)
+        (⟦<Capture<R> as PacketFeed>⟧.feed capture.new) }
+    ensures write { is_write result ≡ false }
+    ensures fails { FailsHere (⟦<Capture<R> as PacketFeed>⟧.feed capture.old) result }
+{
+    while let Some(meta) = next_of(capture)? {
         checked.take(&meta);
-        feed.pass();
+        capture.pass();
     }
     Ok(())
+}
+
+// What a file has up to a failed read at that offset, unless its header or its first block begins there.
+fn read_to<R: Source>(capture: &Capture<R>, offset: u64) -> Option<FileEnd>
+    ensures { result ≡ (if offset == 0 then None else (capture_fronts capture.now).so_far) }
+{
+    if offset == 0 { None } else { capture.so_far() }
 }
 
 /// Checks a capture file of either format, which has that number: counts its packets to its end, to its refusal, or to
@@ -61,7 +95,7 @@ pub fn check_file<R: Source>(
             Ok(Check { counts, end })
         }
         Err(Fault::Read { offset, .. }) => {
-            let end = CheckEnd::Reading(offset);
+            let end = CheckEnd::Reading(offset, read_to(&capture, offset));
             Ok(Check { counts, end })
         }
         Err(fault) => Err(fault),

@@ -4,16 +4,15 @@ ghost use Rattle.cap_bytes.specs.Rules.{rule_name, rule_number};
 ghost use Rattle.cap_print.specs.Facts.{fields_json, fields_text, flag_json, line_in};
 ghost use Rattle.cap_print.specs.Lines.{room_in, text_in};
 ghost use Rattle.cap_print.specs.declared.forms.Form.TheVariants.{Json, Text};
-ghost use Rattle.cap_check.specs.CheckText.{check_facts, end_fields, known_end, ending_format, ending_interfaces};
-ghost use Rattle.cap_check.specs.CheckText.{ending_skipped};
-ghost use Rattle.cap_bytes.specs.Formats.{format_name};
+ghost use Rattle.cap_check.specs.CheckText.{check_facts, end_fields, end_format_name, end_interfaces, end_skipped};
+ghost use Rattle.cap_check.specs.CheckText.{known_end};
 
 use crate::checked::{Check, CheckEnd};
 use cap_bytes::Refusal;
 use cap_print::{Form, Line};
-use cap_source::{FileEnd, Format};
+use cap_source::FileEnd;
 
-// What a file has up to its end, or up to its refusal, unless it is refused at its first byte.
+// What a file has up to its end, to its refusal or to a read that failed, unless that is at its first byte.
 fn known_end(end: &CheckEnd) -> Option<FileEnd>
     ensures { result ≡ known_end end.now }
 {
@@ -26,46 +25,30 @@ fn known_end(end: &CheckEnd) -> Option<FileEnd>
                 Some(*end)
             }
         }
-        CheckEnd::Reading(_) | CheckEnd::Opening => None,
-    }
-}
-
-// The format of a file: if a read failed, that of its last packet.
-fn format_of(check: &Check) -> Option<Format>
-    ensures { result ≡ ending_format (known_end check.now.end) check.now.counts.format }
-{
-    match known_end(&check.end) {
-        Some(end) => Some(end.ending.format),
-        None => check.counts.format,
+        CheckEnd::Reading(_, end) => *end,
+        CheckEnd::Opening => None,
     }
 }
 
 // The name of its format.
-fn format_name_of(check: &Check) -> Option<&'static str>
-    ensures { option_map (λ n. n.now) result
-        ≡ option_map format_name (ending_format (known_end check.now.end) check.now.counts.format) }
+fn format_name_of(end: &CheckEnd) -> Option<&'static str>
+    ensures { option_map (λ n. n.now) result ≡ option_map end_format_name (known_end end.now) }
 {
-    format_of(check).map(|format| format.name())
+    known_end(end).map(|end| end.ending.format.name())
 }
 
 // How many of its blocks are skipped.
-fn skipped_of(check: &Check) -> u64
-    ensures { result ≡ ending_skipped (known_end check.now.end) check.now.counts.skipped }
+fn skipped_of(end: &CheckEnd) -> u64
+    ensures { result ≡ end_skipped (known_end end.now) }
 {
-    match known_end(&check.end) {
-        Some(end) => end.ending.skipped,
-        None => check.counts.skipped,
-    }
+    known_end(end).map_or(0, |end| end.ending.skipped)
 }
 
 // How many interfaces it has.
-fn interfaces_of(check: &Check) -> u128
-    ensures { result ≡ ending_interfaces (known_end check.now.end) check.now.counts.interfaces }
+fn interfaces_of(end: &CheckEnd) -> u64
+    ensures { result ≡ end_interfaces (known_end end.now) }
 {
-    match known_end(&check.end) {
-        Some(end) => u128::from(end.interfaces),
-        None => check.counts.interfaces,
-    }
+    known_end(end).map_or(0, |end| end.interfaces)
 }
 
 // ` whole` and ` cut`, the end of the line of a file that was read whole.
@@ -157,7 +140,7 @@ fn end_text(end: &CheckEnd) -> Line
     match end {
         CheckEnd::Whole(end) => whole_text(end.ending.was_cut),
         CheckEnd::Refusing(refusal, _) => refused_text(refusal),
-        CheckEnd::Reading(offset) => number_line(b" read offset ", *offset, b"\n"),
+        CheckEnd::Reading(offset, _) => number_line(b" read offset ", *offset, b"\n"),
         CheckEnd::Opening => short_line(b" open\n"),
     }
 }
@@ -170,7 +153,7 @@ fn end_json(end: &CheckEnd) -> Line
     match end {
         CheckEnd::Whole(end) => whole_json(end.ending.was_cut),
         CheckEnd::Refusing(refusal, _) => refused_json(refusal),
-        CheckEnd::Reading(offset) => number_line(b",\"read\":{\"offset\":", *offset, b"}}\n"),
+        CheckEnd::Reading(offset, _) => number_line(b",\"read\":{\"offset\":", *offset, b"}}\n"),
         CheckEnd::Opening => short_line(b",\"open\":true}\n"),
     }
 }
@@ -180,13 +163,13 @@ fn text_of(file: u32, check: &Check) -> Line
     ensures { text_in result ≡ line_in Text (check_facts file check.now) }
 {
     let mut line = end_text(&check.end);
-    line.prepend_integer(b" interfaces ", interfaces_of(check));
-    line.prepend_field(b" skipped ", skipped_of(check));
+    line.prepend_field(b" interfaces ", interfaces_of(&check.end));
+    line.prepend_field(b" skipped ", skipped_of(&check.end));
     line.prepend_field(b" truncated ", check.counts.truncated);
     line.prepend_field(b" untimed ", check.counts.untimed);
     line.prepend_field(b" backward ", check.counts.backward);
     line.prepend_field(b" packets ", check.counts.packets);
-    line.prepend_word(b" ", format_name_of(check));
+    line.prepend_word(b" ", format_name_of(&check.end));
     line.prepend_field(b"check ", u64::from(file));
     line
 }
@@ -196,22 +179,22 @@ fn json_of(file: u32, check: &Check) -> Line
     ensures { text_in result ≡ line_in Json (check_facts file check.now) }
 {
     let mut line = end_json(&check.end);
-    line.prepend_integer(b",\"interfaces\":", interfaces_of(check));
-    line.prepend_field(b",\"skipped\":", skipped_of(check));
+    line.prepend_field(b",\"interfaces\":", interfaces_of(&check.end));
+    line.prepend_field(b",\"skipped\":", skipped_of(&check.end));
     line.prepend_field(b",\"truncated\":", check.counts.truncated);
     line.prepend_field(b",\"untimed\":", check.counts.untimed);
     line.prepend_field(b",\"backward\":", check.counts.backward);
     line.prepend_field(b",\"packets\":", check.counts.packets);
-    line.prepend_word_string(b",\"format\":", format_name_of(check));
+    line.prepend_word_string(b",\"format\":", format_name_of(&check.end));
     line.prepend_field(b"{\"type\":\"check\",\"file\":", u64::from(file));
     line
 }
 
 /// The line of a file of that number that was checked, in a form. In text it is
 /// `check N FORMAT packets P backward B untimed U truncated Q skipped S interfaces I`, and then `whole`, with ` cut`
-/// after it if a rest of the file was dropped, `refused offset O rule R NAME`, `read offset O` or `open`. Of a file
-/// that is refused at its first byte the format is `-`. If a read failed, the format, the skipped blocks and the
-/// interfaces are those up to its last packet.
+/// after it if a rest of the file was dropped, `refused offset O rule R NAME`, `read offset O` or `open`. Skipped blocks
+/// and interfaces are those that the file has up to there. If it is refused, or a read fails, in its header or in its
+/// first block, none are, and the format is `-`.
 pub fn check_line(form: Form, file: u32, check: &Check) -> Line
     ensures { text_in result ≡ line_in form (check_facts file check.now) }
 {

@@ -108,18 +108,18 @@ unfolding is_total
 padded_body kind total size allowed is = grind (arith, nat_tests)
 
 -- What a block says doesn't depend on a body that isn't lent.
-content_same : (interfaces : List Interface) (kind : ℕ) (order : Order) (lent : Option (List ℕ)) (body : List ℕ)
+pub content_same : (interfaces : List Interface) (kind : ℕ) (order : Order) (lent : Option (List ℕ)) (body : List ℕ)
     → is_some lent ≡ is_known_kind kind
     → IfSome lent (λ b. b ≡ body) → content_in interfaces kind order body
     ≡ content_in interfaces kind order (unwrap_or lent [])
 content_same interfaces kind order lent body known is = grind (arith, other)
 
-packet_lent : (interfaces : List Interface) (kind : ℕ) (order : Order) (lent : Option (List ℕ)) (p : Packet)
+pub packet_lent : (interfaces : List Interface) (kind : ℕ) (order : Order) (lent : Option (List ℕ)) (p : Packet)
     → is_some lent ≡ is_known_kind kind
     → Ok (contents.Packet p) ≡ content_in interfaces kind order (unwrap_or lent []) → IsSome lent
 packet_lent interfaces kind order lent p known is = grind (arith, other)
 
-frame_same : (lent : Option (List ℕ)) (body : List ℕ) (p : Packet) → IsSome lent → IfSome lent (λ b. b ≡ body)
+pub frame_same : (lent : Option (List ℕ)) (body : List ℕ) (p : Packet) → IsSome lent → IfSome lent (λ b. b ≡ body)
     → part_of lent p.place p.captured ≡ frame_in p body
 frame_same lent body p there is = grind arith
 
@@ -127,14 +127,14 @@ lent_size : (few : ℕ) (lent : Option (List ℕ)) (p : Packet) → IsSome lent
     → IsFit few (unwrap_or lent []) (Ok (contents.Packet p)) → p.place + p.captured + 1 ≤ lent_length lent
 lent_size few lent p there fit = grind arith
 
-items_behind : (f g : ℕ) (p : Progress) (block : Block) (body : List ℕ) (content : Result Content Rule)
+pub items_behind : (f g : ℕ) (p : Progress) (block : Block) (body : List ℕ) (content : Result Content Rule)
     (old new : List (PieceItem Block)) → f ≡ g → old ≡ given block body ∷ new
     → content_in p.interfaces block.kind block.order body ≡ content
     → items_at_block f p block body content (items_of_blocks f (behind p content) new) ≡ items_of_blocks g p old
 unfolding items_of_blocks
 items_behind f g p block body content old new fg is e = rw (is, ← e, fg) refl
 
-ending_behind : (p : Progress) (block : Block) (body : List ℕ) (content : Result Content Rule)
+pub ending_behind : (p : Progress) (block : Block) (body : List ℕ) (content : Result Content Rule)
     (old new : List (PieceItem Block)) → old ≡ given block body ∷ new
     → content_in p.interfaces block.kind block.order body ≡ content
     → unless_faulty content (ending_with p false) (ending_in (behind p content) new) ≡ ending_in p old

@@ -7,6 +7,10 @@ pub mod Bodies
 pub mod Fields
 pub mod Firsts
 pub mod Frames
+pub mod BlockFronts
+pub mod RecordFronts
+pub mod Fronts
+pub mod PcapFronts
 pub mod Going
 pub mod Looks
 pub mod Options

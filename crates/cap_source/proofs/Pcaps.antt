@@ -27,7 +27,7 @@ use Rattle.cap_source.specs.inner.FileState.{FileLearns, FileWaits}
 use Rattle.cap_source.specs.inner.FileState.{ReadsTo, FileTakes, FileKeeps}
 use Rattle.cap_source.specs.declared.readers.Next.TheVariants as nexts
 
-known_header : (h : Option PcapHeader) (header : PcapHeader) (bytes : List ℕ) → h ≡ Some header
+pub known_header : (h : Option PcapHeader) (header : PcapHeader) (bytes : List ℕ) → h ≡ Some header
     → header_or h bytes ≡ header
 known_header h header bytes is = rw is refl
 
@@ -44,7 +44,7 @@ lent_size (Some bytes) captured h = omega (arith, h)
 part_whole : (bytes : List ℕ) (captured : ℕ) → length bytes ≡ captured → part_of (Some bytes) 0 captured ≡ bytes
 part_whole bytes captured is = take_all captured bytes (omega (arith, is))
 
-items_given : (m f g : ℕ) (h i j : Interface) (r : Record) (frame : Option (List ℕ)) (old new : List (PieceItem Record))
+pub items_given : (m f g : ℕ) (h i j : Interface) (r : Record) (frame : Option (List ℕ)) (old new : List (PieceItem Record))
     → m ≡ g → f ≡ g → h ≡ j → i ≡ j
     → IsSomeAnd frame (λ bytes. length bytes ≡ r.captured) → IsSomeAnd frame (λ bytes. old ≡ given r bytes ∷ new)
     → feeds.packet (meta_of m h r) (part_of frame 0 r.captured) ∷ pcap_items f i new ≡ pcap_items g j old
@@ -57,7 +57,7 @@ same_items : (f g : ℕ) (i j : Interface) (old new : List (PieceItem Record)) �
     → pcap_items f i new ≡ pcap_items g j old
 same_items f g i j old new fg ij is = λ k. pcap_items (fg k) (ij k) (is k)
 
-ending_given : (r : Record) (frame : Option (List ℕ)) (old new : List (PieceItem Record))
+pub ending_given : (r : Record) (frame : Option (List ℕ)) (old new : List (PieceItem Record))
     → IsSomeAnd frame (λ bytes. old ≡ given r bytes ∷ new)
     → pcap_ending new ≡ pcap_ending old
 unfolding pcap_ending

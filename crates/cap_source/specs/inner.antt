@@ -3,6 +3,7 @@ pub mod FedStates
 pub mod FedSteps
 pub mod Fields
 pub mod FileState
+pub mod Fronts
 pub mod Growing
 pub mod KnownView
 pub mod Laws

@@ -4,10 +4,12 @@ ghost use Rattle.std.proofs.Props.{props};
 ghost use Rattle.cap_bytes.specs.inner.SourceState.{source_of};
 ghost use Rattle.cap_source.specs.Feed.{FeedKeeps, GivesHead, KeepsItems, FindsPacket, FindsItem, IsLast, IsPacket};
 ghost use Rattle.cap_source.specs.Feed.{FeedPasses};
-ghost use Rattle.cap_source.specs.Items.{file_items, file_ending, file_first};
+ghost use Rattle.cap_bytes.specs.inner.Window.{opened_window};
+ghost use Rattle.cap_source.specs.Items.{file_items, file_ending, file_first, fresh};
 ghost use Rattle.cap_source.specs.inner.FileState.{file_feed, GivesFirst, KeepsFirst, IsSoundFile};
 ghost use Rattle.cap_source.specs.inner.FileState.{FileAnswers, FileKeeps, FileTakes, IfTaken, LearnsNext, ReadsTo};
 ghost use Rattle.cap_source.specs.inner.FileState.{ShowsNext, TakesShown};
+ghost use Rattle.cap_source.specs.inner.Fronts.{FrontsAnswer, FrontsFind, FrontsPass, unread_fronts};
 ghost use Rattle.cap_source.specs.inner.Laws.{captures_lawful};
 ghost use Rattle.cap_source.specs.inner.Reached.{progress_of};
 ghost use Rattle.cap_source.specs.inner.Readers.{reader_file_state, is_there, reader_room};
@@ -16,8 +18,8 @@ use crate::feeds::{Ending, FeedHeld, FileEnd, Head, PacketFeed};
 use crate::known::Known;
 use crate::opening::open;
 use crate::packets::Meta;
-use crate::pcap::next_of_pcap;
-use crate::pcapng::next_of_blocks;
+use crate::pcap::{ending_of_pcap, next_of_pcap};
+use crate::pcapng::{ending_of_blocks, next_of_blocks};
 use crate::reached::{Reached, nothing_reached};
 use crate::readers::{
     Next, Reader, ending_of, failed_of, held_of, last_of, noted_of, number_of, part_of,
@@ -43,6 +45,7 @@ pub struct Capture<R: Source> {
 impl<R: Source> Capture<R> {
     ghost use Rattle.cap_source.specs.inner.Captures.{capture_number, capture_first, position_of, unread_position};
     ghost use Rattle.cap_source.specs.inner.Captures.{capture_file, ReadsToPacket};
+    ghost use Rattle.cap_source.specs.inner.Captures.{capture_fronts};
 
     /// The packets that `reader` gives, which is the file of that number. It reads nothing yet, so a faulty
     /// file header is the first item.
@@ -60,6 +63,8 @@ impl<R: Source> Capture<R> {
         ensures first { capture_first result ≡ file_first tail file (R.coming reader) }
         ensures number { capture_number result ≡ file }
         ensures position { position_of result ≡ unread_position (source_of R.Source reader) }
+        ensures fronts { capture_fronts result
+            ≡ unread_fronts (opened_window file (source_of R.Source reader)) tail fresh }
     {
         Capture {
             reader: Reader::Unread(Window::new(alloc, reader, file), tail),
@@ -101,12 +106,25 @@ impl<R: Source> Capture<R> {
         last_of(self.next.get())
     }
 
+    /// What the file has up to the record or block that is read next: `None` before its format is known.
+    pub fn so_far(&self) -> Option<FileEnd>
+        ensures { result ≡ (capture_fronts self.now).so_far }
+    {
+        match &self.reader {
+            Reader::Unread(_, _) | Reader::Moved => None,
+            Reader::Pcap(_) => Some(ending_of_pcap(false)),
+            Reader::Pcapng(_) => Some(ending_of_blocks(&self.reached, false)),
+        }
+    }
+
     // Learns what comes next, unless it is known.
     #[inline(always)]
     fn learn(&mut self) -> Result<(), Fault>
         ensures answer { LearnsNext (capture_file self.old) self.old.next result (capture_file self.new) self.new.next }
         ensures reaches { IfOk result (λ _. IfTaken self.new.next
             (ReadsTo (capture_file self.old) (capture_file self.new))) }
+        ensures fronts { self.old.next ≡ None → IsTrue (capture_fronts self.old).told
+            → FrontsAnswer (capture_fronts self.old) result self.new.next (capture_fronts self.new) }
         ensures keeps { FileKeeps (capture_file self.old) (capture_file self.new) }
     {
         if self.next.is_some() {
@@ -138,8 +156,11 @@ impl<R: Source> Capture<R> {
         requires { self.old.next ≡ None }
         ensures answer { TakesShown (capture_file self.old) result self.new.next (capture_file self.new) }
         ensures reaches { IsTrue result → FileTakes (capture_file self.old) (capture_file self.new) }
+        ensures fronts { IsTrue (capture_fronts self.old).told → IsTrue result → IfTaken self.new.next
+            (FrontsPass (capture_fronts self.old) self.new.next (capture_fronts self.new)) }
         ensures keeps { FileKeeps (capture_file self.old) (capture_file self.new) }
-        ensures none { result ≡ false → (capture_file self.new ≡ capture_file self.old) × (self.new.next ≡ None) }
+        ensures none { result ≡ false → (capture_file self.new ≡ capture_file self.old) × (self.new.next ≡ None)
+            × (capture_fronts self.new ≡ capture_fronts self.old) }
     {
         // the commonest format is asked for first, in place of a jump by a table
         if let Reader::Pcap(reader) = &mut self.reader {
@@ -159,6 +180,8 @@ impl<R: Source> Capture<R> {
         ensures answer { FileAnswers (capture_file self.old) result self.new.next (capture_file self.new) }
         ensures reaches { IfOk result (λ _. IfTaken self.new.next
             (FileTakes (capture_file self.old) (capture_file self.new))) }
+        ensures fronts { IsTrue (capture_fronts self.old).told
+            → FrontsAnswer (capture_fronts self.old) result self.new.next (capture_fronts self.new) }
         ensures keeps { FileKeeps (capture_file self.old) (capture_file self.new) }
     {
         open(&mut self.reader)?;
@@ -173,6 +196,7 @@ impl<R: Source> Capture<R> {
 impl<R: Source> PacketFeed for Capture<R> {
     ghost use Rattle.cap_source.specs.inner.Captures.{capture_feed, position_of, ReadsForHead};
     ghost use Rattle.cap_source.specs.inner.Captures.{ReadsForPacket};
+    ghost use Rattle.cap_source.specs.inner.Captures.{capture_fronts};
 
     ghost feed = { λ c. file_feed (reader_file_state c.reader (progress_of c.reached)) c.next };
 
@@ -200,6 +224,8 @@ impl<R: Source> PacketFeed for Capture<R> {
         ensures items { IsTrue (capture_feed self.old).told
             → FindsItem (capture_feed self.old) result (capture_feed self.new) }
         ensures reads { ReadsForPacket (position_of self.old) result (position_of self.new) }
+        ensures fronts { IsTrue (capture_fronts self.old).told → (capture_feed self.old).known ≡ None
+            → FrontsFind (capture_fronts self.old) result (capture_feed self.new).known (capture_fronts self.new) }
         ensures most { (position_of self.new).most ≡ (position_of self.old).most }
     {
         self.learn()?;
@@ -230,6 +256,7 @@ impl<R: Source> PacketFeed for Capture<R> {
         ensures passes { FeedPasses (capture_feed self.old) (capture_feed self.new) }
         ensures keeps { FeedKeeps (capture_feed self.old) (capture_feed self.new) }
         ensures position { position_of self.new ≡ position_of self.old }
+        ensures fronts { capture_fronts self.new ≡ capture_fronts self.old }
     {
         self.next.forget();
     }

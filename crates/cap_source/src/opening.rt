@@ -1,9 +1,10 @@
 //! The reader of a file, once its first bytes have told the format.
-ghost use Rattle.std.specs.Prelude.{◌≡◌, ◌+◌, false, IsTrue, IfOk, Some};
+ghost use Rattle.std.specs.Prelude.{◌≡◌, ◌+◌, false, IsTrue, IfOk, None, Some};
 ghost use Rattle.cap_bytes.specs.inner.Reach.{Reaches, ReachesTo};
 ghost use Rattle.cap_bytes.specs.inner.Window as windows;
 ghost use Rattle.cap_source.specs.Items.{Progress};
 ghost use Rattle.cap_source.specs.inner.FileState.{FileKeeps};
+ghost use Rattle.cap_source.specs.inner.Fronts.{FrontsAnswer, reader_fronts};
 ghost use Rattle.cap_source.specs.inner.Readers.{reader_file_state, is_there, IsReadyReader, is_stopped, OpensReader};
 ghost use Rattle.cap_source.specs.inner.Readers.{LooksAtWindow, reader_by, reader_room};
 ghost use Rattle.cap_source.specs.declared.reached.Reached.{Reached};
@@ -58,6 +59,8 @@ pub fn open<R: Source>(reader: &mut Reader<R>) -> Result<(), Fault>
         (reader_file_state reader.new progress).read) }
     ensures keeps { (progress : Progress)
         → FileKeeps (reader_file_state reader.old progress) (reader_file_state reader.new progress) }
+    ensures fronts { (progress : Progress) → IsTrue (reader_fronts reader.old progress).told
+        → FrontsAnswer (reader_fronts reader.old progress) result None (reader_fronts reader.new progress) }
     ensures room { (reached : Reached) → IsTrue (reader_room reader.old reached)
         → IsTrue (reader_room reader.new reached) }
 {

@@ -3,6 +3,7 @@ ghost use Rattle.std.specs.Prelude.{◌≡◌, IsTrue, IfOk, None, Some, false};
 ghost use Rattle.cap_source.specs.Items.{Progress, resolution_of_unit, interface_of, pcap_ending_with, meta_of};
 ghost use Rattle.cap_source.specs.inner.FileState.{FileAnswers, TakesShown, FileKeeps, IfTaken, FileTakes, noted_by};
 ghost use Rattle.cap_source.specs.inner.FileState.{pcap_state};
+ghost use Rattle.cap_source.specs.inner.Fronts.{FrontsAnswer, FrontsPass, pcap_fronts};
 
 use crate::feeds::{Ending, FileEnd};
 use crate::known::Known;
@@ -34,8 +35,8 @@ fn interface_of_pcap(header: PcapHeader) -> Interface
     }
 }
 
-// How a pcap file ended.
-fn ending_of_pcap(was_cut: bool) -> FileEnd
+/// How a pcap file ended.
+pub fn ending_of_pcap(was_cut: bool) -> FileEnd
     ensures { result ≡ pcap_ending_with was_cut }
 {
     FileEnd {
@@ -87,6 +88,8 @@ pub fn take_shown<R: Source>(reader: &mut PcapReader<R>, known: &mut Known) -> b
         → FileTakes (pcap_state reader.old progress) (pcap_state reader.new progress) }
     ensures keeps { (progress : Progress) → FileKeeps (pcap_state reader.old progress)
         (pcap_state reader.new progress) }
+    ensures fronts { IsTrue reader.old.told → IsTrue result
+        → IfTaken known.new (FrontsPass (pcap_fronts reader.old) known.new (pcap_fronts reader.new)) }
     ensures none { result ≡ false → (reader.new ≡ reader.old) × (known.new ≡ None) }
 {
     let Some(header) = reader.known() else {
@@ -118,6 +121,8 @@ fn next_record_of<R: Source>(
         (λ _. IfTaken known.new (FileTakes (pcap_state reader.old progress) (pcap_state reader.new progress))) }
     ensures keeps { (progress : Progress) → FileKeeps (pcap_state reader.old progress)
         (pcap_state reader.new progress) }
+    ensures fronts { IsTrue reader.old.told
+        → FrontsAnswer (pcap_fronts reader.old) result known.new (pcap_fronts reader.new) }
 {
     let file = reader.window().file();
     match reader.next_record() {
@@ -147,6 +152,8 @@ pub fn next_of_pcap<R: Source>(reader: &mut PcapReader<R>, known: &mut Known) ->
         (λ _. IfTaken known.new (FileTakes (pcap_state reader.old progress) (pcap_state reader.new progress))) }
     ensures keeps { (progress : Progress) → FileKeeps (pcap_state reader.old progress)
         (pcap_state reader.new progress) }
+    ensures fronts { IsTrue reader.old.told
+        → FrontsAnswer (pcap_fronts reader.old) result known.new (pcap_fronts reader.new) }
 {
     match reader.header() {
         Ok(header) => next_record_of(reader, header, known),

@@ -7,6 +7,7 @@ ghost use Rattle.cap_source.specs.Items.{ending_with, meta_in, behind};
 ghost use Rattle.cap_source.specs.inner.FileState.{FileAnswers, TakesShown, FileKeeps, IfTaken, FileSteps, FileTakes};
 ghost use Rattle.cap_source.specs.inner.FileState.{pcapng_state};
 ghost use Rattle.cap_source.specs.inner.FileState.{next_at};
+ghost use Rattle.cap_source.specs.inner.Fronts.{FrontsAnswer, FrontsPass, pcapng_fronts};
 ghost use Rattle.cap_source.specs.inner.Reached.{progress_of, counted_blocks, has_room};
 
 use crate::contents::{Content, Packet, content_of, enhanced_packet};
@@ -18,8 +19,8 @@ use cap_blocks::{Block, BlockReader, is_known};
 use cap_bytes::{Fault, Format, Refusal, Rule, Source};
 use cap_time::Interface;
 
-// How a pcapng file ended of which that much was read.
-fn ending_of_blocks(reached: &Reached, was_cut: bool) -> FileEnd
+/// How a pcapng file ended of which that much was read.
+pub fn ending_of_blocks(reached: &Reached, was_cut: bool) -> FileEnd
     requires { counted_blocks (progress_of reached.now) ≤ 2 ^ 40 }
     ensures { result ≡ ending_with (progress_of reached.now) was_cut }
 {
@@ -116,6 +117,9 @@ pub fn take_shown<R: Source>(
     ensures keeps { FileKeeps (pcapng_state reader.old (progress_of reached.now))
         (pcapng_state reader.new (progress_of reached.now)) }
     ensures room { IsTrue (has_room reader.old.broken reached.now) → IsTrue (has_room reader.new.broken reached.now) }
+    ensures fronts { IsTrue reader.old.told → IsTrue result → IfTaken known.new
+        (FrontsPass (pcapng_fronts reader.old (progress_of reached.now)) known.new
+        (pcapng_fronts reader.new (progress_of reached.now))) }
     ensures none { result ≡ false → (reader.new ≡ reader.old) × (known.new ≡ None) }
 {
     let file = reader.window().file();
@@ -186,6 +190,8 @@ fn take_block<R: Source>(
     ensures keeps { FileKeeps (pcapng_state reader.old (progress_of reached.old))
         (pcapng_state reader.new (progress_of reached.new)) }
     ensures room { IsTrue (has_room reader.new.broken reached.new) }
+    ensures fronts { IsTrue reader.old.told → FrontsAnswer (pcapng_fronts reader.old (progress_of reached.old)) result
+        known.new (pcapng_fronts reader.new (progress_of reached.new)) }
 {
     let file = reader.window().file();
     match reader.next_block() {
@@ -225,6 +231,8 @@ fn step<R: Source>(
     ensures keeps { FileKeeps (pcapng_state reader.old (progress_of reached.old))
         (pcapng_state reader.new (progress_of reached.new)) }
     ensures room { IsTrue (has_room reader.new.broken reached.new) }
+    ensures fronts { IsTrue reader.old.told → FrontsAnswer (pcapng_fronts reader.old (progress_of reached.old)) result
+        known.new (pcapng_fronts reader.new (progress_of reached.new)) }
 {
     reached.interfaces.reserve(1)?;
     take_block(reader, reached, known)
@@ -249,6 +257,8 @@ pub fn next_of_blocks<R: Source>(
     ensures keeps { FileKeeps (pcapng_state reader.old (progress_of reached.old))
         (pcapng_state reader.new (progress_of reached.new)) }
     ensures room { IsTrue (has_room reader.new.broken reached.new) }
+    ensures fronts { IsTrue reader.old.told → FrontsAnswer (pcapng_fronts reader.old (progress_of reached.old)) result
+        known.new (pcapng_fronts reader.new (progress_of reached.new)) }
 {
     loop {
         step(reader, reached, known)?;

@@ -10,6 +10,7 @@ use Rattle.cap_source.specs.Feed.{Feed}
 use Rattle.cap_source.specs.declared.feeds.Head.{Head}
 use Rattle.cap_source.specs.declared.feeds.Head.TheVariants as heads
 use Rattle.cap_source.specs.inner.FileState.{FileState, file_feed, first_by}
+use Rattle.cap_source.specs.inner.Fronts.{Fronts, reader_fronts}
 use Rattle.cap_source.specs.inner.Reached.{progress_of}
 use Rattle.cap_source.specs.inner.Readers.{reader_file_state}
 use Rattle.cap_source.specs.declared.captures.Capture.{Capture}
@@ -23,6 +24,11 @@ capture_file capture = reader_file_state capture.reader (progress_of capture.rea
 abbrev pub capture_feed : {R : Type 0} {source : Source.Ghosts R} {device : Device.Ghosts R} → Capture R source device
     → Feed
 capture_feed capture = file_feed (capture_file capture) capture.next
+
+-- the file as it would be if it ended further on, behind a packet that comes next
+abbrev pub capture_fronts : {R : Type 0} {source : Source.Ghosts R} {device : Device.Ghosts R} → Capture R source device
+    → Fronts
+capture_fronts capture = reader_fronts capture.reader (progress_of capture.reached)
 
 -- its first interface, if it stands before what comes next or the end: of instance 0
 abbrev pub capture_first : {R : Type 0} {source : Source.Ghosts R} {device : Device.Ghosts R} → Capture R source device

@@ -22,7 +22,64 @@ const UNKNOWN: File = &["000102030405060708090a0b0c0d0e0f1011121314151617"];
 // A capture of two sections: one interface with a packet, and two without.
 const SILENT: File = &[SECTION, INTERFACE, PACKET, SECTION, INTERFACE, INTERFACE];
 
-const CHECKED: [Row; 10] = [
+// A capture of five interfaces: their blocks at 28, 60, 92, 124 and 156, and a packet on the first of them at 188. It
+// has 224 bytes.
+const FIVE: File = &[
+    SECTION, INTERFACE, INTERFACE, INTERFACE, INTERFACE, INTERFACE, PACKET,
+];
+
+// A file, which of its reads fails, each of one byte, and the line that is printed.
+type Unread = (File, u64, &'static str);
+
+const UNREAD: [Unread; 9] = [
+    (
+        FIVE,
+        11,
+        "check 1 - packets 0 backward 0 untimed 0 truncated 0 skipped 0 interfaces 0 read offset 0\n",
+    ),
+    (
+        FIVE,
+        101,
+        "check 1 pcapng packets 0 backward 0 untimed 0 truncated 0 skipped 0 interfaces 2 read offset 92\n",
+    ),
+    (
+        FIVE,
+        201,
+        "check 1 pcapng packets 0 backward 0 untimed 0 truncated 0 skipped 0 interfaces 5 read offset 188\n",
+    ),
+    (
+        FIVE,
+        225,
+        "check 1 pcapng packets 1 backward 0 untimed 0 truncated 0 skipped 0 interfaces 5 read offset 224\n",
+    ),
+    (
+        SILENT,
+        181,
+        "check 1 pcapng packets 1 backward 0 untimed 0 truncated 0 skipped 0 interfaces 2 read offset 156\n",
+    ),
+    (
+        OPTIONS_PCAPNG,
+        169,
+        "check 1 pcapng packets 1 backward 0 untimed 0 truncated 0 skipped 1 interfaces 1 read offset 168\n",
+    ),
+    (
+        RUNS_BACK,
+        21,
+        "check 1 - packets 0 backward 0 untimed 0 truncated 0 skipped 0 interfaces 0 read offset 0\n",
+    ),
+    (
+        RUNS_BACK,
+        31,
+        "check 1 pcap packets 0 backward 0 untimed 0 truncated 0 skipped 0 interfaces 1 read offset 24\n",
+    ),
+    (
+        RUNS_BACK,
+        45,
+        "check 1 pcap packets 1 backward 0 untimed 0 truncated 0 skipped 0 interfaces 1 read offset 40\n",
+    ),
+];
+
+const CHECKED: [Row; 11] = [
     (
         TAGGED_FRAMES,
         Tail::Refuse,
@@ -82,6 +139,13 @@ const CHECKED: [Row; 10] = [
         true,
     ),
     (
+        FIVE,
+        Tail::Refuse,
+        Form::Text,
+        "check 7 pcapng packets 1 backward 0 untimed 0 truncated 0 skipped 0 interfaces 5 whole\n",
+        true,
+    ),
+    (
         CARRY_PCAP,
         Tail::Refuse,
         Form::Json,
@@ -120,22 +184,28 @@ fn always_memory_files_are_checked(rt: HostRuntime) {
     }
 }
 
-// A read that fails in the second record, of one byte each, has a line as any other.
-#[test]
-fn a_read_that_fails_is_checked(rt: HostRuntime) {
-    let mut writer = room_of(&rt, rt.alloc(), 512);
-    let source = Pieces::new(bytes_of(&rt, rt.alloc(), RUNS_BACK), 1, Some(45));
+// What is printed of a file of which a read fails.
+fn checks_unread(rt: &impl Abort, alloc: Global, row: &Unread) {
+    let (file, call, text) = *row;
+    let mut writer = room_of(rt, alloc, 512);
+    let source = Pieces::new(bytes_of(rt, alloc, file), 1, Some(call));
     let answer = check_to(
-        rt.alloc(),
+        alloc,
         Some(source),
         1,
         Tail::Refuse,
         Form::Text,
         &mut writer,
     );
-    let line = "check 1 pcap packets 1 backward 0 untimed 0 truncated 0 skipped 0 interfaces 1 \
-        read offset 40\n";
-    same!(&rt; (answer, writer.bytes()), (Ok(false), line.as_bytes()));
+    same!(rt; (answer, writer.bytes()), (Ok(false), text.as_bytes()));
+}
+
+// A file of which a read fails has a line as any other, with what it has up to there.
+#[test]
+fn a_read_that_fails_is_checked(rt: HostRuntime) {
+    for row in &UNREAD {
+        checks_unread(&rt, rt.alloc(), row);
+    }
 }
 
 // A writer without room, and a file that could not be opened.
@@ -174,7 +244,7 @@ fn a_check_counts_a_file(rt: HostRuntime) {
     let Ok(check) = check_file(rt.alloc(), source, 1, Tail::Refuse) else {
         panic!(&rt; "memory");
     };
-    same!(&rt; (check.counts.packets, check.counts.interfaces), (1, 1));
+    same!(&rt; (check.counts.packets, check.counts.backward), (1, 0));
     let CheckEnd::Whole(end) = check.end else {
         panic!(&rt; "not whole");
     };

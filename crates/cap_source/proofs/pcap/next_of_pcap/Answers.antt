@@ -1,6 +1,9 @@
 use Rattle.cap_source.proofs.Going.{FileKeeps-trans, Answers-behind, taken_behind}
+use Rattle.cap_source.proofs.Fronts.{Fronts-answer}
+use Rattle.cap_source.proofs.PcapFronts.{header-fault, header-passed}
 use Rattle.cap_source.proofs.Pcaps.{header_reads, header_refused, header_waits, pcap_keeps}
 use Rattle.cap_source.specs.inner.FileState.{pcap_state}
+use Rattle.cap_source.specs.inner.Fronts.{pcap_fronts}
 use Rattle.cap_source.specs.declared.readers.Next.TheVariants as nexts
 use Rattle.cap_source.proofs.pcap.next_of_pcap.Goals as goal
 
@@ -40,3 +43,18 @@ returns-in-Ok-clause-reaches g c = λ p.
 
 pub returns-in-Err-Refused-clause-reaches : goal.returns-in-Err-Refused-clause-reaches
 returns-in-Err-Refused-clause-reaches g c = λ p. rw c.set_refused.ensures tt
+
+pub returns-in-Ok-clause-fronts : goal.returns-in-Ok-clause-fronts
+returns-in-Ok-clause-fronts g c = λ told.
+    Fronts-answer (pcap_fronts c.args.reader.now) (pcap_fronts c.header.new.self)
+    (pcap_fronts c.next_record_of.new.reader) c.next_record_of.result c.next_record_of.new.known
+    (header-passed c.in-Ok.header c.args.reader.now c.header.new.self c.in-Ok.ensures.keeps told
+    c.in-Ok.ensures.answer)
+    (c.next_record_of.ensures.fronts (c.in-Ok.ensures.keeps.told told))
+
+pub returns-in-Err-Refused-clause-fronts : goal.returns-in-Err-Refused-clause-fronts
+returns-in-Err-Refused-clause-fronts g c = λ told. rw c.set_refused.ensures tt
+
+pub returns-in-Err-clause-fronts : goal.returns-in-Err-clause-fronts
+returns-in-Err-clause-fronts g c = λ told.
+    header-fault c.args.reader.now c.header.new.self c.in-Err.fault c.args.known.now c.in-Err.ensures.answer

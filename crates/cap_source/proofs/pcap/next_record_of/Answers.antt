@@ -1,6 +1,7 @@
 use Rattle.std.proofs.Common.{◌∙◌}
 use Rattle.cap_source.specs.declared.readers.Next.TheVariants as nexts
 use Rattle.cap_bytes.proofs.Parsing.{from_some}
+use Rattle.cap_source.proofs.PcapFronts.{record-fault, record-passed}
 use Rattle.cap_source.proofs.Pcaps.{record_taken, record_learned, end_learned, refusal_learned, pcap_keeps}
 use Rattle.cap_source.proofs.pcap.next_record_of.Goals as goal
 
@@ -62,3 +63,22 @@ returns-in-Ok-None-clause-reaches g c = λ progress. rw c.set_end.ensures tt
 
 pub returns-in-Err-Refused-clause-reaches : goal.returns-in-Err-Refused-clause-reaches
 returns-in-Err-Refused-clause-reaches g c = λ progress. rw c.set_refused.ensures tt
+
+pub returns-in-Ok-Some-clause-fronts : goal.returns-in-Ok-Some-clause-fronts
+returns-in-Ok-Some-clause-fronts g c = λ told.
+    let e = rw c.in-Ok-Some.field-0-is at c.in-Ok-Some.ensures in
+    rw (c.set_packet.ensures, c.meta_of_record.ensures)
+    (record-passed c.args.header c.file-file.result c.in-Ok-Some.record c.args.reader.now c.next_record.new.self
+    (c.file-file.ensures ∙ c.window.ensures.file) c.requires.header (from_some _ _ _ c.requires.header e.answer)
+    e.keeps told (e.items told))
+
+pub returns-in-Ok-None-clause-fronts : goal.returns-in-Ok-None-clause-fronts
+returns-in-Ok-None-clause-fronts g c = λ told. rw c.set_end.ensures tt
+
+pub returns-in-Err-Refused-clause-fronts : goal.returns-in-Err-Refused-clause-fronts
+returns-in-Err-Refused-clause-fronts g c = λ told. rw c.set_refused.ensures tt
+
+pub returns-in-Err-clause-fronts : goal.returns-in-Err-clause-fronts
+returns-in-Err-clause-fronts g c = λ told.
+    record-fault c.args.header c.args.reader.now c.next_record.new.self c.in-Err.fault c.args.known.now
+    (from_some _ _ _ c.requires.header c.in-Err.ensures.answer)

@@ -1,7 +1,11 @@
-use Rattle.std.proofs.Common.{◌∙◌, sym, rules}
+use Rattle.std.proofs.Common.{◌∙◌, Err, sym, rules}
+use Rattle.std.proofs.lemmas.Result.{err_from_is_err_and}
+use Rattle.std.specs.Bool.{⊤}
 use Rattle.cap_source.proofs.Going.{FileKeeps-trans, FileKeeps-refl, Waits-refl, Waits-further, none_of, Learns-behind}
 use Rattle.cap_source.proofs.Going.{ReadsTo-here, ReadsTo-further, taken_last}
+use Rattle.cap_source.proofs.Fronts.{Fronts-answer, Fronts-further, Fronts-same, Fronts-taken}
 use Rattle.cap_source.specs.inner.FileState.{pcapng_state}
+use Rattle.cap_source.specs.inner.Fronts.{pcapng_fronts}
 use Rattle.cap_source.specs.inner.Reached.{progress_of}
 use Rattle.cap_source.proofs.pcapng.next_of_blocks.Goals as goal
 
@@ -17,12 +21,29 @@ returns-then-is_some-clause-reaches g c =
     taken_last a b (pcapng_state c.step.new.reader (progress_of c.step.new.reached)) c.step.new.known
     c.loop-known.invariant.keeps c.loop-known.invariant.reads c.in_ok-step.ensures.reaches
 
+pub returns-then-is_some-clause-fronts : goal.returns-then-is_some-clause-fronts
+returns-then-is_some-clause-fronts g c = λ told.
+    Fronts-taken (pcapng_fronts c.args.reader.now (progress_of c.args.reached.now))
+    (pcapng_fronts c.loop-known.reader (progress_of c.loop-known.reached))
+    (pcapng_fronts c.step.new.reader (progress_of c.step.new.reached)) c.step.new.known
+    (c.loop-known.invariant.fronts told) (c.in_ok-step.ensures.fronts (c.loop-known.invariant.keeps.told told))
+
+pub returns-in_err-step-clause-fronts : goal.returns-in_err-step-clause-fronts
+returns-in_err-step-clause-fronts g c = λ told.
+    let p = err_from_is_err_and c.from_residual.result c.from_residual.ensures.1 in
+    rw (p.1, p.2)
+    (Fronts-answer {A = ⊤} (pcapng_fronts c.args.reader.now (progress_of c.args.reached.now))
+    (pcapng_fronts c.loop-known.reader (progress_of c.loop-known.reached))
+    (pcapng_fronts c.step.new.reader (progress_of c.step.new.reached)) (Err c.in_err-step.field-0.0) c.step.new.known
+    (c.loop-known.invariant.fronts told) (c.in_err-step.ensures.fronts (c.loop-known.invariant.keeps.told told)))
+
 pub loop-known-init : goal.loop-known-init
 loop-known-init g c = record {
   unknown = c.requires.unknown;
   waits = Waits-refl _ (search rules);
   keeps = FileKeeps-refl _;
   reads = ReadsTo-here (pcapng_state c.args.reader.now (progress_of c.args.reached.now));
+  fronts = λ told. Fronts-same (pcapng_fronts c.args.reader.now (progress_of c.args.reached.now));
   room = c.requires.room;
   counted = c.requires.counted;
   free = c.requires.free;
@@ -42,6 +63,12 @@ loop-known-preserved g c =
       reads = ReadsTo-further a b (pcapng_state c.step.new.reader (progress_of c.step.new.reached)) c.step.new.known
           (none_of c.step.new.known not) c.loop-known.invariant.keeps c.loop-known.invariant.reads
           c.in_ok-step.ensures.reaches;
+      fronts = λ told.
+          Fronts-further (pcapng_fronts c.args.reader.now (progress_of c.args.reached.now))
+          (pcapng_fronts c.loop-known.reader (progress_of c.loop-known.reached))
+          (pcapng_fronts c.step.new.reader (progress_of c.step.new.reached)) c.step.new.known
+          (none_of c.step.new.known not) (c.loop-known.invariant.fronts told)
+          (c.in_ok-step.ensures.fronts (c.loop-known.invariant.keeps.told told));
       room = c.step.ensures.room;
       counted = c.step.ensures.keeps.counted c.loop-known.invariant.counted;
       free = none_of _ waits.stops;

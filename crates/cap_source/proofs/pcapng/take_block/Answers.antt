@@ -3,6 +3,7 @@ use Rattle.cap_source.specs.Contents.{content_in}
 use Rattle.cap_source.specs.inner.Reached.{progress_of}
 use Rattle.cap_source.proofs.Going.{IfTaken-so}
 use Rattle.cap_source.proofs.Blocks.{block_taken, block_stepped, block_kept, end_learned, refusal_kept}
+use Rattle.cap_source.proofs.Fronts.{block-fault, block-passed}
 use Rattle.cap_source.proofs.pcapng.take_block.Goals as goal
 
 pub returns-in-Ok-Some-clause-answer : goal.returns-in-Ok-Some-clause-answer
@@ -55,3 +56,25 @@ returns-in-Ok-None-clause-reaches g c = rw c.set_end.ensures tt
 
 pub returns-in-Err-Refused-clause-reaches : goal.returns-in-Err-Refused-clause-reaches
 returns-in-Err-Refused-clause-reaches g c = rw c.set_refused.ensures tt
+
+pub returns-in-Ok-Some-clause-fronts : goal.returns-in-Ok-Some-clause-fronts
+returns-in-Ok-Some-clause-fronts g c = λ told.
+    let e = rw c.in-Ok-Some.field-0-is at c.in-Ok-Some.ensures in
+    let block = c.in-Ok-Some.block in
+    block-passed c.file-file.result c.args.reader.now c.next_block.new.self (progress_of c.args.reached.now) block
+    (c.file-file.ensures ∙ c.window.ensures.window.file) e.answer e.keeps told c.read_content-content.result
+    c.take_content.new.known (progress_of c.take_content.new.reached)
+    (c.read_content-content.ensures
+    ∙ ap (λ l. content_in l block.kind block.order (unwrap_or c.next_block.new.self.lent [])) c.deref.ensures.value)
+    c.take_content.ensures.next c.take_content.ensures.behind
+
+pub returns-in-Ok-None-clause-fronts : goal.returns-in-Ok-None-clause-fronts
+returns-in-Ok-None-clause-fronts g c = λ told. rw c.set_end.ensures tt
+
+pub returns-in-Err-Refused-clause-fronts : goal.returns-in-Err-Refused-clause-fronts
+returns-in-Err-Refused-clause-fronts g c = λ told. rw c.set_refused.ensures tt
+
+pub returns-in-Err-clause-fronts : goal.returns-in-Err-clause-fronts
+returns-in-Err-clause-fronts g c = λ told.
+    block-fault c.args.reader.now c.next_block.new.self (progress_of c.args.reached.now) c.in-Err.fault
+    c.args.known.now c.in-Err.ensures.answer

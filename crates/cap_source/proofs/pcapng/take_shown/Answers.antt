@@ -5,6 +5,7 @@ use Rattle.cap_source.specs.inner.Reached.{progress_of}
 use Rattle.cap_source.specs.declared.contents.Content.TheVariants as contents
 use Rattle.cap_source.proofs.Blocks.{behind-packet, block_taken, block_stepped, block_kept, content_lent, enhanced_size}
 use Rattle.cap_source.proofs.Blocks.{packet_shown}
+use Rattle.cap_source.proofs.Fronts.{block-passed}
 use Rattle.cap_source.proofs.pcapng.take_shown.Goals as goal
 
 pub enhanced_packet-said-requires : goal.enhanced_packet-said-requires
@@ -42,3 +43,15 @@ returns-in-Some-clause-reaches g c = λ taken.
     let p = progress_of c.args.reached.now in
     block_taken c.args.reader.now c.take_packet.new.self c.in-Some.block p p c.in-Some.ensures.answer
     c.in-Some.ensures.reaches
+
+pub returns-in-Some-clause-fronts : goal.returns-in-Some-clause-fronts
+returns-in-Some-clause-fronts g c = λ told taken.
+    let e = c.in-Some.ensures in
+    let p = progress_of c.args.reached.now in
+    block-passed c.file-file.result c.args.reader.now c.take_packet.new.self p c.in-Some.block
+    (c.file-file.ensures ∙ c.window.ensures.window.file) e.answer e.keeps told
+    (of_body contents.Packet c.enhanced_packet-said.result) c.set_packet.new.known p
+    (content_lent _ c.deref.result.now p.interfaces c.in-Some.block.kind c.in-Some.block.order
+    c.take_packet.new.self.lent c.body.result.now
+    c.enhanced_packet-said.ensures c.deref.ensures.value e.kind c.body.ensures.body)
+    c.set_packet.ensures (behind-packet p c.enhanced_packet-said.result)

@@ -1,5 +1,9 @@
 use Rattle.std.proofs.Common.{ap, is_some, refl}
 use Rattle.cap_source.proofs.Going.{FileKeeps-trans, Answers-behind, IsSound-asked, taken_opened, free_of}
+use Rattle.cap_source.proofs.Fronts.{Fronts-answer}
+use Rattle.cap_source.proofs.PcapFronts.{told-same}
+use Rattle.cap_source.specs.inner.Captures.{capture_fronts}
+use Rattle.cap_source.specs.inner.Fronts.{pcap_fronts, pcapng_fronts}
 use Rattle.cap_source.specs.inner.FileState.{pcap_state, pcapng_state}
 use Rattle.cap_source.specs.inner.Reached.{progress_of}
 use Rattle.cap_source.specs.inner.Readers.{reader_file_state}
@@ -86,3 +90,23 @@ invariant_of-self-in-Pcap g c =
           (Answers-behind old opened new c.next_of_pcap.result c.next_of_pcap.new.known
           (rw c.in-Pcap.is at (c.in_ok-open.ensures.answer p)) keeps (c.next_of_pcap.ensures.answer p));
     }
+
+pub returns-in-Pcap-clause-fronts : goal.returns-in-Pcap-clause-fronts
+returns-in-Pcap-clause-fronts g c = λ told.
+    let m = c.args.self.now in
+    let p = progress_of m.reached in
+    let keeps = rw c.in-Pcap.is at (c.in_ok-open.ensures.keeps p) in
+    Fronts-answer (capture_fronts m) (pcap_fronts c.in-Pcap.reader) (pcap_fronts c.next_of_pcap.new.reader)
+    c.next_of_pcap.result c.next_of_pcap.new.known (rw c.in-Pcap.is at (c.in_ok-open.ensures.fronts p told))
+    (c.next_of_pcap.ensures.fronts (keeps.told (told-same m.reader p told)))
+
+pub returns-in-Pcapng-clause-fronts : goal.returns-in-Pcapng-clause-fronts
+returns-in-Pcapng-clause-fronts g c = λ told.
+    let m = c.args.self.now in
+    let p = progress_of m.reached in
+    let q = progress_of c.next_of_blocks.new.reached in
+    let keeps = rw c.in-Pcapng.is at (c.in_ok-open.ensures.keeps p) in
+    Fronts-answer (capture_fronts m) (pcapng_fronts c.in-Pcapng.reader p)
+    (pcapng_fronts c.next_of_blocks.new.reader q) c.next_of_blocks.result c.next_of_blocks.new.known
+    (rw c.in-Pcapng.is at (c.in_ok-open.ensures.fronts p told))
+    (c.next_of_blocks.ensures.fronts (keeps.told (told-same m.reader p told)))

@@ -1,6 +1,8 @@
 use Rattle.std.proofs.Common.{ap}
 use Rattle.std.proofs.lemmas.Result.{err_from_is_err_and}
 use Rattle.cap_source.specs.inner.FileState.{head_of}
+use Rattle.cap_source.proofs.Fronts.{Fronts-fault, Fronts-given, none-next}
+use Rattle.cap_source.specs.inner.Captures.{capture_fronts}
 use Rattle.cap_source.proofs.Firsts.{head_told, items_told, fault_found, fault_item, keeps_told}
 use Rattle.cap_source.proofs.captures.CapturePacketFeed.has_packet.Goals as goal
 
@@ -59,3 +61,16 @@ returns-in-Some-End-clause-keeps g c =
 pub returns-in-Some-End-clause-items : goal.returns-in-Some-End-clause-items
 returns-in-Some-End-clause-items g c =
     items_told _ _ _ _ c.in_ok-learn.ensures.answer
+
+pub returns-in_err-learn-clause-fronts : goal.returns-in_err-learn-clause-fronts
+returns-in_err-learn-clause-fronts g c = λ told unknown.
+    let p = err_from_is_err_and c.from_residual.result c.from_residual.ensures.1 in
+    rw (p.1, p.2)
+    (Fronts-fault (capture_fronts c.args.self.now) (capture_fronts c.learn.new.self) c.learn.new.self.next _
+    c.in_err-learn.field-0.0 (c.in_err-learn.ensures.fronts (none-next c.args.self.now.next unknown) told))
+
+pub returns-in-Some-Packet-clause-fronts : goal.returns-in-Some-Packet-clause-fronts
+returns-in-Some-Packet-clause-fronts g c = λ told unknown.
+    Fronts-given (capture_fronts c.args.self.now) (capture_fronts c.learn.new.self) c.learn.new.self.next
+    c.in-Some-Packet.field-0 _ _ c.in-Some-Packet.ensures c.in-Some-Packet.field-0-is
+    (c.in_ok-learn.ensures.fronts (none-next c.args.self.now.next unknown) told)
