@@ -99,7 +99,8 @@ fn fault_of(status: u32, place: &Place) -> Option<Fault>
 /// tell, with its end, and returns how long the line is: 0 if the status tells no fault.
 #[unsafe(no_mangle)]
 pub extern "C" fn capt_error_text(status: u32, place: &Place, buffer: &mut [u8]) -> usize
-    ensures text { (fault : Fault) → TellsFault status place.now fault → PutsText (fault_text fault) result buffer.old buffer.new }
+    ensures text { (fault : Fault) → TellsFault status place.now fault
+        → PutsText (fault_text fault) result buffer.old buffer.new }
     ensures none { ((fault : Fault) → TellsFault status place.now fault → ⊥)
         → (result ≡ 0) × (buffer.new ≡ buffer.old) }
 {

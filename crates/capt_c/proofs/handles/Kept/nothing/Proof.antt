@@ -39,6 +39,7 @@ nothing_spec 𝓤 𝓛 𝓜 𝓡 wired =
     ∷ ‵ ftrue ∷ []) ∵ split ! $
     enter ! 𝓣.C 𝓣.Λ fn (ptr_val p ∷ []) Post $ alloc_all ! (λ l. pass_all ! refl ((rawptr_Lawful 𝓛).typed p _ refl) $
     sets ! (agg ! (and_then ! (get ! refl) (no_more !))) refl (word_good p) $ move ! (2 ∷ []) $ kept_in ! p none $
-    use0 𝓛 (raw (fact 𝓤 ((none ≡ none) × (p ≡ p)))) (fact_i 𝓤 ((none ≡ none) × (p ≡ p)) (emp 𝓤) (refl, refl)) $ nothing ! $ nothing ! $ fjoin ! $
+    use0 𝓛 (raw (fact 𝓤 ((none ≡ none) × (p ≡ p)))) (fact_i 𝓤 ((none ≡ none) × (p ≡ p)) (emp 𝓤) (refl, refl)) $
+    nothing ! $ nothing ! $ fjoin ! $
     returns ! (look_at ! 0 refl) $ free_all ! refl $ keep ! (3 ∷ 0 ∷ 2 ∷ 1 ∷ []) $ by !
     (leaves 𝓛 ended hs c z (word p) (record { at = p; value = none }) (tt, tt) (tt, tt))))
