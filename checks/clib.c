@@ -1,7 +1,8 @@
 /* A C program over libcapt, for clib.py. It prints what `capt list` prints of a file, by capt_next (`next`), by capt_next_many
- * (`many`), of standard input (`stdin`), or of bytes that are fed, N at a time (`fed N`), what `capt report` prints, step by step (`table`), and misuses the library in each way that the header names (`misuse`). */
+ * (`many`), of standard input (`stdin`), or of bytes that are fed, N at a time (`fed N`), what `capt report` prints, step by step (`table`), misuses the library in each way that the header names (`misuse`), and measures what a reader that is fed holds (`memory`). */
 #include <capt.h>
 #include <inttypes.h>
+#include <malloc.h>
 #include <stdio.h>
 #include <stdlib.h>
 #include <string.h>
@@ -126,6 +127,73 @@ static int list_fed(capt_bytes rest, size_t size, bool allow_cut) {
     return closed && capt_next(&reader, &packet, &again) == CAPT_MISUSE ? code : 8;
 }
 
+/* How many bytes malloc holds for this program. */
+static size_t held(void) {
+    struct mallinfo2 info = mallinfo2();
+    return info.uordblks + info.hblkhd;
+}
+
+/* A pcap file of so many records of 84 bytes: 24 bytes, and 100 for each. */
+static uint8_t *records(size_t count) {
+    static const uint8_t header[24] = {0xd4, 0xc3, 0xb2, 0xa1, 2, 0, 4, 0, 0, 0, 0, 0, 0, 0, 0, 0, 0, 0, 4, 0, 1, 0, 0, 0};
+    uint8_t *bytes = calloc(1, 24 + count * 100);
+    if (!bytes) exit(3);
+    memcpy(bytes, header, 24);
+    for (size_t i = 0; i < count; i++) bytes[24 + i * 100 + 8] = bytes[24 + i * 100 + 12] = 84;
+    return bytes;
+}
+
+/* Reads packets as long as they come, and says how many came. */
+static size_t read_out(capt_reader *reader, uint32_t want) {
+    capt_packet packet;
+    capt_place place;
+    size_t count = 0;
+    uint32_t status;
+    while ((status = capt_next(reader, &packet, &place)) == CAPT_PACKET) count++;
+    if (status != want) exit(30);
+    return count;
+}
+
+/* What a reader that is fed holds: no more than 1 MiB of a large piece that was read out, at most twice of what wasn't read, and
+ * nothing after a refusal. A backlog is read in time though small pieces are fed to it. */
+static int fed_memory(void) {
+    enum { MANY = 1000000, SOME = 300000, MIB = 1 << 20 };
+    capt_reader reader = {0};
+    capt_packet packet;
+    capt_place place;
+    size_t before = held();
+    uint8_t *piece = records(MANY);
+    /* all but half of the last record */
+    if (capt_open_fed(&reader, false) != CAPT_DONE || capt_feed(&reader, piece, 24 + MANY * 100 - 50) != CAPT_DONE) return 31;
+    if (held() - before < 200 * (size_t)MIB * 9 / 10) return 32;
+    free(piece);
+    if (read_out(&reader, CAPT_MORE) != MANY - 1 || held() - before > 2 * MIB) return 33;
+    uint8_t rest[50] = {0};
+    rest[49] = 7;
+    if (capt_feed(&reader, rest, 50) != CAPT_DONE || capt_next(&reader, &packet, &place) != CAPT_PACKET) return 34;
+    if (packet.captured != 84 || packet.frame[83] != 7 || held() - before > 2 * MIB) return 35;
+    capt_close(&reader);
+    /* a backlog, and a record more after each that is read */
+    piece = records(SOME);
+    if (capt_open_fed(&reader, false) != CAPT_DONE || capt_feed(&reader, piece, 24 + SOME * 100) != CAPT_DONE) return 36;
+    for (size_t i = 0; i < 2 * SOME; i++) {
+        if (capt_next(&reader, &packet, &place) != CAPT_PACKET || capt_feed(&reader, piece + 24, 100) != CAPT_DONE) return 37;
+        if (held() - before > (SOME * 100 + 24) * (size_t)6) return 38;
+    }
+    if (read_out(&reader, CAPT_MORE) != SOME || held() - before > (SOME * 100 + 24) + 2 * (size_t)MIB) return 39;
+    free(piece);
+    capt_close(&reader);
+    /* a reader that refuses */
+    static uint8_t zeros[16384];
+    if (capt_open_fed(&reader, false) != CAPT_DONE || capt_feed(&reader, zeros, sizeof zeros) != CAPT_DONE) return 40;
+    if (read_out(&reader, CAPT_REFUSED) != 0) return 41;
+    for (int i = 0; i < 10000; i++)
+        if (capt_feed(&reader, zeros, sizeof zeros) != CAPT_DONE) return 42;
+    if (read_out(&reader, CAPT_REFUSED) != 0 || held() - before > MIB / 2) return 43;
+    capt_close(&reader);
+    return held() - before > MIB / 2 ? 44 : 0;
+}
+
 /* The report of a file, step by step, with one after each step that can be written. */
 static int report(capt_bytes file, bool allow_cut) {
     capt_table table = {0};
@@ -181,7 +249,7 @@ static int misuse(const char *name) {
     if (capt_next(&text.handle, &packet, &place) != CAPT_MISUSE) return 8;
     capt_text_close(&text);
     capt_text_close(&text);
-    if (text.len != 0) return 9;
+    if (text.len != 0 || text.at) return 9;
     /* room for no packet, and a reader that is opened again and again */
     if (capt_open(&reader, files[0].at, files[0].len, false) != CAPT_DONE) return 10;
     if (capt_next_many(&reader, &packet, 0, &count, &place) != CAPT_MISUSE) return 11;
@@ -204,6 +272,7 @@ int main(int count, char **words) {
     bool allow_cut = count > 2 && strcmp(words[2], "--allow-cut") == 0;
     capt_reader reader = {0};
     if (strcmp(words[1], "misuse") == 0) return misuse(words[count - 1]);
+    if (strcmp(words[1], "memory") == 0) return fed_memory();
     if (strcmp(words[1], "stdin") == 0) {
         uint32_t status = capt_open_stdin(&reader, allow_cut);
         return status == CAPT_DONE ? list(&reader, 1) : told(status, (capt_place){0, 0, 0});

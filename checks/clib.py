@@ -1,7 +1,7 @@
 #!/usr/bin/env python3
 """libcapt, as C and Python call it: over the examples and the corpus each call gives what the built program prints and writes, in
 memory, from standard input, also if that comes by one byte a read, and fed in pieces of any size, whole and cut off anywhere; a failed read and refused growths are told; each misuse that
-the header names is told; only names that begin with capt_ are seen; and where valgrind is, it sees no error and no leak.
+the header names is told; a fed reader gives its memory back; only names that begin with capt_ are seen; and where valgrind is, it sees no error and no leak.
 
 Use: checks/clib.py [PROGRAM [FOLDER]]     (FOLDER as crates/capt_c/link.sh leaves it; without it the library is built, with proofs, over
                                             the libraries that `rt ci` leaves; it wants a C compiler and binutils, and uses valgrind
@@ -256,6 +256,8 @@ def main():
         path = bench.name(example)
         for it in (checker, shared):
             count.check("c: misuse", run([it, "misuse", path]) == (0, b"", b""), run([it, "misuse", path]))
+            seen = run([it, "memory"])
+            count.check("c: what a fed reader holds", seen == (0, b"", b""), seen)
         names = subprocess.run(["nm", "-D", "--defined-only", os.environ["CAPT_LIBRARY"]], stdout=subprocess.PIPE, text=True).stdout
         seen = {line.split()[2].split("@")[0] for line in names.splitlines()} - {"CAPT_0"}
         with open(os.path.join(library, "capt.h")) as header:

@@ -5,6 +5,7 @@ use crate::source::carried;
 use crate::vectors::{CARRY_PCAP, OPTIONS_PCAPNG};
 use cap_bytes::{Fault, Refusal, Rule, Tail};
 use cap_source::{Fed, FedCapture, Format, Meta};
+use std::alloc::Global;
 use std::process::Abort;
 
 // More bytes are wanted before each of those.
@@ -64,4 +65,67 @@ fn a_cut_file_is_refused_at_the_end_alone(rt: HostRuntime) {
     let mut fed = FedCapture::new(rt.alloc(), 7, Tail::Accept);
     wants(&rt, &mut fed, &CARRY_PCAP[..43]);
     ends(&rt, fed, Ok(Fed::End));
+}
+
+// A pcap file whose header is fed first, and then records without bytes, 16 bytes each.
+fn fed_in_two(rt: &impl Abort, alloc: Global, len: usize) -> FedCapture {
+    let mut fed = FedCapture::new(alloc, 7, Tail::Refuse);
+    fed.feed(&CARRY_PCAP[..24]).expect(rt, "memory");
+    let records = vec![in alloc; 0u8; len].expect(rt, "memory");
+    holds!(rt; !fed.has_ended());
+    fed.feed(&records).expect(rt, "memory");
+    fed
+}
+
+// What was passed stays until more are wanted; then 2 MiB are given back, and what is fed is kept.
+#[test]
+fn a_large_piece_is_given_back(rt: HostRuntime) {
+    let mut fed = fed_in_two(&rt, rt.alloc(), 0x20_0000);
+    same!(&rt; fed.kept(), 0x20_0018);
+    holds!(&rt; fed.held() >= 0x20_0018);
+    for _ in 0..0x2_0000 {
+        holds!(&rt; matches!(fed.next(), Ok(Fed::Packet(_))));
+    }
+    same!(&rt; fed.kept(), 0x20_0018);
+    same!(&rt; fed.next(), Ok(Fed::More));
+    same!(&rt; (fed.kept(), fed.held()), (0, 0));
+    holds!(&rt; !fed.has_ended());
+    fed.feed(&[0; 5]).expect(&rt, "memory");
+    same!(&rt; fed.next(), Ok(Fed::More));
+    same!(&rt; fed.kept(), 5);
+}
+
+// The front is dropped once it is as long as the rest, with the next feed.
+#[test]
+fn the_front_is_dropped_at_half(rt: HostRuntime) {
+    let mut fed = FedCapture::new(rt.alloc(), 7, Tail::Refuse);
+    fed.feed(&CARRY_PCAP).expect(&rt, "memory");
+    fed.feed(&[0; 80]).expect(&rt, "memory");
+    holds!(&rt; matches!(fed.next(), Ok(Fed::Packet(_))));
+    holds!(&rt; !fed.has_ended());
+    fed.feed(&[0; 1]).expect(&rt, "memory");
+    same!(&rt; fed.kept(), 125);
+    holds!(&rt; matches!(fed.next(), Ok(Fed::Packet(_))));
+    holds!(&rt; matches!(fed.next(), Ok(Fed::Packet(_))));
+    holds!(&rt; !fed.has_ended());
+    fed.feed(&[0; 1]).expect(&rt, "memory");
+    same!(&rt; fed.kept(), 50);
+}
+
+// A file that begins with no magic is refused, and nothing of it is kept, nor of what is fed then.
+#[test]
+fn nothing_is_kept_after_a_refusal(rt: HostRuntime) {
+    let magic = Refusal {
+        file: 7,
+        offset: 0,
+        rule: Rule::Magic,
+    };
+    let mut fed = FedCapture::new(rt.alloc(), 7, Tail::Refuse);
+    fed.feed(&[0; 100]).expect(&rt, "memory");
+    same!(&rt; fed.next(), Err(Fault::Refused(magic)));
+    same!(&rt; (fed.kept(), fed.held()), (0, 0));
+    holds!(&rt; !fed.has_ended());
+    fed.feed(&[0; 100]).expect(&rt, "memory");
+    same!(&rt; (fed.kept(), fed.held()), (0, 0));
+    same!(&rt; fed.next(), Err(Fault::Refused(magic)));
 }

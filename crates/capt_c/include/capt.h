@@ -6,24 +6,24 @@
  * handle holds.
  *
  * * Handles. A capt_reader, a capt_table or a capt_text belongs to you. Set it to {0} before its first call, let only
- * the library change it, don't copy it, and close it. Closing sets it to {0} again; closing it twice does nothing. A call
- * that fills a handle closes first what it held. A call that opens a handle leaves {0} if it returns CAPT_MEMORY.
+ * the library change it, don't copy it, and close it. Closing sets it to {0} again; closing it twice does nothing. A
+ * call that fills a handle closes first what it held. A call that opens a handle leaves {0} if it returns CAPT_MEMORY.
  *
  * * Threads. One call at a time with a handle. Calls with different handles may run at once, also over the same bytes.
  *
  * * Pointers. None is NULL, not even to a file of 0 bytes: pass the address of any byte then. The library only reads
  * the bytes that you give. Those of capt_open and capt_table_open stay where and as they are until capt_close; those of
- * the other calls, of capt_feed too, until the call returns. A `len` is at most PTRDIFF_MAX, and so is the size in bytes
- * of an array.
+ * the other calls, of capt_feed too, until the call returns. A `len` is at most PTRDIFF_MAX, and so is the size in
+ * bytes of an array.
  *
  * * Objects. The objects that you pass to one call overlap neither each other nor what its handles hold: don't feed a
  * frame to the reader that lent it. A call that returns CAPT_MISUSE changes none of them.
  *
- * * Memory. A reader holds at most 512 KiB and 1,024 interfaces. A reader that is fed keeps at most twice the bytes that
- * it hasn't read, and the last piece; when it returns CAPT_MORE, at most 1 MiB; after CAPT_DONE or CAPT_REFUSED none. It
- * gives back what more it held if malloc can make a block smaller; and it holds at most 1,024 interfaces. A table holds
- * what a reader holds for each of its files, and besides at most 1,024 groups of fragments and 1,048,576 conversations.
- * A call that makes a text holds the whole text.
+ * * Memory. A reader holds at most 512 KiB and 1,024 interfaces. A reader that is fed keeps at most twice the bytes
+ * that it hasn't read, and the last piece; when it returns CAPT_MORE, at most 1 MiB; after CAPT_DONE or CAPT_REFUSED
+ * none. It gives back what more it held if malloc can make a block smaller; and it holds at most 1,024 interfaces. A
+ * table holds what a reader holds for each of its files, and besides at most 1,024 groups of fragments and 1,048,576
+ * conversations. A call that makes a text holds the whole text.
  *
  * * No call is to be made from a signal handler. */
 #ifndef CAPT_H

@@ -1,6 +1,6 @@
 -- One packet more was told, at the end or in front.
-use Rattle.std.proofs.Common.{◌≡◌, ◌+◌, ℕ, suc, List, [], ◌∷◌, ◌++◌, length, slice_set, take, drop, drop-drop, ap, refl}
-use Rattle.std.proofs.Common.{sym, ◌∙◌, arith}
+use Rattle.std.proofs.Common.{◌≡◌, ◌+◌, ℕ, suc, List, [], ◌∷◌, ◌++◌, length, slice_set, take, drop, refl, sym, ◌∙◌}
+use Rattle.std.proofs.Common.{ap, arith, drop-drop}
 use Rattle.std.proofs.lemmas.List.{drop-set-lt}
 use Rattle.cap_source.specs.Feed.{Item, packet}
 use Rattle.cap_source.specs.declared.packets.Meta.{Meta}

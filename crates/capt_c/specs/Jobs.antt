@@ -7,6 +7,7 @@ use Rattle.capt_c.specs.declared.answers.Place.{Place}
 use Rattle.capt_c.specs.declared.handles.Held.{Held}
 use Rattle.capt_c.specs.declared.handles.Held.TheVariants as helds
 use denote.RawPtr.{null_ptr}
+use Rattle.std.specs.Vec.{vec_ptr}
 use Rattle.capt_c.specs.Held.{IsClosed}
 use Rattle.capt_c.specs.declared.jobs.Bytes.{Bytes}
 use Rattle.capt_c.specs.declared.jobs.Text.{Text}
@@ -29,14 +30,15 @@ pub record IsTextClosed (text : Text) : Type 0 where
   pub len : text.len ≡ 0
   pub handle : IsClosed text.handle.kept.value text.handle.kept.at text.handle.is_open
 
--- A caller is shown that text of the job that ended so, or for want of memory a text that is closed.
+-- A caller is shown that text of the job that ended so, where the vector that is held has it, or for want of memory a
+-- text that is closed.
 abbrev pub Shown : List ℕ → Result Unit Fault → ℕ → Place → Text → Option Held → Type 0
 Shown items answer status place text None = IsTextClosed text × (status ≡ 5) × (place ≡ nowhere)
 Shown items answer status place text (Some (helds.Capture c)) = ⊥
 Shown items answer status place text (Some (helds.Fed f)) = ⊥
 Shown items answer status place text (Some (helds.Table t)) = ⊥
 Shown items answer status place text (Some (helds.Text bytes)) =
-    (bytes.items ≡ items) × (text.len ≡ length items)
+    (bytes.items ≡ items) × (text.len ≡ length items) × (text.at ≡ vec_ptr bytes)
     × (status ≡ status_of_result (by_memory answer)) × (place ≡ place_of_result (by_memory answer))
 
 -- A caller is shown a text that was made as `Does` says, from nothing, and how the job ended; or nothing for want of

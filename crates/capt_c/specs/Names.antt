@@ -1,7 +1,10 @@
 -- What a call that puts a text into a caller's buffer does.
 use Rattle.std.specs.Prelude.{◌≡◌, ℕ, List, ◌++◌, length, take, drop}
 use Rattle.cap_bytes.specs.Rules.{rule_number, rule_name}
+use Rattle.cap_bytes.specs.declared.faults.Fault.{Fault}
+use Rattle.cap_bytes.specs.declared.faults.Fault.TheVariants.{Refused, Read, Write, Memory}
 use Rattle.cap_bytes.specs.declared.faults.Rule.{Rule}
+use Rattle.capt_c.specs.declared.answers.Place.{Place}
 
 -- As much of a text as there was room for was put into a buffer, which keeps what is behind it, and `count` is the
 -- text's whole length.
@@ -12,3 +15,12 @@ PutsText text count old new = (count ≡ length text) × (new ≡ take (length o
 pub record NamesRule (number count : ℕ) (old new : List ℕ) : Type 0 where
   pub name : (rule : Rule) → rule_number rule ≡ number → PutsText (rule_name rule) count old new
   pub none : ((rule : Rule) → rule_number rule ≡ number → ⊥) → (count ≡ 0) × (new ≡ old)
+
+-- A status and a place tell that fault: of a refusal the place says all, of a failed read where it was.
+abbrev pub TellsFault : ℕ → Place → Fault → Type 0
+TellsFault status place (Refused refusal) =
+    (status ≡ 2) × (refusal.file ≡ place.file) × (refusal.offset ≡ place.offset)
+    × (rule_number refusal.rule ≡ place.rule)
+TellsFault status place (Read file offset) = (status ≡ 3) × (file ≡ place.file) × (offset ≡ place.offset)
+TellsFault status place Write = status ≡ 4
+TellsFault status place Memory = status ≡ 5

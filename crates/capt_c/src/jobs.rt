@@ -18,7 +18,6 @@ ghost use Rattle.capt_c.specs.Sources.{rest_of};
 
 use crate::answers::{MEMORY, MISUSE, Place, finish, format_of, nowhere, order_of, tail_of};
 use crate::handles::{Handle, Held};
-use crate::packets::start_of;
 use crate::sinks::Grown;
 use crate::sources::Slice;
 use cap_bytes::{Fault, Order, Sink, Tail};
@@ -95,7 +94,7 @@ pub(crate) fn show(
     ensures read { (IsReadFault answer → ⊥) → result ≡ 3 → ⊥ }
 {
     let bytes = sink.into_bytes();
-    text.at = start_of(&bytes);
+    text.at = bytes.as_ptr();
     text.len = bytes.len();
     if text.handle.hold(alloc, Held::Text(bytes)) {
         finish(by_memory(answer), place)

@@ -3,8 +3,7 @@ ghost use Rattle.std.specs.Prelude.{◌≡◌, ◌<◌, ◌⊎◌, IfSome, None,
 ghost use Rattle.cap_bytes.specs.Rules.{rule_number};
 ghost use Rattle.cap_bytes.specs.declared.faults.Fault.{Fault};
 ghost use Rattle.cap_tool.specs.Outcomes.{fault_text};
-ghost use Rattle.capt_c.specs.Answers.{status_of, place_of_fault};
-ghost use Rattle.capt_c.specs.Names.{NamesRule, PutsText};
+ghost use Rattle.capt_c.specs.Names.{NamesRule, PutsText, TellsFault};
 
 use crate::answers::{MEMORY, Place, READ, REFUSED, WRITE};
 use cap_bytes::{Fault, Refusal, Rule};
@@ -70,8 +69,8 @@ pub extern "C" fn capt_rule_name(rule: u32, buffer: &mut [u8]) -> usize
 
 // The fault that a status and a place tell, if they tell one.
 fn fault_of(status: u32, place: &Place) -> Option<Fault>
-    ensures some { (fault : Fault) → status_of fault ≡ status → place_of_fault fault ≡ place.now → result ≡ Some fault }
-    ensures none { ((fault : Fault) → status_of fault ≡ status → ⊥) → result ≡ None }
+    ensures some { (fault : Fault) → TellsFault status place.now fault → result ≡ Some fault }
+    ensures none { ((fault : Fault) → TellsFault status place.now fault → ⊥) → result ≡ None }
 {
     if status == REFUSED {
         match rule_of(place.rule) {
@@ -100,9 +99,10 @@ fn fault_of(status: u32, place: &Place) -> Option<Fault>
 /// tell, with its end, and returns how long the line is: 0 if the status tells no fault.
 #[unsafe(no_mangle)]
 pub extern "C" fn capt_error_text(status: u32, place: &Place, buffer: &mut [u8]) -> usize
-    ensures text { (fault : Fault) → status_of fault ≡ status → place_of_fault fault ≡ place.now
+    ensures text { (fault : Fault) → TellsFault status place.now fault
         → PutsText (fault_text fault) result buffer.old buffer.new }
-    ensures none { ((fault : Fault) → status_of fault ≡ status → ⊥) → (result ≡ 0) × (buffer.new ≡ buffer.old) }
+    ensures none { ((fault : Fault) → TellsFault status place.now fault → ⊥)
+        → (result ≡ 0) × (buffer.new ≡ buffer.old) }
 {
     match fault_of(status, place) {
         Some(fault) => put(fault_line(fault).as_slice(), buffer),
