@@ -19,7 +19,8 @@ use Rattle.cap_check.specs.Checking.{checked_after, nothing_checked, with_checke
 use Rattle.cap_check.specs.inner.Taking.{FrontsNext, StopsAt, StopsIf}
 use Rattle.cap_check.specs.declared.checked.Checked.{Checked}
 
--- The packets so far of a file that was `old` are taken. If it ended further on, they would be the first of its packets.
+-- The packets so far of a file that was `old` are taken. If it ended further on, they would be the first of its
+-- packets.
 pub record Reaching (old mid : Fronts) (checked : Checked) : Type 0 where
   pub size : mid.size ≡ old.size
   pub broken : mid.broken ≡ old.broken

@@ -29,8 +29,8 @@ pub enum CheckEnd {
     Whole(FileEnd),
     /// It is refused, and has that much up to there.
     Refusing(Refusal, FileEnd),
-    /// A read of it failed, of the header, the record or the block that begins at that offset, in bytes. It has that much
-    /// up to there; `None` if not even its header or its first block was read.
+    /// A read of it failed, of the header, the record or the block that begins at that offset, in bytes. It has that
+    /// much up to there; `None` if not even its header or its first block was read.
     Reading(u64, Option<FileEnd>),
     /// It could not be opened.
     Opening,

@@ -192,9 +192,9 @@ fn json_of(file: u32, check: &Check) -> Line
 
 /// The line of a file of that number that was checked, in a form. In text it is
 /// `check N FORMAT packets P backward B untimed U truncated Q skipped S interfaces I`, and then `whole`, with ` cut`
-/// after it if a rest of the file was dropped, `refused offset O rule R NAME`, `read offset O` or `open`. Skipped blocks
-/// and interfaces are those that the file has up to there. If it is refused, or a read fails, in its header or in its
-/// first block, none are, and the format is `-`.
+/// after it if a rest of the file was dropped, `refused offset O rule R NAME`, `read offset O` or `open`. Skipped
+/// blocks and interfaces are those that the file has up to there. If it is refused, or a read fails, in its header or
+/// in its first block, none are, and the format is `-`.
 pub fn check_line(form: Form, file: u32, check: &Check) -> Line
     ensures { text_in result ≡ line_in form (check_facts file check.now) }
 {

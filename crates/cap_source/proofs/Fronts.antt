@@ -31,7 +31,8 @@ use Rattle.cap_source.specs.declared.packets.Meta.{Meta}
 use Rattle.cap_source.specs.declared.readers.Next.{Next}
 use Rattle.cap_source.specs.declared.readers.Next.TheVariants as nexts
 use Rattle.cap_source.specs.inner.FileState.{IfTaken, items_from_next, next_at, next_frame, next_head, part_of}
-use Rattle.cap_source.specs.inner.Fronts.{Fronts, FrontsAnswer, FrontsFail, FrontsFind, FrontsGive, FrontsPass, bytes_before}
+use Rattle.cap_source.specs.inner.Fronts.{Fronts, FrontsAnswer, FrontsFail, FrontsFind, FrontsGive, FrontsPass}
+use Rattle.cap_source.specs.inner.Fronts.{bytes_before}
 use Rattle.cap_source.specs.inner.Fronts.{pcapng_fronts}
 
 pub not-both : (b : Bool) → IsTrue b → b ≡ false → ⊥
@@ -50,7 +51,8 @@ Fronts-same a = record {
 }
 
 -- one look after another
-pub Fronts-behind : (a b c : Fronts) (next : Option Next) → FrontsPass a None b → FrontsPass b next c → FrontsPass a next c
+pub Fronts-behind : (a b c : Fronts) (next : Option Next) → FrontsPass a None b → FrontsPass b next c
+    → FrontsPass a next c
 Fronts-behind a b c next p q = record {
   size = q.size ∙ p.size;
   broken = q.broken ∙ p.broken;
@@ -205,7 +207,8 @@ block-fails old new p file offset b none =
     })
 
 pub block-fault : (old new : ReaderState Order) (p : Progress) (fault : Fault) (next : Option Next)
-    → GivesNextBlock old (Err fault) new → FrontsAnswer {A = ⊤} (pcapng_fronts old p) (Err fault) next (pcapng_fronts new p)
+    → GivesNextBlock old (Err fault) new
+    → FrontsAnswer {A = ⊤} (pcapng_fronts old p) (Err fault) next (pcapng_fronts new p)
 block-fault old new p (Refused refusal) next g = tt
 block-fault old new p (Read file offset) next g = λ none. block-fails old new p file offset g none
 block-fault old new p Write next g = tt

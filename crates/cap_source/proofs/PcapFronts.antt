@@ -1,6 +1,8 @@
 -- A pcap file as it would be if it ended further on, and a file of which nothing was read.
-use Rattle.std.proofs.Common.{◌≡◌, ℕ, ◌+◌, ◌-◌, ◌≤◌, ◌&&◌, List, [], ◌∷◌, length, take, Bool, true, false, Option, Some, None}
-use Rattle.std.proofs.Common.{is_some, IsTrue, IsSomeAnd, ◌⊎◌, Ok, Err, refl, sym, ap, subst, ◌∙◌, arith, inl, inr, nat_le}
+use Rattle.std.proofs.Common.{◌≡◌, ℕ, ◌+◌, ◌-◌, ◌≤◌, ◌&&◌, List, [], ◌∷◌, length, take, Bool, true, false}
+use Rattle.std.proofs.Common.{Option, Some, None}
+use Rattle.std.proofs.Common.{is_some, IsTrue, IsSomeAnd, ◌⊎◌, Ok, Err, refl, sym, ap, subst, ◌∙◌, arith}
+use Rattle.std.proofs.Common.{inl, inr, nat_le}
 use Rattle.std.proofs.Common.{length-take}
 use Rattle.std.proofs.lemmas.Bool.Decides.{nat_tests}
 use Rattle.std.specs.Bool.{⊤}
@@ -17,7 +19,8 @@ use Rattle.cap_bytes.specs.inner.Window.{WindowBreaks, WindowKeeps, WindowShows,
 use Rattle.cap_blocks.specs.Split.{block_items_from, is_section}
 use Rattle.cap_pcap.proofs.Items.{items_from-none, items_from-record}
 use Rattle.cap_pcap.specs.Split.{record_at, record_frame_at, record_items_from}
-use Rattle.cap_pcap.specs.inner.Reader.{GivesHeader, GivesNextRecord, GivesRecord, HasHeader, ReadsHeader, record_items_at, records_to_come}
+use Rattle.cap_pcap.specs.inner.Reader.{GivesHeader, GivesNextRecord, GivesRecord, HasHeader, ReadsHeader}
+use Rattle.cap_pcap.specs.inner.Reader.{record_items_at, records_to_come}
 use Rattle.cap_pcap.specs.declared.headers.PcapHeader.{PcapHeader}
 use Rattle.cap_pcap.specs.declared.records.Record.{Record}
 use Rattle.cap_source.proofs.Fronts.{Fronts-same, none-before, not-both}
@@ -33,7 +36,8 @@ use Rattle.cap_source.specs.declared.readers.Next.TheVariants as nexts
 use Rattle.cap_source.specs.declared.readers.Reader.{Reader}
 use Rattle.cap_source.specs.declared.readers.Reader.TheVariants as readers
 use Rattle.cap_source.specs.inner.FileState.{header_or}
-use Rattle.cap_source.specs.inner.Fronts.{FrontsAnswer, FrontsFail, FrontsPass, bytes_before, pcap_fronts, reader_fronts}
+use Rattle.cap_source.specs.inner.Fronts.{FrontsAnswer, FrontsFail, FrontsPass, bytes_before, pcap_fronts}
+use Rattle.cap_source.specs.inner.Fronts.{reader_fronts}
 use Rattle.cap_source.specs.inner.Fronts.{record_items_of, unread_fronts}
 use Rattle.cap_source.specs.inner.Readers.{LooksAtWindow, has_format, reader_by, reader_file_state}
 

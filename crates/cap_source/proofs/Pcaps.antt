@@ -44,7 +44,8 @@ lent_size (Some bytes) captured h = omega (arith, h)
 part_whole : (bytes : List ℕ) (captured : ℕ) → length bytes ≡ captured → part_of (Some bytes) 0 captured ≡ bytes
 part_whole bytes captured is = take_all captured bytes (omega (arith, is))
 
-pub items_given : (m f g : ℕ) (h i j : Interface) (r : Record) (frame : Option (List ℕ)) (old new : List (PieceItem Record))
+pub items_given : (m f g : ℕ) (h i j : Interface) (r : Record) (frame : Option (List ℕ))
+    (old new : List (PieceItem Record))
     → m ≡ g → f ≡ g → h ≡ j → i ≡ j
     → IsSomeAnd frame (λ bytes. length bytes ≡ r.captured) → IsSomeAnd frame (λ bytes. old ≡ given r bytes ∷ new)
     → feeds.packet (meta_of m h r) (part_of frame 0 r.captured) ∷ pcap_items f i new ≡ pcap_items g j old

@@ -38,8 +38,8 @@ FailsHere old (Err (Read file offset)) = HasFile old.files file × IsTrue (old.c
 FailsHere old (Err Write) = ⊤
 FailsHere old (Err Memory) = ⊤
 
--- A read failed in what begins at that offset. All packets were taken that the file would have if it ended there, and it
--- has so far what it would have then. If nothing of it was read, none was.
+-- A read failed in what begins at that offset. All packets were taken that the file would have if it ended there, and
+-- it has so far what it would have then. If nothing of it was read, none was.
 pub record StopsAt (old : Fronts) (offset : ℕ) (new : Fronts) (checked : Checked) : Type 0 where
   pub within : offset ≤ old.size
   pub fresh : new.begun ≡ false → (old.begun ≡ false) × (offset ≡ old.offset) × (checked ≡ nothing_checked)
