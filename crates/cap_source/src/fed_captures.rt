@@ -1,6 +1,6 @@
 //! The packets of a capture whose bytes are fed piece by piece.
-ghost use Rattle.std.specs.Prelude.{◌≡◌, ◌≤◌, ◌+◌, ◌-◌, ◌*◌, [], ◌++◌, ℕ, List, drop, false, length, max, true, vec_capacity};
-ghost use Rattle.std.specs.Prelude.{vec_len};
+ghost use Rattle.std.specs.Prelude.{◌≡◌, ◌≤◌, ◌+◌, ◌-◌, ◌*◌, [], ◌++◌, ℕ, List, drop, false, length, max, true};
+ghost use Rattle.std.specs.Prelude.{vec_capacity, vec_len};
 ghost use Rattle.cap_source.specs.Fed.{fed_items};
 ghost use Rattle.cap_source.specs.Items.{file_items};
 ghost use Rattle.cap_source.specs.inner.FedSteps.{CourseKeeps, IsSoundCourse, LooksFed, course_of};

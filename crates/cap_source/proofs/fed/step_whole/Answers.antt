@@ -14,7 +14,8 @@ returns-then-bytes-block-clause-step c =
     c.break_off.result (course_of c.break_off.new.course)
     (fault-cut c.args.section c.args.course.now.offset c.args.bytes.now c.args.block c.requires.header
     c.if-bytes-block.true)
-    (λ cut. whole-few c.args.section c.args.course.now.offset c.args.bytes.now c.args.block (λ k. (c.type_inv.bytes k).fits)
+    (λ cut. whole-few c.args.section c.args.course.now.offset c.args.bytes.now c.args.block
+    (λ k. (c.type_inv.bytes k).fits)
     c.requires.header c.requires.read (fault-cut c.args.section c.args.course.now.offset c.args.bytes.now c.args.block
     c.requires.header c.if-bytes-block.true))
     (rw c.is_some-inside.ensures at c.break_off.ensures)
@@ -41,7 +42,8 @@ returns-in-Some-clause-step c =
     c.break_off-in-Some.result (course_of c.break_off-in-Some.new.course)
     (fault-whole c.args.section c.args.course.now.offset c.args.bytes.now c.args.block (Some c.in-Some.rule)
     c.requires.header (sym c.body_rule.ensures ∙ c.in-Some.is))
-    (λ cut. whole-few c.args.section c.args.course.now.offset c.args.bytes.now c.args.block (λ k. (c.type_inv.bytes k).fits)
+    (λ cut. whole-few c.args.section c.args.course.now.offset c.args.bytes.now c.args.block
+    (λ k. (c.type_inv.bytes k).fits)
     c.requires.header c.requires.read
     (fault-whole c.args.section c.args.course.now.offset c.args.bytes.now c.args.block (Some c.in-Some.rule)
     c.requires.header (sym c.body_rule.ensures ∙ c.in-Some.is) ∙ ap Some cut))
