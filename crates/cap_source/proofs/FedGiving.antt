@@ -1,6 +1,6 @@
 -- What a capture that is fed gives next, by what looking on at its bytes found.
-use Rattle.std.proofs.Common.{◌≡◌, ℕ, ◌<◌, ◌^◌, length, List, [], ◌++◌, false, Ok, sym, ap, ◌∙◌, subst}
-use Rattle.std.proofs.Common.{append-nil, true≢false}
+use Rattle.std.proofs.Common.{◌≡◌, ℕ, ◌<◌, ◌^◌, length, List, [], ◌++◌, false, Ok, sym, ap, ◌∙◌, subst, append-nil}
+use Rattle.std.proofs.Common.{true≢false}
 use Rattle.cap_source.specs.Fed.{CourseState, MayBeFed, items_after}
 use Rattle.cap_source.specs.declared.fed.FedStep.TheVariants as steps
 use Rattle.cap_source.specs.inner.FedSteps.{AreShort, LooksFed}

@@ -72,9 +72,9 @@ FindsFed old (Err Memory) new =
 abbrev pub spare_room : ℕ
 spare_room = 2 ^ 20
 
--- What is kept then of the bytes that were fed. After a packet and a refused growth it is what was kept. If more are
--- wanted, it is at most 1 MiB, of which fewer than 512 KiB are to come, and memory for at most 1 MiB if none are to
--- come. If nothing comes any more, it is nothing.
+-- What is kept then of the bytes that were fed: after a packet and a refused growth what was kept; if more are wanted,
+-- at most 1 MiB, of which fewer than 512 KiB are to come, and memory for at most 1 MiB if none are to come; nothing if
+-- nothing comes any more.
 abbrev pub LeavesFed : FedState → Result Fed Fault → FedState → Type 0
 LeavesFed old (Ok (feds.Packet meta)) new = (new.kept ≡ old.kept) × (new.room ≡ old.room)
 LeavesFed old (Ok feds.More) new =

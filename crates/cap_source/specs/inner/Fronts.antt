@@ -1,12 +1,6 @@
 -- A file of which a part was read, as it would be if it ended further on.
-<<<<<<< ours
-use Rattle.std.specs.Prelude.{◌≡◌, ◌+◌, ◌-◌, ◌≤◌, ℕ, List, [], ◌∷◌, length, take, Bool, true, false, IsTrue, Option}
-use Rattle.std.specs.Prelude.{Some}
-use Rattle.std.specs.Prelude.{None, is_some, Result, Ok, Err, ⊤, ◌⊎◌}
-=======
 use Rattle.std.specs.Prelude.{◌≡◌, ◌+◌, ◌-◌, ◌≤◌, ℕ, List, [], ◌∷◌, length, take, Bool, true, false, IsTrue}
 use Rattle.std.specs.Prelude.{Option, Some, None, is_some, Result, Ok, Err, ⊤, ◌⊎◌}
->>>>>>> theirs
 use Rattle.cap_bytes.specs.inner.Reader.{ReaderState}
 use Rattle.cap_bytes.specs.inner.Window.{WindowState}
 use Rattle.cap_bytes.specs.inner.Window as windows
