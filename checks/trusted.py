@@ -27,7 +27,7 @@ ROOTS = {
         "cap_merge.Files.endings_of_files", TELLS,
     ],
     "digest": ["cap_tool.DigestsText.digests_text", "cap_talks.talks.InfoText.first_refusal", PRINTS],
-    "check": ["cap_check.CheckText.WritesChecks"],
+    "check": ["cap_tool.CheckedNames.ChecksNames"],
     "convert": ["cap_tool.Converted.convert_text", "cap_tool.Converted.convert_refusal", PRINTS],
     "merge": ["cap_tool.MergeText.merge_text_in", "cap_tool.MergeText.merge_refusal_in", PRINTS],
     "join": [
