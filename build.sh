@@ -16,7 +16,7 @@ case ${1-} in
     *) sed -n 's/^# Use: //p; s/^#      //p' "${0##*/}" >&2; exit 2 ;;
 esac
 # the crates for which others wait longest: they, and those that they stand on, begin before others that could
-first='cap_source cap_blocks cap_write'
+first='cap_source cap_blocks cap_line cap_write'
 # the longest of these, and how many processes they get even if no processor is idle; and the most that a crate gets
 declare -A least=([cap_talks]=2 [cap_write]=3)
 most=4

@@ -46,7 +46,7 @@ fi
 
 rm -rf crates/*/out
 anew=()
-if rt --help | grep -q -- '--anew'; then anew=(--anew); fi
+if rt --help 2>&1 | grep -q -- '--anew'; then anew=(--anew); fi
 rt ci "${anew[@]}" 2>&1 | tee "$logs/rt ci"
 counted 'rt ci' "${PIPESTATUS[0]}"
 # an edit that is only refused for a name that a proof file lost shows nothing
