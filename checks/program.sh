@@ -284,7 +284,8 @@ into 'list of standard input onto it' list - < "$work/a" >> "$work/a"
   standard output: it is one of the files that are read'
 "$program" list --json "$work/a" 2> "$work/err" >> "$work/a"; status=$?; check 'list onto its file, as an object' 1 '' '{"type":"fault","fault":"create"}'
 same 'list onto its file' "$work/a" "$work/kept"; rm "$work/b"
-{ cat "$work/want.pcapng"; for n in {1..20000}; do tail -c 36 "$work/want.pcapng"; done; } > "$work/a"; cp "$work/a" "$work/kept"
+tail -c 36 "$work/want.pcapng" > "$work/many"; for n in {1..15}; do cat "$work/many" "$work/many" > "$work/b"; mv "$work/b" "$work/many"; done
+cat "$work/want.pcapng" "$work/many" > "$work/a"; cp "$work/a" "$work/kept"
 into 'merge of a large file onto it' merge -o - "$work/a" >> "$work/a"
 cp "$one" "$work/kept"; "$program" list "$one" >> "$work/a" 2> "$work/err"; status=$?; check 'list onto another file' 0 '' ''
 # a closed standard stream is none of the files that are opened
