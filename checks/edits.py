@@ -59,9 +59,11 @@ class Group:
         self.edits.append(edit)
         return True
 
-    def halves(self):
-        middle = len(self.edits) // 2
-        return [group for part in (self.edits[:middle], self.edits[middle:]) for group in groups_of(part)]
+    def parts(self, refused):
+        """The edits that are still to be refused, in smaller groups: by themselves if some of the group were refused."""
+        left = [edit for edit in self.edits if edit not in refused]
+        size = 1 if refused else (len(left) + 1) // 2
+        return [group for at in range(0, len(left), size) for group in groups_of(left[at : at + size])]
 
 
 def groups_of(edits):
@@ -166,14 +168,16 @@ def tried(group, rooms, rlibs):
     own.rooms[group.crate.name] = room
     said = checked(group, room, rlibs)
     found = judge(group, said)
-    if found:
+    if found and (not found[1] or len(group.edits) == 1):
         return found
-    if len(group.edits) > 1:
-        # one of them can't be read
-        parts = [tried(part, rooms, rlibs) for part in group.halves()]
-        return {edit: goals for refused, _ in parts for edit, goals in refused.items()}, [it for _, wrong in parts for it in wrong]
-    first = next((it for it in said.splitlines() if "error" in it), said[-200:])
-    return {}, [f"{group.edits[0].label}: not tried, since the check came to no end: {first[:200]}"]
+    if len(group.edits) == 1:
+        first = next((it for it in said.splitlines() if "error" in it), said[-200:])
+        return {}, [f"{group.edits[0].label}: not tried, since the check came to no end: {first[:200]}"]
+    # One of them can't be read, or reaches another function; or a function isn't judged, since one that it calls is edited
+    # too. By themselves, each tells. If every failure has its edit, those that were refused aren't tried again.
+    refused = found[0] if found and len(found[1]) == len(group.edits) - len(found[0]) else {}
+    parts = [tried(part, rooms, rlibs) for part in group.parts(refused)]
+    return refused | {edit: goals for more, _ in parts for edit, goals in more.items()}, [it for _, wrong in parts for it in wrong]
 
 
 def libraries(crates, folder, room):
