@@ -207,7 +207,7 @@ def parameters_end(text):
 
 
 def owner_of(kind, text):
-    """How a check names what has the methods: `impl T` is T, `impl Tr for T` is TTr."""
+    """How a check names what has the methods: `impl T` is T, `impl Tr for T` is TTr, `impl Tr for u8` is U8Tr."""
     if kind != "impl":
         return last_name(text.split(":")[0])
     text, depth = text.strip(), 0
@@ -215,7 +215,8 @@ def owner_of(kind, text):
     for found in re.finditer(r"<|(?<![-=])>| for ", text):
         depth += (found[0] == "<") - (found[0] == ">")
         if found[0] == " for " and not depth:
-            return last_name(text[found.end() :]) + last_name(text[: found.start()])
+            name = last_name(text[found.end() :])
+            return name[:1].upper() + name[1:] + last_name(text[: found.start()])
     return last_name(text)
 
 

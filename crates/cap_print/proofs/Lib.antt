@@ -1,1 +1,2 @@
 pub mod Denominators
+pub mod Words

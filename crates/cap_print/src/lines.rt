@@ -92,6 +92,39 @@ impl Line {
         self.start = write_text(text, &mut self.bytes, self.start);
     }
 
+    // Takes the first byte of what was put away, if there is one.
+    #[inline(always)]
+    pub(crate) fn drop_first(&mut self)
+        ensures text { text_in self.new ≡ drop 1 (text_in self.old) }
+        ensures room { room_in self.old ≤ room_in self.new }
+    {
+        if self.start < LINE {
+            self.start += 1;
+        }
+    }
+
+    // Puts a text with one before it and one after it.
+    #[inline(always)]
+    pub(crate) fn prepend_between(&mut self, before: &[u8], text: &[u8], after: &[u8])
+        requires { length before.now + length text.now + length after.now ≤ room_in self.old }
+        ensures text { text_in self.new ≡ before.now ++ text.now ++ after.now ++ text_in self.old }
+        ensures room { room_in self.new + length before.now + length text.now + length after.now ≡ room_in self.old }
+    {
+        let end = write_text(after, &mut self.bytes, self.start);
+        let end = write_text(text, &mut self.bytes, end);
+        self.start = write_text(before, &mut self.bytes, end);
+    }
+
+    // Puts a whole number, in decimal.
+    #[inline(always)]
+    pub(crate) fn prepend_digits(&mut self, number: u64)
+        requires { length (decimal number) ≤ room_in self.old }
+        ensures text { text_in self.new ≡ decimal number ++ text_in self.old }
+        ensures room { room_in self.new + length (decimal number) ≡ room_in self.old }
+    {
+        self.start = write_digits(number, &mut self.bytes, self.start);
+    }
+
     /// Puts a label and a whole number, in decimal.
     #[inline(always)]
     pub fn prepend_field(&mut self, label: &[u8], number: u64)
@@ -99,7 +132,7 @@ impl Line {
         ensures text { text_in self.new ≡ label.now ++ decimal number ++ text_in self.old }
         ensures room { room_in self.old ≤ room_in self.new + length label.now + 20 }
     {
-        self.start = write_digits(number, &mut self.bytes, self.start);
+        self.prepend_digits(number);
         self.prepend_text(label);
     }
 

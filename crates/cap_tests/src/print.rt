@@ -1,6 +1,6 @@
 //! Lines of numbers and times.
 use crate::checks::same;
-use cap_print::{Line, prepend_escaped};
+use cap_print::{Form, Line, prepend_escaped};
 use cap_time::{Interface, Resolution, Stamp};
 
 #[test]
@@ -19,20 +19,46 @@ fn a_line_of_numbers(rt: HostRuntime) {
     same!(&rt; line.as_slice(), b"18446744073709551615".as_slice());
 }
 
+// Puts a line with a fact of each kind.
+fn put_facts(line: &mut Line, form: Form) {
+    line.clear_to_end(form);
+    line.put_flag(form, b"cut", true);
+    line.put_flag(form, b"whole", false);
+    line.put_group_end(form);
+    line.put_number_as(form, b" ", b"bytes", 18_446_744_073_709_551_616u128);
+    line.put_number_as(form, b" forward ", b"packets", 3u64);
+    line.put_group(form, b"forward");
+    line.put_quote(form);
+    line.prepend_text(b"10.0.0.1");
+    line.put_quote(form);
+    line.put_name(form, b" ", b"address");
+    line.put_hex(form, b"data", &[0x0a, 0xff]);
+    line.put_hex(form, b"none", b"");
+    line.put_time(form, b"first", None);
+    line.put_coded_as(form, b" ", b"protocol", b"udp", 17u16);
+    line.put_word(form, b"name", None);
+    line.put_word_as(form, b" ", b"format", Some("pcapng"));
+    line.put_number(form, b"link", 1u32);
+    line.put_kind(form, b"file");
+}
+
 #[test]
-fn words_and_flags(rt: HostRuntime) {
-    let mut line = Line::new();
-    line.prepend_word(b" ", None);
-    line.prepend_word(b"file ", Some("pcap"));
-    same!(&rt; line.as_slice(), b"file pcap -".as_slice());
-    line.clear();
-    line.prepend_flag(b",\"cut\":", false);
-    line.prepend_flag(b",\"whole\":", true);
-    line.prepend_word_string(b",\"name\":", None);
-    line.prepend_word_string(b"\"format\":", Some("pcapng"));
+fn facts_in_both_forms(rt: HostRuntime) {
+    let mut line = Line::end(Form::Json);
+    same!(&rt; line.as_slice(), b"}\n".as_slice());
+    put_facts(&mut line, Form::Text);
     same!(&rt;
         line.as_slice(),
-        b"\"format\":\"pcapng\",\"name\":null,\"whole\":true,\"cut\":false".as_slice()
+        b"file link 1 pcapng name - udp first - none - data 0aff 10.0.0.1 forward 3 18446744073709551616 cut\n"
+            .as_slice()
+    );
+    put_facts(&mut line, Form::Json);
+    same!(&rt;
+        line.as_slice(),
+        b"{\"type\":\"file\",\"link\":1,\"format\":\"pcapng\",\"name\":null,\"protocol\":17,\"first\":null,\"none\":\"\",\
+\"data\":\"0aff\",\"address\":\"10.0.0.1\",\"forward\":{\"packets\":3,\"bytes\":18446744073709551616},\
+\"whole\":false,\"cut\":true}\n"
+            .as_slice()
     );
 }
 

@@ -4,8 +4,8 @@ use Rattle.std.proofs.lemmas.Fmt.{length-decimal-le}
 use Rattle.std.proofs.lemmas.Grind.{common_steps}
 use Rattle.cap_print.proofs.lines.Line.prepend_field.Goals as goal
 
-pub write_digits-self-requires : goal.write_digits-self-requires
-write_digits-self-requires c = search (rules, length-decimal-le 20)
+pub prepend_digits-requires : goal.prepend_digits-requires
+prepend_digits-requires c = search (rules, length-decimal-le 20)
 
 pub prepend_text-requires : goal.prepend_text-requires
 prepend_text-requires c = search (rules, length-decimal-le 20)

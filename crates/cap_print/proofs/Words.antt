@@ -1,0 +1,12 @@
+-- A word that is put piece by piece.
+use Rattle.std.proofs.Common.{◌≡◌, ℕ, List, ◌++◌, Some, refl, append_assoc}
+use Rattle.cap_print.specs.Facts.{word_in}
+use Rattle.cap_print.specs.declared.forms.Form.{Form}
+use Rattle.cap_print.specs.declared.forms.Form.TheVariants.{Json, Text}
+use Rattle.cap_print.specs.inner.Parts.{quote_in}
+
+-- between its quotes it is the word
+pub quoted-word : (form : Form) (known rest : List ℕ)
+    → quote_in form (known ++ quote_in form rest) ≡ word_in form (Some known) ++ rest
+quoted-word Text known rest = refl
+quoted-word Json known rest = simp append_assoc
