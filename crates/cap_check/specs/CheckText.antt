@@ -6,7 +6,7 @@ use Rattle.cap_bytes.specs.Rules.{rule_name, rule_number}
 use Rattle.cap_bytes.specs.declared.faults.Fault.{Fault}
 use Rattle.cap_bytes.specs.declared.faults.Fault.TheVariants.{Memory, Read, Refused, Write}
 use Rattle.cap_bytes.specs.declared.faults.Tail.{Tail}
-use Rattle.cap_print.specs.Facts.{Facts, Field, flag, group, line_in, number, one, word}
+use Rattle.cap_print.specs.Facts.{Facts, Field, flagged, group, line_in, named, number, one, word}
 use Rattle.cap_print.specs.declared.forms.Form.{Form}
 use Rattle.cap_bytes.specs.Formats.{format_name}
 use Rattle.cap_source.specs.declared.feeds.FileEnd.{FileEnd}
@@ -40,18 +40,17 @@ end_interfaces None = 0
 -- offset; or it could not be opened
 abbrev pub end_fields : CheckEnd → List Field
 end_fields (Whole end) =
-    one (record { label = codes " whole"; key = codes "whole"; value = flag true })
-    ∷ one (record { label = codes " cut"; key = codes "cut"; value = flag end.ending.was_cut }) ∷ []
+    one (flagged (codes "whole") true) ∷ one (flagged (codes "cut") end.ending.was_cut) ∷ []
 end_fields (Refusing refusal end) =
     group (codes "refused")
     (record { label = codes " refused offset "; key = codes "offset"; value = number refusal.offset })
-    (record { label = codes " rule "; key = codes "rule"; value = number (rule_number refusal.rule) }
+    (named (codes "rule") (number (rule_number refusal.rule))
     ∷ record { label = codes " "; key = codes "name"; value = word (Some (rule_name refusal.rule)) } ∷ [])
     ∷ []
 end_fields (Reading offset end) =
     group (codes "read")
     (record { label = codes " read offset "; key = codes "offset"; value = number offset }) [] ∷ []
-end_fields Opening = one (record { label = codes " open"; key = codes "open"; value = flag true }) ∷ []
+end_fields Opening = one (flagged (codes "open") true) ∷ []
 
 -- the line of the file of that number
 abbrev pub check_facts : ℕ → Check → Facts
@@ -64,20 +63,12 @@ check_facts file check = record {
         key = codes "format";
         value = word (option_map end_format_name (known_end check.end));
       })
-      ∷ one (record { label = codes " packets "; key = codes "packets"; value = number check.counts.packets })
-      ∷ one (record { label = codes " backward "; key = codes "backward"; value = number check.counts.backward })
-      ∷ one (record { label = codes " untimed "; key = codes "untimed"; value = number check.counts.untimed })
-      ∷ one (record { label = codes " truncated "; key = codes "truncated"; value = number check.counts.truncated })
-      ∷ one (record {
-        label = codes " skipped ";
-        key = codes "skipped";
-        value = number (end_skipped (known_end check.end));
-      })
-      ∷ one (record {
-        label = codes " interfaces ";
-        key = codes "interfaces";
-        value = number (end_interfaces (known_end check.end));
-      })
+      ∷ one (named (codes "packets") (number check.counts.packets))
+      ∷ one (named (codes "backward") (number check.counts.backward))
+      ∷ one (named (codes "untimed") (number check.counts.untimed))
+      ∷ one (named (codes "truncated") (number check.counts.truncated))
+      ∷ one (named (codes "skipped") (number (end_skipped (known_end check.end))))
+      ∷ one (named (codes "interfaces") (number (end_interfaces (known_end check.end))))
       ∷ end_fields check.end;
 }
 

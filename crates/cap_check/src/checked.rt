@@ -1,7 +1,7 @@
 //! What is counted of the packets of a file that is checked.
 ghost use Rattle.std.specs.Prelude.{◌≡◌, ◌<◌, ◌^◌, ◌+◌};
 ghost use Rattle.cap_time.specs.Clock.{later};
-ghost use Rattle.cap_check.specs.Checking.{is_backward, is_whole_end, nothing_checked, counted_if, with_checked};
+ghost use Rattle.cap_check.specs.Checking.{is_backward, is_whole_end, nothing_checked, with_checked};
 
 use cap_bytes::Refusal;
 use cap_source::{FileEnd, Meta};
@@ -96,13 +96,6 @@ fn later(clock: Option<Stamp>, time: Option<Stamp>) -> Option<Stamp>
     }
 }
 
-// 1 if that is so, else 0.
-fn counted_if(is_so: bool) -> u64
-    ensures { result ≡ counted_if is_so }
-{
-    if is_so { 1 } else { 0 }
-}
-
 impl Checked {
     /// Nothing was taken yet.
     pub fn new() -> Checked
@@ -127,9 +120,9 @@ impl Checked {
     {
         let time = meta.time();
         self.packets += 1;
-        self.backward += counted_if(is_backward(self.clock, time));
-        self.untimed += counted_if(time.is_none());
-        self.truncated += counted_if(meta.captured < meta.original);
+        self.backward += u64::from(is_backward(self.clock, time));
+        self.untimed += u64::from(time.is_none());
+        self.truncated += u64::from(meta.captured < meta.original);
         self.clock = later(self.clock, time);
     }
 }

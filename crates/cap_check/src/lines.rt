@@ -1,14 +1,11 @@
-//! The line of a file that was checked, in text and in JSON.
-ghost use Rattle.std.specs.Prelude.{◌≡◌, ◌+◌, ◌≤◌, ◌++◌, codes, decimal, if◌then◌else◌, [], length, option_map};
-ghost use Rattle.cap_bytes.specs.Rules.{rule_name, rule_number};
-ghost use Rattle.cap_print.specs.Facts.{fields_json, fields_text, flag_json, line_in};
+//! The line of a file that was checked.
+ghost use Rattle.std.specs.Prelude.{◌≡◌, ◌≤◌, option_map};
+ghost use Rattle.cap_print.specs.Facts.{end_in, fields_in, line_in};
 ghost use Rattle.cap_print.specs.Lines.{room_in, text_in};
-ghost use Rattle.cap_print.specs.declared.forms.Form.TheVariants.{Json, Text};
 ghost use Rattle.cap_check.specs.CheckText.{check_facts, end_fields, end_format_name, end_interfaces, end_skipped};
 ghost use Rattle.cap_check.specs.CheckText.{known_end};
 
 use crate::checked::{Check, CheckEnd};
-use cap_bytes::Refusal;
 use cap_print::{Form, Line};
 use cap_source::FileEnd;
 
@@ -51,142 +48,31 @@ fn interfaces_of(end: &CheckEnd) -> u64
     known_end(end).map_or(0, |end| end.interfaces)
 }
 
-// ` whole` and ` cut`, the end of the line of a file that was read whole.
-fn whole_text(was_cut: bool) -> Line
-    ensures text { text_in result ≡ codes " whole" ++ ((if was_cut then codes " cut" else []) ++ codes "\n") }
-    ensures room { 400 ≤ room_in result }
-{
-    let mut line = Line::new();
-    line.prepend_text(b"\n");
-    if was_cut {
-        line.prepend_text(b" cut");
-    }
-    line.prepend_text(b" whole");
-    line
-}
-
-// The same as JSON.
-fn whole_json(was_cut: bool) -> Line
-    ensures text { text_in result ≡ codes ",\"whole\":true,\"cut\":" ++ (flag_json was_cut ++ codes "}\n") }
-    ensures room { 400 ≤ room_in result }
-{
-    let mut line = Line::new();
-    line.prepend_text(b"}\n");
-    line.prepend_flag(b",\"whole\":true,\"cut\":", was_cut);
-    line
-}
-
-// ` refused offset O rule R NAME`, the end of the line of a file that is refused.
-fn refused_text(refusal: &Refusal) -> Line
-    ensures text { text_in result ≡ codes " refused offset " ++ decimal refusal.now.offset
-        ++ (codes " rule " ++ decimal (rule_number refusal.now.rule)
-        ++ (codes " " ++ rule_name refusal.now.rule ++ codes "\n")) }
-    ensures room { 400 ≤ room_in result }
-{
-    let mut line = Line::new();
-    line.prepend_text(b"\n");
-    line.prepend_text(refusal.rule.name().as_bytes());
-    line.prepend_text(b" ");
-    line.prepend_field(b" rule ", u64::from(refusal.rule.number()));
-    line.prepend_field(b" refused offset ", refusal.offset);
-    line
-}
-
-// The same as JSON.
-fn refused_json(refusal: &Refusal) -> Line
-    ensures text { text_in result ≡ codes ",\"refused\":{\"offset\":" ++ decimal refusal.now.offset
-        ++ (codes ",\"rule\":" ++ decimal (rule_number refusal.now.rule)
-        ++ (codes ",\"name\":\"" ++ rule_name refusal.now.rule ++ codes "\"}}\n")) }
-    ensures room { 380 ≤ room_in result }
-{
-    let mut line = Line::new();
-    line.prepend_text(b"\"}}\n");
-    line.prepend_text(refusal.rule.name().as_bytes());
-    line.prepend_text(b",\"name\":\"");
-    line.prepend_field(b",\"rule\":", u64::from(refusal.rule.number()));
-    line.prepend_field(b",\"refused\":{\"offset\":", refusal.offset);
-    line
-}
-
-// A line of a text and a number, and its end.
-fn number_line(before: &[u8], n: u64, after: &[u8]) -> Line
-    requires before { length before.now ≤ 40 }
-    requires after { length after.now ≤ 40 }
-    ensures text { text_in result ≡ before.now ++ decimal n ++ after.now }
-    ensures room { 400 ≤ room_in result }
-{
-    let mut line = Line::new();
-    line.prepend_text(after);
-    line.prepend_field(before, n);
-    line
-}
-
-// A line of that text.
-fn short_line(text: &[u8]) -> Line
-    requires { length text.now ≤ 40 }
-    ensures text { text_in result ≡ text.now }
-    ensures room { 400 ≤ room_in result }
-{
-    let mut line = Line::new();
-    line.prepend_text(text);
-    line
-}
-
 // The end of a line: ` whole`, ` whole cut`, ` refused offset O rule R NAME`, ` read offset O` or ` open`.
-fn end_text(end: &CheckEnd) -> Line
-    ensures text { text_in result ≡ fields_text (end_fields end.now) (codes "\n") }
+fn end_of(form: Form, end: &CheckEnd) -> Line
+    ensures text { text_in result ≡ fields_in form (end_fields end.now) (end_in form) }
     ensures room { 380 ≤ room_in result }
 {
+    let mut line = Line::end(form);
     match end {
-        CheckEnd::Whole(end) => whole_text(end.ending.was_cut),
-        CheckEnd::Refusing(refusal, _) => refused_text(refusal),
-        CheckEnd::Reading(offset, _) => number_line(b" read offset ", *offset, b"\n"),
-        CheckEnd::Opening => short_line(b" open\n"),
+        CheckEnd::Whole(end) => {
+            line.put_flag(form, b"cut", end.ending.was_cut);
+            line.put_flag(form, b"whole", true);
+        }
+        CheckEnd::Refusing(refusal, _) => {
+            line.put_group_end(form);
+            line.put_word_as(form, b" ", b"name", Some(refusal.rule.name()));
+            line.put_number(form, b"rule", u16::from(refusal.rule.number()));
+            line.put_number_as(form, b" refused offset ", b"offset", refusal.offset);
+            line.put_group(form, b"refused");
+        }
+        CheckEnd::Reading(offset, _) => {
+            line.put_group_end(form);
+            line.put_number_as(form, b" read offset ", b"offset", *offset);
+            line.put_group(form, b"read");
+        }
+        CheckEnd::Opening => line.put_flag(form, b"open", true),
     }
-}
-
-// The same as JSON.
-fn end_json(end: &CheckEnd) -> Line
-    ensures text { text_in result ≡ fields_json (end_fields end.now) (codes "}\n") }
-    ensures room { 380 ≤ room_in result }
-{
-    match end {
-        CheckEnd::Whole(end) => whole_json(end.ending.was_cut),
-        CheckEnd::Refusing(refusal, _) => refused_json(refusal),
-        CheckEnd::Reading(offset, _) => number_line(b",\"read\":{\"offset\":", *offset, b"}}\n"),
-        CheckEnd::Opening => short_line(b",\"open\":true}\n"),
-    }
-}
-
-// The line of the file of that number.
-fn text_of(file: u32, check: &Check) -> Line
-    ensures { text_in result ≡ line_in Text (check_facts file check.now) }
-{
-    let mut line = end_text(&check.end);
-    line.prepend_field(b" interfaces ", interfaces_of(&check.end));
-    line.prepend_field(b" skipped ", skipped_of(&check.end));
-    line.prepend_field(b" truncated ", check.counts.truncated);
-    line.prepend_field(b" untimed ", check.counts.untimed);
-    line.prepend_field(b" backward ", check.counts.backward);
-    line.prepend_field(b" packets ", check.counts.packets);
-    line.prepend_word(b" ", format_name_of(&check.end));
-    line.prepend_field(b"check ", u64::from(file));
-    line
-}
-
-// The same as JSON.
-fn json_of(file: u32, check: &Check) -> Line
-    ensures { text_in result ≡ line_in Json (check_facts file check.now) }
-{
-    let mut line = end_json(&check.end);
-    line.prepend_field(b",\"interfaces\":", interfaces_of(&check.end));
-    line.prepend_field(b",\"skipped\":", skipped_of(&check.end));
-    line.prepend_field(b",\"truncated\":", check.counts.truncated);
-    line.prepend_field(b",\"untimed\":", check.counts.untimed);
-    line.prepend_field(b",\"backward\":", check.counts.backward);
-    line.prepend_field(b",\"packets\":", check.counts.packets);
-    line.prepend_word_string(b",\"format\":", format_name_of(&check.end));
-    line.prepend_field(b"{\"type\":\"check\",\"file\":", u64::from(file));
     line
 }
 
@@ -198,8 +84,15 @@ fn json_of(file: u32, check: &Check) -> Line
 pub fn check_line(form: Form, file: u32, check: &Check) -> Line
     ensures { text_in result ≡ line_in form (check_facts file check.now) }
 {
-    match form {
-        Form::Text => text_of(file, check),
-        Form::Json => json_of(file, check),
-    }
+    let mut line = end_of(form, &check.end);
+    line.put_number(form, b"interfaces", interfaces_of(&check.end));
+    line.put_number(form, b"skipped", skipped_of(&check.end));
+    line.put_number(form, b"truncated", check.counts.truncated);
+    line.put_number(form, b"untimed", check.counts.untimed);
+    line.put_number(form, b"backward", check.counts.backward);
+    line.put_number(form, b"packets", check.counts.packets);
+    line.put_word_as(form, b" ", b"format", format_name_of(&check.end));
+    line.put_number_as(form, b" ", b"file", file);
+    line.put_kind(form, b"check");
+    line
 }
