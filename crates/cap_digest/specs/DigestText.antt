@@ -2,7 +2,7 @@
 use Rattle.std.specs.Prelude.{ℕ, List, [], ◌∷◌, codes, length, is_none, if◌then◌else◌}
 use Rattle.cap_bytes.specs.declared.faults.Tail.{Tail}
 use Rattle.cap_digest.specs.Canonical.{canonical_text}
-use Rattle.cap_print.specs.Facts.{Facts, hex, line_in, number, one}
+use Rattle.cap_print.specs.Facts.{Facts, hex, line_in, named, number, one}
 use Rattle.cap_print.specs.declared.forms.Form.{Form}
 use Rattle.cap_source.specs.Feed.{Item, refusal_of}
 use Rattle.cap_source.specs.Items.{file_items}
@@ -14,8 +14,8 @@ digest_facts file digest packets = record {
   kind = codes "digest";
   fields =
       one (record { label = codes " "; key = codes "file"; value = number file })
-      ∷ one (record { label = codes " sha256 "; key = codes "sha256"; value = hex digest })
-      ∷ one (record { label = codes " packets "; key = codes "packets"; value = number packets })
+      ∷ one (named (codes "sha256") (hex digest))
+      ∷ one (named (codes "packets") (number packets))
       ∷ [];
 }
 

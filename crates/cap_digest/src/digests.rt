@@ -46,36 +46,16 @@ fn digest_packets<F: PacketFeed>(feed: &mut F) -> Result<Digested, Fault>
     })
 }
 
-// The line of the file of that number, in text: `digest I sha256 HEX packets P`.
-fn write_text(line: &mut Line, file: u32, it: &Digested)
-    ensures { text_in line.new ≡ line_in Form.Text (digest_facts file it.now.sha256 it.now.packets) }
+// The line of the file of that number, in a form.
+fn line_of(form: Form, file: u32, it: &Digested) -> Line
+    ensures { text_in result ≡ line_in form (digest_facts file it.now.sha256 it.now.packets) }
 {
-    line.clear();
-    line.prepend_text(b"\n");
-    line.prepend_field(b" packets ", it.packets);
-    line.prepend_hex(b" sha256 ", &it.sha256);
-    line.prepend_field(b"digest ", u64::from(file));
-}
-
-// The same in JSON: `{"type":"digest","file":I,"sha256":"HEX","packets":P}`.
-fn write_json(line: &mut Line, file: u32, it: &Digested)
-    ensures { text_in line.new ≡ line_in Form.Json (digest_facts file it.now.sha256 it.now.packets) }
-{
-    line.clear();
-    line.prepend_text(b"}\n");
-    line.prepend_field(b",\"packets\":", it.packets);
-    line.prepend_hex_string(b",\"sha256\":", &it.sha256);
-    line.prepend_field(b"{\"type\":\"digest\",\"file\":", u64::from(file));
-}
-
-// The same in a form.
-fn write_line(line: &mut Line, form: Form, file: u32, it: &Digested)
-    ensures { text_in line.new ≡ line_in form (digest_facts file it.now.sha256 it.now.packets) }
-{
-    match form {
-        Form::Text => write_text(line, file, it),
-        Form::Json => write_json(line, file, it),
-    }
+    let mut line = Line::end(form);
+    line.put_number(form, b"packets", it.packets);
+    line.put_hex(form, b"sha256", &it.sha256);
+    line.put_number_as(form, b" ", b"file", file);
+    line.put_kind(form, b"digest");
+    line
 }
 
 /// Prints the line of the file of that number, a capture of either format: `digest I sha256 HEX packets P`, or in JSON
@@ -99,7 +79,6 @@ pub fn digest_to<R: Source, W: Sink>(
 {
     let mut packets = Capture::new(alloc, source, file, tail);
     let digest = digest_packets(&mut packets)?;
-    let mut line = Line::new();
-    write_line(&mut line, form, file, &digest);
+    let line = line_of(form, file, &digest);
     put_all(writer, line.as_slice())
 }
