@@ -62,7 +62,7 @@ fn end_of(form: Form, end: &CheckEnd) -> Line
         CheckEnd::Refusing(refusal, _) => {
             line.put_group_end(form);
             line.put_word_as(form, b" ", b"name", Some(refusal.rule.name()));
-            line.put_number(form, b"rule", u16::from(refusal.rule.number()));
+            line.put_number(form, b"rule", refusal.rule.number());
             line.put_number_as(form, b" refused offset ", b"offset", refusal.offset);
             line.put_group(form, b"refused");
         }

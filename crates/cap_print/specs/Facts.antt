@@ -1,7 +1,7 @@
--- A printed line as its facts, and the forms in which they are printed: a line of text, and a JSON object on a line of
--- its own (RFC 8259). A form is how a line begins and ends, what is before a value, how a value is written and what
--- encloses a group: the definitions below with a clause for each form. The others are the same in all of them.
-use Rattle.std.specs.Prelude.{ℕ, List, [], ◌∷◌, ◌++◌, codes, decimal, drop, Bool, true, false, Option, Some, None}
+-- A printed line as its facts, and the forms in which it is printed: a line of text, or a JSON object on a line of its
+-- own (RFC 8259). A form says how a line begins and ends, what names a value, how a value is written and what encloses a
+-- group. The definitions that say this have a clause for each form; all others are the same in every form.
+use Rattle.std.specs.Prelude.{ℕ, List, [], ◌∷◌, ◌++◌, codes, decimal, drop, Bool, Option, Some, None}
 use Rattle.std.specs.Prelude.{if◌then◌else◌}
 use Rattle.hex.specs.Hex.{encode_lower}
 use Rattle.cap_time.specs.Time.{Printed}
@@ -19,7 +19,7 @@ pub data Value : Type 0 where
   hex : List ℕ → Value
   flag : Bool → Value
 
--- A value with what stands before it in text, and its name in JSON.
+-- A value with its label, which is before it in text, and its name in JSON.
 pub record Fact : Type 0 where
   pub label : List ℕ
   pub key : List ℕ
@@ -30,11 +30,11 @@ pub data Field : Type 0 where
   one : Fact → Field
   group : List ℕ → Fact → List Fact → Field
 
--- A fact that is labelled in text with its name in JSON, a space on each side of it.
+-- A fact whose label is its name with a space on each side.
 abbrev pub named : List ℕ → Value → Fact
 named key value = record { label = codes " " ++ key ++ codes " "; key = key; value = value }
 
--- Whether something is so, labelled with its name in JSON, a space before it.
+-- Whether something is so, a fact whose label is its name with a space before it.
 abbrev pub flagged : List ℕ → Bool → Fact
 flagged key is_so = record { label = codes " " ++ key; key = key; value = flag is_so }
 
@@ -43,7 +43,7 @@ pub record Facts : Type 0 where
   pub kind : List ℕ
   pub fields : List Field
 
--- how a line begins, and then its fields: in text with its kind, in JSON with a brace and the kind as the type
+-- how a line of a kind begins, and then its fields
 abbrev pub begin_in : Form → List ℕ → List ℕ → List ℕ
 begin_in Text kind rest = kind ++ rest
 begin_in Json kind rest = codes "{\"type\":\"" ++ kind ++ codes "\"" ++ rest
@@ -53,12 +53,12 @@ abbrev pub end_in : Form → List ℕ
 end_in Text = codes "\n"
 end_in Json = codes "}\n"
 
--- what is before a value: in text its label, in JSON a comma and its name
+-- what names a value, and then the value: in text its label, in JSON its name
 abbrev pub name_in : Form → List ℕ → List ℕ → List ℕ → List ℕ
 name_in Text label key rest = label ++ rest
 name_in Json label key rest = codes ",\"" ++ key ++ codes "\":" ++ rest
 
--- how a group begins, and then its facts: in JSON with its name and a brace in place of the comma before the first fact
+-- how a group begins, and then its facts; in JSON the first of them has no comma before it
 abbrev pub open_in : Form → List ℕ → List ℕ → List ℕ
 open_in Text key rest = rest
 open_in Json key rest = codes ",\"" ++ key ++ codes "\":{" ++ drop 1 rest
@@ -73,22 +73,14 @@ abbrev pub coded_in : Form → List ℕ → ℕ → List ℕ
 coded_in Text text n = text
 coded_in Json text n = decimal n
 
--- a word in text, `-` if it isn't known
-abbrev pub word_text : Option (List ℕ) → List ℕ
-word_text None = codes "-"
-word_text (Some known) = known
-
--- a word in JSON, `null` if it isn't known
-abbrev pub word_json : Option (List ℕ) → List ℕ
-word_json None = codes "null"
-word_json (Some known) = codes "\"" ++ known ++ codes "\""
-
--- a word
+-- a word, in text `-` and in JSON `null` if it isn't known
 abbrev pub word_in : Form → Option (List ℕ) → List ℕ
-word_in Text known = word_text known
-word_in Json known = word_json known
+word_in Text None = codes "-"
+word_in Text (Some known) = known
+word_in Json None = codes "null"
+word_in Json (Some known) = codes "\"" ++ known ++ codes "\""
 
--- a time
+-- a time, if there is one
 abbrev pub moment_in : Form → Option Printed → List ℕ
 moment_in Text at = time_text at
 moment_in Json at = time_json at
@@ -98,22 +90,17 @@ abbrev pub bytes_text : List ℕ → List ℕ
 bytes_text [] = codes "-"
 bytes_text (byte ∷ rest) = encode_lower (byte ∷ rest)
 
--- some bytes
+-- some bytes, in JSON a string of hex digits
 abbrev pub hex_in : Form → List ℕ → List ℕ
 hex_in Text shown = bytes_text shown
 hex_in Json shown = codes "\"" ++ encode_lower shown ++ codes "\""
 
--- a flag in JSON
-abbrev pub flag_json : Bool → List ℕ
-flag_json true = codes "true"
-flag_json false = codes "false"
-
--- a flag with what is before it: in text it is its label alone, and nothing if it isn't so
+-- a flag with what names it, and then the rest of the line: in text its label alone, or nothing if it isn't so
 abbrev pub flag_in : Form → List ℕ → List ℕ → Bool → List ℕ → List ℕ
 flag_in Text label key is_so rest = (if is_so then label else []) ++ rest
-flag_in Json label key is_so rest = name_in Json label key (flag_json is_so ++ rest)
+flag_in Json label key is_so rest = name_in Json label key ((if is_so then codes "true" else codes "false") ++ rest)
 
--- a value with what is before it, and then the rest of the line
+-- a value with what names it, and then the rest of the line
 abbrev pub value_in : Form → List ℕ → List ℕ → Value → List ℕ → List ℕ
 value_in form label key (number n) rest = name_in form label key (decimal n ++ rest)
 value_in form label key (coded text n) rest = name_in form label key (coded_in form text n ++ rest)

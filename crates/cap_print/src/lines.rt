@@ -1,7 +1,6 @@
 //! A line, and what is put before it.
-ghost use Rattle.std.specs.Prelude.{◌≡◌, ◌+◌, ◌*◌, ◌≤◌, ◌++◌, [], codes, decimal, drop, length, option_map, unwrap_or};
+ghost use Rattle.std.specs.Prelude.{◌≡◌, ◌+◌, ◌*◌, ◌≤◌, ◌++◌, [], codes, decimal, drop, length, option_map};
 ghost use Rattle.std.specs.Fmt.{signed_decimal};
-ghost use Rattle.cap_print.specs.Facts.{flag_json, word_json, word_text};
 ghost use Rattle.cap_print.specs.Times.{time_json, time_text};
 ghost use Rattle.cap_time.specs.Stamp.{printed_of};
 ghost use Rattle.hex.specs.Hex.{encode_lower};
@@ -232,54 +231,6 @@ impl Line {
     {
         self.prepend_text(b"\"");
         self.prepend_hex(b"\"", bytes);
-        self.prepend_text(label);
-    }
-
-    /// Puts a label and a word, or `-` if it isn't known.
-    pub fn prepend_word(&mut self, label: &[u8], word: Option<&str>)
-        requires { length label.now + length (unwrap_or (option_map (λ w. w.now) word) []) + 2 ≤ room_in self.old }
-        ensures text { text_in self.new
-            ≡ label.now ++ word_text (option_map (λ w. w.now) word.entry) ++ text_in self.old }
-        ensures room { room_in self.old
-            ≤ room_in self.new + length label.now + length (unwrap_or (option_map (λ w. w.now) word.entry) []) + 2 }
-    {
-        match word {
-            None => self.prepend_text(b"-"),
-            Some(word) => self.prepend_text(word.as_bytes()),
-        }
-        self.prepend_text(label);
-    }
-
-    /// Puts a label and a word as a string, or `null` if it isn't known. No byte of the word is escaped.
-    pub fn prepend_word_string(&mut self, label: &[u8], word: Option<&str>)
-        requires { length label.now + length (unwrap_or (option_map (λ w. w.now) word) []) + 4 ≤ room_in self.old }
-        ensures text { text_in self.new
-            ≡ label.now ++ word_json (option_map (λ w. w.now) word.entry) ++ text_in self.old }
-        ensures room { room_in self.old
-            ≤ room_in self.new + length label.now + length (unwrap_or (option_map (λ w. w.now) word.entry) []) + 4 }
-    {
-        match word {
-            None => self.prepend_text(b"null"),
-            Some(word) => {
-                self.prepend_text(b"\"");
-                self.prepend_text(word.as_bytes());
-                self.prepend_text(b"\"");
-            }
-        }
-        self.prepend_text(label);
-    }
-
-    /// Puts a label, and `true` or `false`.
-    pub fn prepend_flag(&mut self, label: &[u8], is_so: bool)
-        requires { length label.now + 5 ≤ room_in self.old }
-        ensures text { text_in self.new ≡ label.now ++ flag_json is_so ++ text_in self.old }
-        ensures room { room_in self.old ≤ room_in self.new + length label.now + 5 }
-    {
-        if is_so {
-            self.prepend_text(b"true");
-        } else {
-            self.prepend_text(b"false");
-        }
         self.prepend_text(label);
     }
 }

@@ -19,6 +19,17 @@ pub trait Number: Copy {
         ensures room { room_in line.old ≤ room_in line.new + DIGITS };
 }
 
+impl Number for u8 {
+    ghost value = { λ n. n };
+
+    ghost DIGITS = { 3 };
+
+    #[inline(always)]
+    fn prepend_to(self, line: &mut Line) {
+        line.prepend_digits(u64::from(self)); // 255 at most
+    }
+}
+
 impl Number for u16 {
     ghost value = { λ n. n };
 

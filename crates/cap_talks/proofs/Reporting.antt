@@ -1,5 +1,5 @@
 -- Taking all packets of a run, one by one.
-use Rattle.std.proofs.Common.{◌≡◌, ℕ, Bool, true, false, List, [], ◌∷◌, length, refl, sym, ◌∙◌, ap, arith, true≢false}
+use Rattle.std.proofs.Common.{◌≡◌, ℕ, Bool, true, false, List, [], ◌∷◌, length, refl, sym, ◌∙◌, ap, arith}
 use Rattle.std.proofs.Common.{Option, Some, None, Result, Ok, Err, IsTrue, inl, inr, ◌⊎◌}
 use Rattle.std.specs.Prelude.{IsOkUnless, if◌then◌else◌}
 use Rattle.cap_bytes.specs.declared.faults.Fault.{Fault}
@@ -19,7 +19,7 @@ use Rattle.cap_talks.specs.talks.ReportText.{taken_after, refusal_after}
 use Rattle.cap_talks.specs.inner.talks.Reporting.{TookAll, TakesAll}
 use Rattle.cap_talks.specs.inner.table.Stepping.{clocked, next_by, KeepsNext, TableState, TableStands, StepKeeps}
 use Rattle.cap_talks.specs.inner.table.Stepping.{TableTakes}
-use Rattle.cap_talks.specs.inner.table.Stepping.{TableSteps, IsMore}
+use Rattle.cap_talks.specs.inner.table.Stepping.{TableSteps}
 use Rattle.cap_class.specs.Taken.{Taken}
 use Rattle.cap_talks.specs.table.CountedUnits.{is_limit_at}
 use Rattle.cap_talks.specs.declared.table.tables.Step.{Step}
@@ -83,18 +83,15 @@ more old mid new p k t = record {
   endings = λ h file. t.endings (p.went.keeps.told h) file ∙ p.endings h file;
 }
 
-clash : true ≡ false → ⊥
-clash e = true≢false e
+pub Reporting-more : (old mid new : TableState) (step : Step) → Reporting old mid → StepKeeps mid new
+    → TableSteps mid (Ok step) new → step ≡ steps.Took → Reporting old new
+Reporting-more old mid new steps.Took p k t is = more old mid new p k t
+Reporting-more old mid new steps.Done p k t is = cc
 
-pub Reporting-more : (old mid new : TableState) (step : Step) (b : Bool) → Reporting old mid → StepKeeps mid new
-    → TableSteps mid (Ok step) new → IsMore step b → b ≡ true → Reporting old new
-Reporting-more old mid new steps.Took b p k t m is = more old mid new p k t
-Reporting-more old mid new steps.Done b p k t m is = absurd (clash (sym is ∙ m))
-
-pub TakesAll-end : (old mid new : TableState) (step : Step) (b : Bool) → Reporting old mid → StepKeeps mid new
-    → TableSteps mid (Ok step) new → IsMore step b → b ≡ false → TookAll old new
-TakesAll-end old mid new steps.Took b p k t m is = absurd (clash (sym m ∙ is))
-TakesAll-end old mid new steps.Done b p k t m is = grind (arith, refusal-none, taken-none)
+pub TakesAll-end : (old mid new : TableState) (step : Step) → Reporting old mid → StepKeeps mid new
+    → TableSteps mid (Ok step) new → step ≡ steps.Done → TookAll old new
+TakesAll-end old mid new steps.Took p k t is = cc
+TakesAll-end old mid new steps.Done p k t is = grind (arith, refusal-none, taken-none)
 
 -- a growth was refused: it isn't known what comes next, or a packet does
 at-cause : (old new : TableState) → FeedWaits (merged_feed old.parts) (merged_feed new.parts) ⊎ KeepsNext old new

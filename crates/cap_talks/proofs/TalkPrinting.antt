@@ -1,7 +1,7 @@
 -- The lines of conversations, written one by one.
 use Rattle.std.proofs.lemmas.Grind.{common_steps}
-use Rattle.std.proofs.Common.{◌≡◌, ◌<◌, ◌≤◌, ◌+◌, ℕ, suc, List, [], ◌∷◌, ◌++◌, length, take, drop, codes, IsTrue, refl}
-use Rattle.std.proofs.Common.{sym, ap, ◌∙◌, subst, arith, append_assoc, length-append, take_at, drop_at}
+use Rattle.std.proofs.Common.{◌≡◌, ◌<◌, ◌≤◌, ◌+◌, ℕ, suc, List, [], ◌∷◌, ◌++◌, length, take, drop, IsTrue, refl}
+use Rattle.std.proofs.Common.{sym, ap, ◌∙◌, subst, arith, length-append, take_at, drop_at}
 use Rattle.cap_bytes.proofs.Putting.{Putting, Putting-more, Putting-front}
 use Rattle.cap_bytes.specs.Device.{Writer}
 use Rattle.cap_bytes.specs.Printing.{PrintsFront}
@@ -59,9 +59,3 @@ line-front form from mid held all place line n within text p t wrote =
       subst (Putting from mid (talk_texts_in form all))
           (split_at_line form all place line within text) p,
     )
-
--- an address in JSON, which is written from its last part to its first
-pub address_parts : (label address rest : List ℕ)
-    → label ++ (codes "{\"address\":\"" ++ (address ++ (codes "\"" ++ rest)))
-    ≡ label ++ (codes "{\"address\":" ++ ((codes "\"" ++ address ++ codes "\"") ++ rest))
-address_parts label address rest = simp append_assoc refl

@@ -1,7 +1,8 @@
 -- What is counted of each file and of all, packet by packet.
-use Rattle.std.proofs.Common.{rules, ◌≡◌, ℕ, zero, suc, ◌+◌, ◌*◌, ◌^◌, ◌≤◌, ◌<◌, ◌==◌, Bool, true, List, [], ◌∷◌, ◌++◌}
+use Rattle.std.proofs.Common.{rules, ◌≡◌, ℕ, zero, suc, ◌+◌, ◌*◌, ◌^◌, ◌≤◌, ◌<◌, ◌==◌, Bool, true, false, List, [], ◌∷◌, ◌++◌}
 use Rattle.std.proofs.Common.{length, nat_lt, refl, ap, ◌∙◌, arith, append-nil, length-append, drop, take_at}
 use Rattle.std.specs.Prelude.{replicate, slice_set, slice_index_or, if◌then◌else◌}
+use Rattle.std.specs.Int.{from_bool}
 use Rattle.std.specs.List.{AllByRecursion, refill}
 use Rattle.std.proofs.lemmas.Bool.Decides.{nat_tests}
 use Rattle.cap_source.specs.declared.packets.Meta.{Meta}
@@ -11,6 +12,11 @@ use Rattle.cap_class.specs.Taken.{Taken}
 use Rattle.cap_talks.specs.inner.table.Totals.{TotalsState, TotalsStand, IsSoundTotals, counts_from, is_room}
 use Rattle.cap_talks.specs.declared.counts.counts.Counts.{Counts}
 use Rattle.cap_talks.proofs.Counting.{counted-more, counted-in_order}
+
+-- one if that is so, else zero
+pub from-bool : (is_so : Bool) → from_bool is_so ≡ (if is_so then 1 else 0)
+from-bool true = refl
+from-bool false = refl
 
 pub one-more : {A : Type 0} (n : ℕ) (x : A) → replicate n x ++ (x ∷ []) ≡ replicate (suc n) x
 one-more zero x = refl

@@ -1,6 +1,6 @@
 -- The lines of files that were counted.
 use Rattle.std.specs.Prelude.{ℕ, ◌+◌, Bool, false, List, [], ◌∷◌, ◌++◌, codes, Option, Some, None, option_map}
-use Rattle.cap_print.specs.Facts.{Facts, one, number, word, moment, flag, line_in}
+use Rattle.cap_print.specs.Facts.{Facts, one, number, word, moment, named, flagged, line_in}
 use Rattle.cap_print.specs.declared.forms.Form.{Form}
 use Rattle.cap_bytes.specs.Formats.{format_name}
 use Rattle.cap_source.specs.declared.feeds.Ending.{Ending}
@@ -19,21 +19,13 @@ counts_facts file format counts skipped was_cut =
       fields =
           one (record { label = codes " "; key = codes "file"; value = number file })
           ∷ one (record { label = codes " "; key = codes "format"; value = word (option_map format_name format) })
-          ∷ one (record { label = codes " packets "; key = codes "packets"; value = number counts.packets })
-          ∷ one (record { label = codes " bytes "; key = codes "bytes"; value = number counts.bytes })
-          ∷ one (record { label = codes " truncated "; key = codes "truncated"; value = number counts.truncated })
-          ∷ one (record { label = codes " skipped "; key = codes "skipped"; value = number skipped })
-          ∷ one (record {
-            label = codes " first ";
-            key = codes "first";
-            value = moment (option_map printed_of counts.first);
-          })
-          ∷ one (record {
-            label = codes " last ";
-            key = codes "last";
-            value = moment (option_map printed_of counts.last);
-          })
-          ∷ one (record { label = codes " cut"; key = codes "cut"; value = flag was_cut }) ∷ [];
+          ∷ one (named (codes "packets") (number counts.packets))
+          ∷ one (named (codes "bytes") (number counts.bytes))
+          ∷ one (named (codes "truncated") (number counts.truncated))
+          ∷ one (named (codes "skipped") (number skipped))
+          ∷ one (named (codes "first") (moment (option_map printed_of counts.first)))
+          ∷ one (named (codes "last") (moment (option_map printed_of counts.last)))
+          ∷ one (flagged (codes "cut") was_cut) ∷ [];
     }
 
 -- the line of a file that has ended, or that is still being read

@@ -1,7 +1,7 @@
 -- The report over the packets that were taken so far.
 use Rattle.std.specs.Prelude.{ℕ, List, [], ◌∷◌, ◌++◌, ◌+◌, ◌==◌, nat_lt, codes, length, Option, if◌then◌else◌}
 use Rattle.std.specs.List.{flat_map, range_with_len}
-use Rattle.cap_print.specs.Facts.{Facts, one, number, line_in}
+use Rattle.cap_print.specs.Facts.{Facts, one, number, named, line_in}
 use Rattle.cap_print.specs.declared.forms.Form.{Form}
 use Rattle.cap_print.specs.declared.forms.Form.TheVariants.{Text}
 use Rattle.cap_source.specs.declared.feeds.FileEnd.{FileEnd}
@@ -41,9 +41,9 @@ total_facts packets bytes truncated =
     record {
       kind = codes "total";
       fields =
-          one (record { label = codes " packets "; key = codes "packets"; value = number packets })
-          ∷ one (record { label = codes " bytes "; key = codes "bytes"; value = number bytes })
-          ∷ one (record { label = codes " truncated "; key = codes "truncated"; value = number truncated }) ∷ [];
+          one (named (codes "packets") (number packets))
+          ∷ one (named (codes "bytes") (number bytes))
+          ∷ one (named (codes "truncated") (number truncated)) ∷ [];
     }
 
 -- the same in text
@@ -58,11 +58,11 @@ frames_facts n =
       fields =
           one (record { label = codes " other-link "; key = codes "other_link"; value = number n.other_link })
           ∷ one (record { label = codes " not-ipv4 "; key = codes "not_ipv4"; value = number n.not_ipv4 })
-          ∷ one (record { label = codes " short "; key = codes "short"; value = number n.short })
-          ∷ one (record { label = codes " cut "; key = codes "cut"; value = number n.cut })
-          ∷ one (record { label = codes " bad "; key = codes "bad"; value = number n.bad })
-          ∷ one (record { label = codes " unjoined "; key = codes "unjoined"; value = number n.unjoined })
-          ∷ one (record { label = codes " counted "; key = codes "counted"; value = number n.counted }) ∷ [];
+          ∷ one (named (codes "short") (number n.short))
+          ∷ one (named (codes "cut") (number n.cut))
+          ∷ one (named (codes "bad") (number n.bad))
+          ∷ one (named (codes "unjoined") (number n.unjoined))
+          ∷ one (named (codes "counted") (number n.counted)) ∷ [];
     }
 
 -- the same in text

@@ -2,7 +2,7 @@
 use Rattle.std.specs.Prelude.{ℕ, ◌/◌, ◌%◌, ◌^◌, ◌==◌, List, [], ◌∷◌, ◌++◌, codes, decimal, Option, Some, None}
 use Rattle.std.specs.Prelude.{option_map, slice_get, if◌then◌else◌}
 use Rattle.std.specs.Option.{option_map_or}
-use Rattle.cap_print.specs.Facts.{Facts, Fact, Field, one, group, number, coded, word, moment, line_in}
+use Rattle.cap_print.specs.Facts.{Facts, Fact, Field, one, group, number, coded, word, moment, named, line_in}
 use Rattle.cap_print.specs.declared.forms.Form.{Form}
 use Rattle.cap_print.specs.declared.forms.Form.TheVariants.{Text}
 use Rattle.cap_time.specs.Stamp.{printed_of}
@@ -56,16 +56,8 @@ talk_facts key row =
           ∷ end_field (codes "a") key.lesser ∷ end_field (codes "b") key.greater
           ∷ traffic_field (codes " forward ") (codes "forward") row.forward_frames row.forward_bytes
           ∷ traffic_field (codes " backward ") (codes "backward") row.backward_frames row.backward_bytes
-          ∷ one (record {
-            label = codes " first ";
-            key = codes "first";
-            value = moment (option_map printed_of row.first);
-          })
-          ∷ one (record {
-            label = codes " last ";
-            key = codes "last";
-            value = moment (option_map printed_of row.last);
-          })
+          ∷ one (named (codes "first") (moment (option_map printed_of row.first)))
+          ∷ one (named (codes "last") (moment (option_map printed_of row.last)))
           ∷ [];
     }
 

@@ -6,7 +6,7 @@ ghost use Rattle.cap_print.specs.Facts.{line_in};
 ghost use Rattle.cap_talks.specs.counts.FileLines.{counted_texts_in, files_facts};
 
 use crate::counts::counts::Counts;
-use crate::counts::file_lines::{file_line_in, files_line_in};
+use crate::counts::file_lines::{file_line, files_line};
 use cap_bytes::{Fault, Sink, put_all};
 use cap_print::Form;
 use cap_source::Ending;
@@ -29,7 +29,7 @@ fn put_each<W: Sink>(writer: &mut W, form: Form, counted: &[Counted]) -> Result<
     ensures fault { IsOkUnless result Fault.Write }
 {
     for (place, each) in counted.iter().enumerate() {
-        let line = file_line_in(form, place as u32 + 1, &each.counts, each.ending);
+        let line = file_line(form, place as u32 + 1, &each.counts, each.ending);
         put_all(writer, line.as_slice())?;
     }
     Ok(())
@@ -46,7 +46,7 @@ pub fn put_files<W: Sink>(writer: &mut W, form: Form, counted: &[Counted]) -> Re
     ensures writer { WriterKeeps (writer_of W.Sink writer.old) (is_write result) (writer_of W.Sink writer.new) }
     ensures fault { IsOkUnless result Fault.Write }
 {
-    let line = files_line_in(form, counted.len() as u32);
+    let line = files_line(form, counted.len() as u32);
     let text = line.as_slice();
     put_all(writer, text)?;
     put_each(writer, form, counted)

@@ -81,15 +81,6 @@ fn end_of(number: u64) -> End
     }
 }
 
-// A protocol as a number.
-#[inline(always)]
-fn protocol_number(protocol: u8) -> u64
-    ensures value { result ≡ protocol }
-    ensures bound { result < 256 }
-{
-    u64::from(protocol)
-}
-
 impl PackedKey {
     /// The key of the conversation that a unit belongs to, and whether it goes from the lesser of its ends, or from an
     /// end to itself.
@@ -99,7 +90,7 @@ impl PackedKey {
         ensures forward { result.1 ≡ is_forward unit.now }
         ensures narrow { IsNarrow (talk_key unit.now) }
     {
-        let protocol = protocol_number(unit.protocol);
+        let protocol = u64::from(unit.protocol);
         let source = end_number(&unit.source);
         let destination = end_number(&unit.destination);
         if source <= destination {

@@ -17,7 +17,7 @@ ghost use Rattle.cap_talks.specs.table.TakenText.{text_of, text_of_in};
 ghost use Rattle.cap_class.specs.Taken.{Taken};
 
 use crate::counts::{Counted, Counts, put_files};
-use crate::table::report_lines::total_line_in;
+use crate::table::report_lines::total_line;
 use crate::table::talks::TalksFault;
 use crate::table::tallies::Tally;
 use crate::table::totals::Totals;
@@ -149,7 +149,7 @@ impl<F: PacketFeed> Table<F> {
         let totals = &self.totals;
         let counted = with_endings(&self.merged, totals.files(), self.done);
         put_files(writer, form, counted.as_slice())?;
-        let line = total_line_in(form, totals.packets(), totals.bytes(), totals.truncated());
+        let line = total_line(form, totals.packets(), totals.bytes(), totals.truncated());
         put_all(writer, line.as_slice())?;
         self.tally.put_lines(form, writer)
     }

@@ -1,13 +1,13 @@
 //! The lines of conversations.
-ghost use Rattle.std.specs.Prelude.{◌≡◌, ◌+◌, ◌≤◌, ◌<◌, ◌++◌, codes, decimal, length, IsTrue, IsOkUnless};
-ghost use Rattle.std.specs.Prelude.{None, Some};
+ghost use Rattle.std.specs.Prelude.{◌≡◌, ◌+◌, ◌≤◌, ◌<◌, ◌++◌, [], ◌∷◌, codes, length, IsTrue, IsOkUnless};
+ghost use Rattle.std.specs.Prelude.{None};
 ghost use Rattle.cap_bytes.specs.Device.{WriterKeeps, writer_of};
 ghost use Rattle.cap_bytes.specs.Printing.{Prints, is_write};
-ghost use Rattle.cap_print.specs.Facts.{facts_text, facts_json, word_json, line_in};
+ghost use Rattle.cap_print.specs.Facts.{coded, fact_in, facts_in, fields_in, line_in};
 ghost use Rattle.cap_print.specs.Lines.{room_in, text_in};
-ghost use Rattle.cap_print.specs.declared.forms.Form.TheVariants.{Text, Json};
-ghost use Rattle.cap_talks.specs.table.TalkLines.{protocol_text, address_text, port_facts, talk_facts};
-ghost use Rattle.cap_talks.specs.table.TalkLines.{talk_texts_in, talks_facts, line_at_in};
+ghost use Rattle.cap_print.specs.inner.Parts.{name_room};
+ghost use Rattle.cap_talks.specs.table.TalkLines.{address_text, end_field, line_at_in, port_facts, protocol_text};
+ghost use Rattle.cap_talks.specs.table.TalkLines.{talk_facts, talk_texts_in, talks_facts, traffic_field};
 
 use crate::table::rows::{TalkKey, TalkRow};
 use crate::table::talks::Talks;
@@ -20,16 +20,20 @@ const TCP: u8 = 6;
 
 const UDP: u8 = 17;
 
-// Puts a protocol, by name or by number.
-fn prepend_protocol(line: &mut Line, protocol: u8)
-    requires { 4 ≤ room_in line.old }
-    ensures text { text_in line.new ≡ protocol_text protocol ++ text_in line.old }
-    ensures room { room_in line.old ≤ room_in line.new + 4 }
+// Puts a protocol: in text its name, or `p` and its number.
+fn put_protocol(line: &mut Line, form: Form, protocol: u8)
+    requires { 18 ≤ room_in line.old }
+    ensures text { text_in line.new ≡ fact_in form (record {
+      label = codes " ";
+      key = codes "protocol";
+      value = coded (protocol_text protocol) protocol;
+    }) (text_in line.old) }
+    ensures room { room_in line.old ≤ room_in line.new + 18 }
 {
     match protocol {
-        UDP => line.prepend_text(b"udp"),
-        TCP => line.prepend_text(b"tcp"),
-        _ => line.prepend_integer(b"p", protocol),
+        UDP => line.put_coded_as(form, b" ", b"protocol", b"udp", protocol),
+        TCP => line.put_coded_as(form, b" ", b"protocol", b"tcp", protocol),
+        _ => line.put_number_as(form, b" p", b"protocol", protocol),
     }
 }
 
@@ -45,176 +49,96 @@ fn prepend_address(line: &mut Line, address: u32)
     line.prepend_integer(b"", (address / 0x100_0000) as u8);
 }
 
-// Puts an end: its address, and its port if it has one.
-fn prepend_end(line: &mut Line, end: End)
-    requires { 21 ≤ room_in line.old }
-    ensures text { text_in line.new
-        ≡ address_text end.address ++ facts_text (port_facts end.port) (text_in line.old) }
-    ensures room { room_in line.old ≤ room_in line.new + 21 }
-{
-    if let Some(port) = end.port {
-        line.prepend_integer(b":", port);
-    }
-    prepend_address(line, end.address);
-}
-
-// Puts a label, and what went one way.
-fn prepend_traffic(line: &mut Line, label: &[u8], frames: u64, bytes: u128)
-    requires { length label.now + 61 ≤ room_in line.old }
-    ensures text { text_in line.new
-        ≡ label.now ++ (decimal frames ++ (codes " " ++ (decimal bytes ++ text_in line.old))) }
-    ensures room { room_in line.old ≤ room_in line.new + length label.now + 61 }
-{
-    line.prepend_integer(b" ", bytes);
-    line.prepend_field(label, frames);
-}
-
-// Puts a port as a member after others, if there is one.
-fn prepend_port_member(line: &mut Line, port: Option<u16>)
+// Puts a port, if there is one.
+fn put_port(line: &mut Line, form: Form, port: Option<u16>)
     requires { 13 ≤ room_in line.old }
-    ensures text { text_in line.new ≡ facts_json (port_facts port) (text_in line.old) }
+    ensures text { text_in line.new ≡ facts_in form (port_facts port) (text_in line.old) }
     ensures room { room_in line.old ≤ room_in line.new + 13 }
 {
     if let Some(port) = port {
-        line.prepend_integer(b",\"port\":", port);
+        line.put_number_as(form, b":", b"port", port);
     }
 }
 
-// Puts a label and an end as an object.
-fn prepend_end_object(line: &mut Line, label: &[u8], end: End)
-    requires { length label.now + 42 ≤ room_in line.old }
-    ensures text { text_in line.new
-        ≡ label.now ++ (codes "{\"address\":" ++ (word_json (Some (address_text end.address))
-        ++ facts_json (port_facts end.port) (codes "}" ++ text_in line.old))) }
-    ensures room { room_in line.old ≤ room_in line.new + length label.now + 42 }
+// Puts an end: its address, and its port if it has one.
+fn put_end(line: &mut Line, form: Form, key: &[u8], end: End)
+    requires { length key.now + 47 ≤ room_in line.old }
+    ensures text { text_in line.new ≡ fields_in form (end_field key.now end ∷ []) (text_in line.old) }
+    ensures room { room_in line.old ≤ room_in line.new + length key.now + 47 }
 {
-    line.prepend_text(b"}");
-    prepend_port_member(line, end.port);
-    line.prepend_text(b"\"");
+    line.put_group_end(form);
+    put_port(line, form, end.port);
+    line.put_quote(form);
     prepend_address(line, end.address);
-    line.prepend_text(b"{\"address\":\"");
-    line.prepend_text(label);
+    line.put_quote(form);
+    line.put_name(form, b" ", b"address");
+    line.put_group(form, key);
 }
 
-// Puts a label, and what went one way as an object.
-fn prepend_traffic_object(line: &mut Line, label: &[u8], frames: u64, bytes: u128)
-    requires { length label.now + 81 ≤ room_in line.old }
+// Puts what went one way.
+fn put_traffic(line: &mut Line, form: Form, label: &[u8], key: &[u8], frames: u64, bytes: u128)
+    requires { name_room label.now (codes "packets") + length key.now + 74 ≤ room_in line.old }
     ensures text { text_in line.new
-        ≡ label.now ++ (codes "{\"packets\":" ++ (decimal frames ++ (codes ",\"bytes\":" ++ (decimal bytes
-        ++ (codes "}" ++ text_in line.old))))) }
-    ensures room { room_in line.old ≤ room_in line.new + length label.now + 81 }
+        ≡ fields_in form (traffic_field label.now key.now frames bytes ∷ []) (text_in line.old) }
+    ensures room { room_in line.old
+        ≤ room_in line.new + name_room label.now (codes "packets") + length key.now + 74 }
 {
-    line.prepend_text(b"}");
-    line.prepend_integer(b",\"bytes\":", bytes);
-    line.prepend_field(b"{\"packets\":", frames);
-    line.prepend_text(label);
+    line.put_group_end(form);
+    line.put_number_as(form, b" ", b"bytes", bytes);
+    line.put_number_as(form, label, b"packets", frames);
+    line.put_group(form, key);
 }
 
-// The line of a conversation: `talk PROTO A B forward P BYTES backward P BYTES first T last T`. The protocol
+// The line of a conversation: in text `talk PROTO A B forward P BYTES backward P BYTES first T last T`. The protocol
 // is `udp`, `tcp`, or `p` and its number; an end is `a.b.c.d:port`, or `a.b.c.d` if it has no port; A is
 // the lesser end.
-fn talk_line(key: &TalkKey, row: &TalkRow) -> Line
-    ensures { text_in result ≡ line_in Text (talk_facts key.now row.now) }
-{
-    let mut line = Line::new();
-    line.prepend_text(b"\n");
-    line.prepend_time(b" last ", row.last);
-    line.prepend_time(b" first ", row.first);
-    prepend_traffic(
-        &mut line,
-        b" backward ",
-        row.backward_frames,
-        row.backward_bytes,
-    );
-    prepend_traffic(
-        &mut line,
-        b" forward ",
-        row.forward_frames,
-        row.forward_bytes,
-    );
-    prepend_end(&mut line, key.greater);
-    line.prepend_text(b" ");
-    prepend_end(&mut line, key.lesser);
-    line.prepend_text(b" ");
-    prepend_protocol(&mut line, key.protocol);
-    line.prepend_text(b"talk ");
-    line
-}
-
-// The same as JSON.
-fn talk_object(key: &TalkKey, row: &TalkRow) -> Line
-    ensures { text_in result ≡ line_in Json (talk_facts key.now row.now) }
-{
-    let mut line = Line::new();
-    line.prepend_text(b"}\n");
-    line.prepend_time_array(b",\"last\":", row.last);
-    line.prepend_time_array(b",\"first\":", row.first);
-    prepend_traffic_object(
-        &mut line,
-        b",\"backward\":",
-        row.backward_frames,
-        row.backward_bytes,
-    );
-    prepend_traffic_object(
-        &mut line,
-        b",\"forward\":",
-        row.forward_frames,
-        row.forward_bytes,
-    );
-    prepend_end_object(&mut line, b",\"b\":", key.greater);
-    prepend_end_object(&mut line, b",\"a\":", key.lesser);
-    line.prepend_integer(b"{\"type\":\"talk\",\"protocol\":", key.protocol);
-    line
-}
-
-// The line of a conversation, in a form.
-fn talk_line_in(form: Form, key: &TalkKey, row: &TalkRow) -> Line
+fn talk_line(form: Form, key: &TalkKey, row: &TalkRow) -> Line
     ensures { text_in result ≡ line_in form (talk_facts key.now row.now) }
 {
-    match form {
-        Form::Text => talk_line(key, row),
-        Form::Json => talk_object(key, row),
-    }
-}
-
-// The line that says how many conversations there are: `talks C`.
-fn talks_line(count: usize) -> Line
-    ensures { text_in result ≡ line_in Text (talks_facts count) }
-{
-    let mut line = Line::new();
-    line.prepend_text(b"\n");
-    line.prepend_field(b"talks ", count as u64);
+    let mut line = Line::end(form);
+    line.put_time(form, b"last", row.last);
+    line.put_time(form, b"first", row.first);
+    put_traffic(
+        &mut line,
+        form,
+        b" backward ",
+        b"backward",
+        row.backward_frames,
+        row.backward_bytes,
+    );
+    put_traffic(
+        &mut line,
+        form,
+        b" forward ",
+        b"forward",
+        row.forward_frames,
+        row.forward_bytes,
+    );
+    put_end(&mut line, form, b"b", key.greater);
+    put_end(&mut line, form, b"a", key.lesser);
+    put_protocol(&mut line, form, key.protocol);
+    line.put_kind(form, b"talk");
     line
 }
 
-// The same as JSON.
-fn talks_object(count: usize) -> Line
-    ensures { text_in result ≡ line_in Json (talks_facts count) }
-{
-    let mut line = Line::new();
-    line.prepend_text(b"}\n");
-    line.prepend_field(b"{\"type\":\"talks\",\"talks\":", count as u64);
-    line
-}
-
-// The line that says how many conversations there are, in a form.
-fn talks_line_in(form: Form, count: usize) -> Line
+// The line that says how many conversations there are: in text `talks C`.
+fn talks_line(form: Form, count: usize) -> Line
     ensures { text_in result ≡ line_in form (talks_facts count) }
 {
-    match form {
-        Form::Text => talks_line(count),
-        Form::Json => talks_object(count),
-    }
+    let mut line = Line::end(form);
+    line.put_number_as(form, b" ", b"talks", count as u64);
+    line.put_kind(form, b"talks");
+    line
 }
 
-// The line of the conversation at a place, in a form.
-fn line_at_in(form: Form, talks: &Talks, place: usize) -> Line
+// The line of the conversation at a place.
+fn line_at(form: Form, talks: &Talks, place: usize) -> Line
     requires { place < length talks.now.rows }
     ensures { text_in result ≡ line_at_in form talks.now.rows place }
 {
     match talks.get(place) {
         None => unreachable!(),
-        Some((key, row)) => talk_line_in(form, &key, &row),
+        Some((key, row)) => talk_line(form, &key, &row),
     }
 }
 
@@ -226,7 +150,7 @@ fn put_each<W: Sink>(writer: &mut W, form: Form, talks: &Talks) -> Result<(), Fa
     ensures fault { IsOkUnless result Fault.Write }
 {
     for place in 0..talks.len() {
-        let line = line_at_in(form, talks, place);
+        let line = line_at(form, talks, place);
         put_all(writer, line.as_slice())?;
     }
     Ok(())
@@ -242,7 +166,7 @@ pub fn put_talks<W: Sink>(writer: &mut W, form: Form, talks: &Talks) -> Result<(
     ensures writer { WriterKeeps (writer_of W.Sink writer.old) (is_write result) (writer_of W.Sink writer.new) }
     ensures fault { IsOkUnless result Fault.Write }
 {
-    let line = talks_line_in(form, talks.len());
+    let line = talks_line(form, talks.len());
     put_all(writer, line.as_slice())?;
     put_each(writer, form, talks)
 }

@@ -21,7 +21,7 @@ ghost use Rattle.cap_talks.specs.table.CountedUnits.{is_limit_at};
 
 use crate::table::adding::{add_unit, class_of, joined_class, joined_unit, whole_unit};
 use crate::table::classes::ClassCounts;
-use crate::table::report_lines::{frames_line_in, joined_line_in};
+use crate::table::report_lines::{frames_line, joined_line};
 use crate::table::talk_lines::put_talks;
 use crate::table::talks::{Talks, TalksFault};
 use cap_bytes::{Fault, Sink, put_all};
@@ -381,9 +381,9 @@ fn put_counts<W: Sink>(
     ensures writer { WriterKeeps (writer_of W.Sink writer.old) (is_write result) (writer_of W.Sink writer.new) }
     ensures fault { IsOkUnless result Fault.Write }
 {
-    let line = frames_line_in(form, classes);
+    let line = frames_line(form, classes);
     put_all(writer, line.as_slice())?;
-    let line = joined_line_in(form, joined, given_up);
+    let line = joined_line(form, joined, given_up);
     put_all(writer, line.as_slice())
 }
 

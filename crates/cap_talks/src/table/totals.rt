@@ -1,6 +1,6 @@
 //! What is counted of the packets that were taken: of each file, and of all.
 ghost use Rattle.std.specs.Prelude.{◌≡◌, ◌+◌, ◌-◌, ◌≤◌, ◌<◌, ◌^◌, List, [], ◌∷◌, Option, true, length, replicate};
-ghost use Rattle.std.specs.Prelude.{slice_index_or, slice_set, if◌then◌else◌};
+ghost use Rattle.std.specs.Prelude.{slice_index_or, slice_set};
 ghost use Rattle.cap_source.specs.Times.{meta_time};
 ghost use Rattle.cap_talks.specs.counts.Counting.{counted, with_packet};
 ghost use Rattle.cap_class.specs.Taken.{taken};
@@ -59,13 +59,6 @@ fn take_at(files: &mut [Counts], place: usize, time: Option<Stamp>, meta: &Meta)
     files[place].take(time, meta);
 }
 
-// One if that is so, else zero.
-fn one_if(is_so: bool) -> u64
-    ensures { result ≡ (if is_so then 1 else 0) }
-{
-    u64::from(is_so)
-}
-
 impl Totals {
     /// The counts of a run of that many files, at most 32, of which nothing was taken.
     pub(crate) fn new(files: u32) -> Totals
@@ -102,7 +95,7 @@ impl Totals {
         );
         self.packets += 1;
         self.bytes += u128::from(original);
-        self.truncated += one_if(frame.len() < original as usize);
+        self.truncated += u64::from(frame.len() < original as usize);
     }
 
     /// What is counted of each file, by number: of at most 32.

@@ -12,7 +12,7 @@ ghost use Rattle.cap_source.specs.inner.Walk.{Walks};
 ghost use Rattle.cap_source.specs.inner.Growing.{IfMemory, IsAtPacket};
 ghost use Rattle.cap_talks.specs.inner.talks.Reporting.{TakesAll, TellsReport};
 ghost use Rattle.cap_talks.specs.talks.ReportText.{report_text, report_text_in, report_refusal};
-ghost use Rattle.cap_talks.specs.inner.table.Stepping.{IsMore, TableStands};
+ghost use Rattle.cap_talks.specs.inner.table.Stepping.{TableStands};
 ghost use Rattle.cap_talks.specs.inner.table.TableView.{table_of};
 ghost use Rattle.cap_talks.specs.talks.Telling.{Tells};
 
@@ -23,22 +23,12 @@ use cap_print::Form;
 use cap_source::PacketFeed;
 use std::alloc::Global;
 
-// Whether a step took a packet.
-fn is_more(step: Step) -> bool
-    ensures { IsMore step result }
-{
-    match step {
-        Step::Took => true,
-        Step::Done => false,
-    }
-}
-
 // Takes all packets that come.
 fn take_all<F: PacketFeed>(table: &mut Table<F>) -> Result<(), Fault>
     ensures takes { TakesAll (table_of table.old) result (table_of table.new) }
     ensures walks { Walks (merged_feed (table_of table.old).parts) result (merged_feed (table_of table.new).parts) }
 {
-    while is_more(table.step()?) {}
+    while let Step::Took = table.step()? {}
     Ok(())
 }
 

@@ -143,8 +143,3 @@ AnswersAgain None result = ⊤
 AnswersAgain (Some (heads.Packet meta)) result = ⊤
 AnswersAgain (Some (heads.Refused refusal)) result = result ≡ Err (Refused refusal)
 AnswersAgain (Some heads.End) result = result ≡ Ok steps.Done
-
--- whether a step took a packet
-abbrev pub IsMore : Step → Bool → Type 0
-IsMore steps.Took more = more ≡ true
-IsMore steps.Done more = more ≡ false

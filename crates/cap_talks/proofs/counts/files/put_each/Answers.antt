@@ -9,7 +9,7 @@ returns-in_err-put_all-clause-text g c = λ w.
     let p = err_from_is_err_and c.from_residual.result c.from_residual.ensures.1 in
     let i = c.loop-place.invariant.putting in
     let wrote = c.in_err-put_all.ensures.bytes (i.told w) in
-    let line_is = c.as_slice.ensures.value ∙ c.file_line_in-line.ensures in
+    let line_is = c.as_slice.ensures.value ∙ c.file_line-line.ensures in
     rw (p.1, p.2, c.in_err-put_all.ensures.fault)
     (lines-front c.args.form _ _ (g.W.Sink.held c.put_all.new.writer) c.args.counted.now c.loop-place.place
     c.index-counted-place.result c.as_slice.result.now wrote.0
@@ -18,7 +18,7 @@ returns-in_err-put_all-clause-text g c = λ w.
 pub loop-place-preserved : goal.loop-place-preserved
 loop-place-preserved g c =
     let e = c.in_ok-put_all.ensures in
-    let line_is = c.as_slice.ensures.value ∙ c.file_line_in-line.ensures in
+    let line_is = c.as_slice.ensures.value ∙ c.file_line-line.ensures in
     record {
       failed = search rules;
       putting =

@@ -10,7 +10,7 @@ pub returns-in_err-put_all-clause-text : goal.returns-in_err-put_all-clause-text
 returns-in_err-put_all-clause-text g c = λ w.
     let p = err_from_is_err_and c.from_residual.result c.from_residual.ensures.1 in
     let all = c.args.counted.now in
-    let line_is = c.as_slice-text.ensures.value ∙ c.files_line_in-line.ensures in
+    let line_is = c.as_slice-text.ensures.value ∙ c.files_line-line.ensures in
     rw (p.1, p.2)
     (Prints-head None (g.W.Sink.held c.args.writer.now) (g.W.Sink.held c.put_all.new.writer) (line_in c.args.form
     (files_facts (length all)))
@@ -20,7 +20,7 @@ returns-in_err-put_all-clause-text g c = λ w.
 pub returns-clause-text : goal.returns-clause-text
 returns-clause-text g c = λ w.
     let all = c.args.counted.now in
-    let line_is = c.as_slice-text.ensures.value ∙ c.files_line_in-line.ensures in
+    let line_is = c.as_slice-text.ensures.value ∙ c.files_line-line.ensures in
     Prints-behind None (g.W.Sink.held c.args.writer.now) (g.W.Sink.held c.put_all.new.writer)
     (g.W.Sink.held c.put_each.new.writer) (line_in c.args.form (files_facts (length all)))
     (counted_texts_in c.args.form 1 all)

@@ -15,7 +15,7 @@ returns-in_err-put_all-clause-text g c = λ w.
     rw (p.1, p.2, c.in_err-put_all.ensures.fault)
     (line-front c.args.form _ _ (g.W.Sink.held c.put_all.new.writer) c.args.talks.now.rows c.loop-place.place
     c.as_slice.result.now wrote.0
-    within (c.as_slice.ensures.value ∙ c.line_at_in-line.ensures) i w wrote.1)
+    within (c.as_slice.ensures.value ∙ c.line_at-line.ensures) i w wrote.1)
 
 pub loop-place-preserved : goal.loop-place-preserved
 loop-place-preserved g c =
@@ -26,7 +26,7 @@ loop-place-preserved g c =
       failed = search rules;
       putting =
           line-more c.args.form _ _ _ c.args.talks.now.rows c.loop-place.place c.as_slice.result.now
-          within (c.as_slice.ensures.value ∙ c.line_at_in-line.ensures) c.loop-place.invariant.putting
+          within (c.as_slice.ensures.value ∙ c.line_at-line.ensures) c.loop-place.invariant.putting
           e.bytes e.writer.told e.writer.cannot;
     }
 

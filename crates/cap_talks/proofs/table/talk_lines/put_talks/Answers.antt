@@ -9,7 +9,7 @@ pub returns-in_err-put_all-clause-text : goal.returns-in_err-put_all-clause-text
 returns-in_err-put_all-clause-text g c = λ w.
     let p = err_from_is_err_and c.from_residual.result c.from_residual.ensures.1 in
     let all = c.args.talks.now.rows in
-    let line_is = c.as_slice.ensures.value ∙ c.talks_line_in-line.ensures ∙ ap (λ n. line_in c.args.form
+    let line_is = c.as_slice.ensures.value ∙ c.talks_line-line.ensures ∙ ap (λ n. line_in c.args.form
     (talks_facts n)) c.len.ensures.value in
     rw (p.1, p.2)
     (Prints-head None (g.W.Sink.held c.args.writer.now) (g.W.Sink.held c.put_all.new.writer) (line_in c.args.form
@@ -20,7 +20,7 @@ returns-in_err-put_all-clause-text g c = λ w.
 pub returns-clause-text : goal.returns-clause-text
 returns-clause-text g c = λ w.
     let all = c.args.talks.now.rows in
-    let line_is = c.as_slice.ensures.value ∙ c.talks_line_in-line.ensures ∙ ap (λ n. line_in c.args.form
+    let line_is = c.as_slice.ensures.value ∙ c.talks_line-line.ensures ∙ ap (λ n. line_in c.args.form
     (talks_facts n)) c.len.ensures.value in
     Prints-behind None (g.W.Sink.held c.args.writer.now) (g.W.Sink.held c.put_all.new.writer)
     (g.W.Sink.held c.put_each.new.writer) (line_in c.args.form (talks_facts (length all)))

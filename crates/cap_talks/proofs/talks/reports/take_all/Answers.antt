@@ -16,12 +16,14 @@ pub returns-in_err-step-clause-walks : goal.returns-in_err-step-clause-walks
 returns-in_err-step-clause-walks g c = grind arith
 
 pub loop-preserved : goal.loop-preserved
-loop-preserved g c = grind (arith, Reporting-more)
+loop-preserved g c =
+    Reporting-more _ _ _ c.in_ok-step.field-0 c.loop.invariant c.in_ok-step.ensures.keeps c.in_ok-step.ensures.step
+    c.in-Took.is
 
 pub returns-clause-takes : goal.returns-clause-takes
 returns-clause-takes g c =
-    TakesAll-end _ _ _ c.in_ok-step.field-0 c.is_more.result c.loop.invariant c.in_ok-step.ensures.keeps
-    c.in_ok-step.ensures.step c.is_more.ensures c.if-is_more.false
+    TakesAll-end _ _ _ c.in_ok-step.field-0 c.loop.invariant c.in_ok-step.ensures.keeps c.in_ok-step.ensures.step
+    c.in_default.is
 
 pub returns-clause-walks : goal.returns-clause-walks
 returns-clause-walks g c = grind arith

@@ -45,7 +45,7 @@ returns-in_err-put_all-clause-text g c = λ xs stands w.
     let ended_is = rw (ap (ended_from endings 1) c.files.ensures.files) at (c.as_slice.ensures.value
     ∙ c.with_endings-counted.ensures) in
     let total = line_in c.args.form (total_facts t.totals.packets t.totals.bytes t.totals.truncated) in
-    let line_is = c.as_slice-2.ensures.value ∙ c.total_line_in-line.ensures
+    let line_is = c.as_slice-2.ensures.value ∙ c.total_line-line.ensures
     ∙ (λ i. line_in c.args.form (total_facts (c.packets.ensures i) (c.bytes.ensures i) (c.truncated.ensures i))) in
     let e = c.in_ok-put_files.ensures in
     rw (p.1, p.2)
@@ -69,7 +69,7 @@ returns-clause-text g c = λ xs stands w.
     let ended_is = rw (ap (ended_from endings 1) c.files.ensures.files) at (c.as_slice.ensures.value
     ∙ c.with_endings-counted.ensures) in
     let total = line_in c.args.form (total_facts t.totals.packets t.totals.bytes t.totals.truncated) in
-    let line_is = c.as_slice-2.ensures.value ∙ c.total_line_in-line.ensures
+    let line_is = c.as_slice-2.ensures.value ∙ c.total_line-line.ensures
     ∙ (λ i. line_in c.args.form (total_facts (c.packets.ensures i) (c.bytes.ensures i) (c.truncated.ensures i))) in
     let e = c.in_ok-put_files.ensures in
     let f = c.in_ok-put_all.ensures in

@@ -4,7 +4,7 @@ use Rattle.cap_talks.specs.counts.Counting.{counted, with_packet}
 use Rattle.cap_class.specs.Taken.{taken}
 use Rattle.cap_talks.specs.inner.table.Totals.{TotalsState}
 use Rattle.cap_talks.specs.inner.table.TotalsView.{totals_view}
-use Rattle.cap_talks.proofs.Totaling.{has-room, stands-more, sound-more, refilled, bytes-few, truncated-all}
+use Rattle.cap_talks.proofs.Totaling.{has-room, stands-more, sound-more, refilled, bytes-few, truncated-all, from-bool}
 use Rattle.cap_talks.proofs.table.totals.Totals.take.Goals as goal
 
 pub take_at-requires-clause-room : goal.take_at-requires-clause-room
@@ -33,7 +33,7 @@ invariant_of-self c =
     sound-more t _ (taken None c.args.meta.now c.args.frame.now) c.self.invariant
     (λ xs s. stands-more t _ (taken None c.args.meta.now c.args.frame.now) xs (c.args.meta.now.file - 1) place within
     (files ∙ set) (ap length files ∙ len)
-    refl (ap (λ n. t.bytes + n) c.from.ensures) (ap (λ n. t.truncated + n) c.one_if.ensures) s)
+    refl (ap (λ n. t.bytes + n) c.from.ensures) (ap (λ n. t.truncated + n) (c.from-2.ensures ∙ from-bool _)) s)
     few refl short (ap length files ∙ len)
 
 pub returns-clause-stands : goal.returns-clause-stands
@@ -51,4 +51,4 @@ returns-clause-stands c =
     rw (← c.self.view_is)
     (λ clock xs s. stands-more t _ (taken clock c.args.meta.now c.args.frame.now) xs
     (c.args.meta.now.file - 1) place within (files ∙ set) (ap length files ∙ len)
-    refl (ap (λ n. t.bytes + n) c.from.ensures) (ap (λ n. t.truncated + n) c.one_if.ensures) s)
+    refl (ap (λ n. t.bytes + n) c.from.ensures) (ap (λ n. t.truncated + n) (c.from-2.ensures ∙ from-bool _)) s)
