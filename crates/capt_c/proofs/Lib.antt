@@ -1,8 +1,8 @@
 pub mod Agreeing
 pub mod AllTold
-pub mod Keeps
 pub mod NeverRead
 pub mod Numbered
+pub mod PointerValues
+pub mod RawBoxValues
 pub mod SameReaders
 pub mod Telling
-pub mod Values

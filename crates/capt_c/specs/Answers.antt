@@ -30,13 +30,19 @@ place_of_fault (Read file offset) = record { offset = offset; file = file; rule 
 place_of_fault Write = nowhere
 place_of_fault Memory = nowhere
 
-abbrev pub status_of_result : Result Unit Fault → ℕ
-status_of_result (Ok _) = 0
-status_of_result (Err fault) = status_of fault
+-- the status of a call that returns that: what it returns without a fault has the status that `of_success` gives
+abbrev pub status_of_result : {A : Type 0} → (A → ℕ) → Result A Fault → ℕ
+status_of_result of_success (Ok success) = of_success success
+status_of_result of_success (Err fault) = status_of fault
 
-abbrev pub place_of_result : Result Unit Fault → Place
-place_of_result (Ok _) = nowhere
+-- the place of a call that returns that: none if there is no fault
+abbrev pub place_of_result : {A : Type 0} → Result A Fault → Place
+place_of_result (Ok success) = nowhere
 place_of_result (Err fault) = place_of_fault fault
+
+-- the status of a call that returns no value: done
+abbrev pub status_of_unit : Unit {0} → ℕ
+status_of_unit unit = 0
 
 -- the byte order of what is written
 abbrev pub order_of : Bool → Order

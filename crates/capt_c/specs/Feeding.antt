@@ -7,7 +7,7 @@ use Rattle.cap_source.specs.Items.{file_items}
 use Rattle.cap_source.specs.declared.fed_captures.Fed.{Fed}
 use Rattle.cap_source.specs.declared.fed_captures.Fed.TheVariants as feds
 use Rattle.cap_source.specs.inner.FedStates.{FeedsBytes, GivesFed}
-use Rattle.capt_c.specs.Answers.{status_of, place_of_fault, nowhere, status_of_result}
+use Rattle.capt_c.specs.Answers.{status_of_result, place_of_result, status_of_unit}
 use Rattle.capt_c.specs.Packets.{ShowsFields}
 use Rattle.capt_c.specs.declared.answers.Place.{Place}
 use Rattle.capt_c.specs.declared.handles.Held.{Held}
@@ -29,7 +29,7 @@ OpensFed tail status (Some (helds.Fed f)) =
 abbrev pub FeedsIf : Bool → FedState → List ℕ → ℕ → Option Held → Type 0
 FeedsIf true f bytes status new = (status ≡ 6) × (new ≡ Some (helds.Fed f))
 FeedsIf false f bytes status new =
-    (answer : Result Unit Fault) × (later : FedState) × (status ≡ status_of_result answer)
+    (answer : Result Unit Fault) × (later : FedState) × (status ≡ status_of_result status_of_unit answer)
     × (new ≡ Some (helds.Fed later)) × FeedsBytes f bytes answer later
 
 abbrev pub FeedsHeld : Option Held → List ℕ → ℕ → Option Held → Type 0
@@ -48,25 +48,21 @@ EndsHeld (Some (helds.Capture c)) status new = (status ≡ 6) × (new ≡ Some (
 EndsHeld (Some (helds.Fed f)) status new =
     (status ≡ 0) × (new ≡ Some (helds.Fed (record f { course = record f.course { ended = true } })))
 
-abbrev pub status_of_fed : Result Fed Fault → ℕ
-status_of_fed (Ok (feds.Packet meta)) = 1
-status_of_fed (Ok feds.More) = 7
-status_of_fed (Ok feds.End) = 0
-status_of_fed (Err fault) = status_of fault
+-- the status of what comes next
+abbrev pub status_of_fed : Fed → ℕ
+status_of_fed (feds.Packet meta) = 1
+status_of_fed feds.More = 7
+status_of_fed feds.End = 0
 
-abbrev pub place_of_fed : Result Fed Fault → Place
-place_of_fed (Ok fed) = nowhere
-place_of_fed (Err fault) = place_of_fault fault
-
--- a packet that comes is told, and nothing else is
-abbrev pub FedTold : Packet → Result Fed Fault → Packet → Type 0
-FedTold was (Ok (feds.Packet meta)) p = ShowsFields meta p
-FedTold was (Ok feds.More) p = p ≡ was
-FedTold was (Ok feds.End) p = p ≡ was
-FedTold was (Err fault) p = p ≡ was
+-- a caller's packet is written only if one comes
+abbrev pub WritesFed : Packet → Result Fed Fault → Packet → Type 0
+WritesFed was (Ok (feds.Packet meta)) p = ShowsFields meta p
+WritesFed was (Ok feds.More) p = p ≡ was
+WritesFed was (Ok feds.End) p = p ≡ was
+WritesFed was (Err fault) p = p ≡ was
 
 -- What a call for the next packet of a capture that is fed returns and leaves.
 abbrev pub StepsFedCapture : FedState → Packet → ℕ → Packet → Place → FedState → Type 0
 StepsFedCapture old was status p place new =
-    (answer : Result Fed Fault) × (status ≡ status_of_fed answer) × (place ≡ place_of_fed answer)
-    × GivesFed old answer new × FedTold was answer p
+    (answer : Result Fed Fault) × (status ≡ status_of_result status_of_fed answer) × (place ≡ place_of_result answer)
+    × GivesFed old answer new × WritesFed was answer p

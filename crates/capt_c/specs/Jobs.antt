@@ -1,8 +1,19 @@
 -- What the calls make of files in memory.
-use Rattle.std.specs.Prelude.{◌≡◌, ℕ, List, [], length, Option, Some, None, Result, Ok, Err}
+use Rattle.std.specs.Prelude.{◌≡◌, ◌≤◌, ℕ, List, [], length, map, Option, Some, None, Result, Ok, Err, ⊤}
+use Rattle.cap_bytes.specs.Printing.{Prints}
 use Rattle.cap_bytes.specs.declared.faults.Fault.{Fault}
 use Rattle.cap_bytes.specs.declared.faults.Fault.TheVariants.{Refused, Read, Write, Memory}
-use Rattle.capt_c.specs.Answers.{nowhere, status_of_result, place_of_result}
+use Rattle.cap_bytes.specs.declared.faults.Tail.{Tail}
+use Rattle.cap_merge.specs.Files.{clocked_run, endings_of_files}
+use Rattle.cap_talks.specs.talks.InfoText.{first_refusal, info_text}
+use Rattle.cap_talks.specs.talks.ReportText.{report_refusal, report_text}
+use Rattle.cap_talks.specs.talks.Telling.{Tells}
+use Rattle.cap_tool.specs.BlockText.{block_list, block_refusal}
+use Rattle.cap_tool.specs.Converted.{convert_refusal, convert_text}
+use Rattle.cap_tool.specs.JoinText.{join_refusal, join_text}
+use Rattle.cap_tool.specs.ListText.{list_refusal, list_text}
+use Rattle.cap_tool.specs.MergeText.{merge_refusal, merge_text}
+use Rattle.capt_c.specs.Answers.{nowhere, place_of_result, status_of_result, status_of_unit}
 use Rattle.capt_c.specs.declared.answers.Place.{Place}
 use Rattle.capt_c.specs.declared.handles.Held.{Held}
 use Rattle.capt_c.specs.declared.handles.Held.TheVariants as helds
@@ -10,6 +21,8 @@ use denote.RawPtr.{null_ptr}
 use Rattle.std.specs.Vec.{vec_ptr}
 use Rattle.capt_c.specs.Held.{IsClosed}
 use Rattle.capt_c.specs.declared.jobs.Bytes.{Bytes}
+use Rattle.capt_c.specs.declared.jobs.Task.{Task}
+use Rattle.capt_c.specs.declared.jobs.Task.TheVariants as tasks
 use Rattle.capt_c.specs.declared.jobs.Text.{Text}
 
 -- the bytes of a file
@@ -39,7 +52,7 @@ Shown items answer status place text (Some (helds.Fed f)) = ⊥
 Shown items answer status place text (Some (helds.Table t)) = ⊥
 Shown items answer status place text (Some (helds.Text bytes)) =
     (bytes.items ≡ items) × (text.len ≡ length items) × (text.at ≡ vec_ptr bytes)
-    × (status ≡ status_of_result (by_memory answer)) × (place ≡ place_of_result (by_memory answer))
+    × (status ≡ status_of_result status_of_unit (by_memory answer)) × (place ≡ place_of_result (by_memory answer))
 
 -- A caller is shown a text that was made as `Does` says, from nothing, and how the job ended; or nothing for want of
 -- memory.
@@ -47,3 +60,42 @@ abbrev pub JobEnds : (List ℕ → Result Unit Fault → List ℕ → Type 0) �
 JobEnds Does status place text =
     (answer : Result Unit Fault) × (items : List ℕ) × Does [] answer items
     × Shown items answer status place text text.handle.kept.value
+
+-- a call takes that many files
+abbrev pub AreFiles : ℕ → Type 0
+AreFiles count = (1 ≤ count) × (count ≤ 32)
+
+-- A task has its file, or as many files as a call takes.
+abbrev pub HasFiles : Task → Type 0
+HasFiles (tasks.List bytes) = ⊤
+HasFiles (tasks.Blocks bytes) = ⊤
+HasFiles (tasks.Convert bytes order format) = ⊤
+HasFiles (tasks.Info files) = AreFiles (length files.now)
+HasFiles (tasks.Report files) = AreFiles (length files.now)
+HasFiles (tasks.Merge files order) = AreFiles (length files.now)
+HasFiles (tasks.Join files order) = AreFiles (length files.now)
+
+-- What a task writes and returns is what the command of its name does.
+abbrev pub Makes : Task → Tail → List ℕ → Result Unit Fault → List ℕ → Type 0
+Makes (tasks.List bytes) tail = Prints (list_text tail bytes.now) (list_refusal tail bytes.now)
+Makes (tasks.Blocks bytes) tail = Prints (block_list tail bytes.now) (block_refusal tail bytes.now)
+Makes (tasks.Convert bytes order format) tail =
+    Prints (convert_text format order tail bytes.now) (convert_refusal format tail bytes.now)
+Makes (tasks.Info files) tail =
+    Tells (info_text tail (map file_bytes files.now)) (first_refusal tail 1 (map file_bytes files.now))
+Makes (tasks.Report files) tail =
+    Tells (report_text (length files.now) (endings_of_files tail (map file_bytes files.now))
+    (clocked_run tail (map file_bytes files.now))) (report_refusal (clocked_run tail (map file_bytes files.now)))
+Makes (tasks.Merge files order) tail =
+    Prints (merge_text order tail (map file_bytes files.now)) (merge_refusal tail (map file_bytes files.now))
+Makes (tasks.Join files order) tail =
+    Prints (join_text order tail (map file_bytes files.now)) (join_refusal tail (map file_bytes files.now))
+
+-- What a call returns and leaves that makes the text of a task: the text, and how the task ended, and no read fails. If
+-- the task lacks its files, the call is misused and changes nothing. `was` and `from` are the caller's text and place
+-- before it.
+pub record ShowsTask (task : Task) (tail : Tail) (was : Text) (from : Place) (status : ℕ) (text : Text) (place : Place)
+    : Type 0 where
+  pub shown : HasFiles task → JobEnds (Makes task tail) status place text
+  pub read : status ≡ 3 → ⊥
+  pub misuse : (HasFiles task → ⊥) → (status ≡ 6) × (text ≡ was) × (place ≡ from)

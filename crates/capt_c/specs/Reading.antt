@@ -5,7 +5,7 @@ use Rattle.cap_bytes.specs.declared.faults.Tail.{Tail}
 use Rattle.cap_source.specs.Feed.{Feed, GivesHead, FeedKeeps}
 use Rattle.cap_source.specs.Items.{file_items}
 use Rattle.cap_source.specs.declared.captures.Capture.{Capture}
-use Rattle.capt_c.specs.Answers.{status_of, place_of_fault, nowhere}
+use Rattle.capt_c.specs.Answers.{status_of_result, place_of_result}
 use Rattle.capt_c.specs.contracts.sources.InputDevice.TheImpl as device
 use Rattle.capt_c.specs.contracts.sources.InputSource.TheImpl as source
 use Rattle.cap_source.specs.Fed.{FedState}
@@ -27,14 +27,10 @@ use Rattle.capt_c.specs.declared.sources.Input.{Input}
 abbrev pub CaptureReader : Type 0
 CaptureReader = Capture Input source.ghosts device.ghosts
 
-abbrev pub status_of_step : Result Bool Fault → ℕ
-status_of_step (Ok true) = 1
-status_of_step (Ok false) = 0
-status_of_step (Err fault) = status_of fault
-
-abbrev pub place_of_step : Result Bool Fault → Place
-place_of_step (Ok found) = nowhere
-place_of_step (Err fault) = place_of_fault fault
+-- the status of whether a packet came
+abbrev pub status_of_found : Bool → ℕ
+status_of_found true = 1
+status_of_found false = 0
 
 -- A capture is open of which no packet was returned; or no memory was found. `told` says whether its bytes are known,
 -- which are `bytes` then, and `can_fail` whether its reads can fail.
@@ -62,8 +58,8 @@ Nexts feed (Some (helds.Table t)) was from status p place new =
 Nexts feed (Some (helds.Fed f)) was from status p place new =
     (later : FedState) × (new ≡ Some (helds.Fed later)) × StepsFedCapture f was status p place later
 Nexts feed (Some (helds.Capture c)) was from status p place new =
-    (answer : Result Bool Fault) × (later : CaptureReader) × (status ≡ status_of_step answer)
-    × (place ≡ place_of_step answer)
+    (answer : Result Bool Fault) × (later : CaptureReader) × (status ≡ status_of_result status_of_found answer)
+    × (place ≡ place_of_result answer)
     × (new ≡ Some (helds.Capture later)) × StepsPacket (feed c) was answer p (feed later)
     × FeedKeeps (feed c) (feed later)
 
@@ -80,8 +76,8 @@ NextsMany feed (Some (helds.Text text)) was status now new = Misused status (Som
 NextsMany feed (Some (helds.Table t)) was status now new = Misused status (Some (helds.Table t)) new was now
 NextsMany feed (Some (helds.Fed f)) was status now new = Misused status (Some (helds.Fed f)) new was now
 NextsMany feed (Some (helds.Capture c)) was status now new =
-    (answer : Result Bool Fault) × (later : CaptureReader) × (status ≡ status_of_step answer)
-    × (now.place ≡ place_of_step answer)
+    (answer : Result Bool Fault) × (later : CaptureReader) × (status ≡ status_of_result status_of_found answer)
+    × (now.place ≡ place_of_result answer)
     × (new ≡ Some (helds.Capture later)) × StepsMany (feed c) was.packets answer now.count now.packets (feed later)
     × FeedKeeps (feed c) (feed later)
 

@@ -1,5 +1,5 @@
 -- What the calls do to a table that a caller holds.
-use Rattle.std.specs.Prelude.{◌≡◌, ℕ, List, [], true, false, Option, Some, None, Result, Ok, Err, length, map}
+use Rattle.std.specs.Prelude.{◌≡◌, ℕ, List, [], true, false, Option, Some, None, Result, length, map}
 use Rattle.cap_bytes.specs.Printing.{Prints}
 use Rattle.cap_bytes.specs.declared.faults.Fault.{Fault}
 use Rattle.cap_bytes.specs.declared.faults.Tail.{Tail}
@@ -10,7 +10,7 @@ use Rattle.cap_class.specs.Taken.{Taken}
 use Rattle.cap_talks.specs.table.TakenText.{text_of}
 use Rattle.cap_talks.specs.declared.table.tables.Step.{Step}
 use Rattle.cap_talks.specs.declared.table.tables.Step.TheVariants.{Took, Done}
-use Rattle.capt_c.specs.Answers.{status_of, place_of_fault, nowhere}
+use Rattle.capt_c.specs.Answers.{status_of_result, place_of_result}
 use Rattle.capt_c.specs.Jobs.{JobEnds, file_bytes}
 use Rattle.capt_c.specs.declared.answers.Place.{Place}
 use Rattle.capt_c.specs.declared.handles.Held.{Held}
@@ -41,14 +41,10 @@ LeavesTable (Some (helds.Fed f)) Holds = ⊥
 LeavesTable (Some (helds.Text text)) Holds = ⊥
 LeavesTable (Some (helds.Table t)) Holds = Holds (table_of t.value)
 
-abbrev pub status_of_step : Result Step Fault → ℕ
-status_of_step (Ok Took) = 1
-status_of_step (Ok Done) = 0
-status_of_step (Err fault) = status_of fault
-
-abbrev pub place_of_step : Result Step Fault → Place
-place_of_step (Ok step) = nowhere
-place_of_step (Err fault) = place_of_fault fault
+-- the status of a step
+abbrev pub status_of_step : Step → ℕ
+status_of_step Took = 1
+status_of_step Done = 0
 
 -- What a call that takes the next packet returns and leaves; `from` is the caller's place before it.
 abbrev pub StepsTable : Option Held → Place → ℕ → Place → Option Held → Type 0
@@ -57,7 +53,8 @@ StepsTable (Some (helds.Capture c)) from status place new = Misused status (Some
 StepsTable (Some (helds.Fed f)) from status place new = Misused status (Some (helds.Fed f)) new from place
 StepsTable (Some (helds.Text text)) from status place new = Misused status (Some (helds.Text text)) new from place
 StepsTable (Some (helds.Table t)) from status place new =
-    (answer : Result Step Fault) × (status ≡ status_of_step answer) × (place ≡ place_of_step answer)
+    (answer : Result Step Fault) × (status ≡ status_of_result status_of_step answer)
+    × (place ≡ place_of_result answer)
     × LeavesTable new (λ later. TableSteps (table_of t.value) answer later × StepKeeps (table_of t.value) later)
 
 -- A call that is misused returns 6, and leaves the caller's text and place as they were.

@@ -1,16 +1,16 @@
 //! What a call returns: a status, and where a capture is refused or a read failed.
-ghost use Rattle.std.specs.Prelude.{◌≡◌};
+ghost use Rattle.std.specs.Prelude.{◌≡◌, ℕ};
 ghost use Rattle.cap_tool.specs.Jobs.{tail_of};
 ghost use Rattle.capt_c.specs.Answers.{status_of, place_of_fault, order_of, format_of, status_of_result};
-ghost use Rattle.capt_c.specs.Answers.{place_of_result};
+ghost use Rattle.capt_c.specs.Answers.{place_of_result, status_of_unit};
 
 use cap_bytes::{Fault, Order, Tail};
 use cap_source::Format;
 
-/// All was done; of a reader, there are no more packets.
+/// All was done. A reader has no more packets.
 pub const DONE: u32 = 0;
 
-/// A packet came.
+/// There was a next packet.
 pub const PACKET: u32 = 1;
 
 /// A capture breaks a rule.
@@ -22,13 +22,13 @@ pub const READ: u32 = 3;
 /// A write failed.
 pub const WRITE: u32 = 4;
 
-/// A growth was refused.
+/// An allocation failed.
 pub const MEMORY: u32 = 5;
 
-/// Of a capture that is fed: more bytes are wanted.
+/// A capture that is fed needs more bytes.
 pub const MORE: u32 = 7;
 
-/// The call is faulty: a reader that isn't open, no file or more than 32, or an unknown word.
+/// The call is misused: its handle isn't open or is for other calls, or it has no file, more than 32, or no room.
 pub const MISUSE: u32 = 6;
 
 /// Where a capture is refused, or where a read failed.
@@ -37,7 +37,7 @@ pub const MISUSE: u32 = 6;
 pub struct Place {
     /// Where the record or the block begins, in bytes.
     pub offset: u64,
-    /// The number of the file, from 1; 0 if the fault is of no file.
+    /// The number of the file, from 1; 0 if the fault is in no file.
     pub file: u32,
     /// The rule that is broken, from 1 to 21; 0 if none is.
     pub rule: u32,
@@ -85,21 +85,43 @@ pub fn place_of(fault: Fault) -> Place
     }
 }
 
-/// Tells how a job ended.
-pub fn finish(answer: Result<(), Fault>, place: &mut Place) -> u32
-    ensures status { result ≡ status_of_result answer }
-    ensures place { place.new ≡ place_of_result answer }
+/// What a call returns without a fault.
+pub trait Success {
+    ghost status: { Self → ℕ };
+
+    /// Its status.
+    fn status(self) -> u32
+        ensures { result ≡ status self };
+}
+
+impl Success for () {
+    ghost status = { status_of_unit };
+
+    fn status(self) -> u32 {
+        DONE
+    }
+}
+
+/// The status of a call that returns `answer`.
+pub fn status_of_result<T: Success>(answer: Result<T, Fault>) -> u32
+    ensures { result ≡ status_of_result T.status answer }
 {
     match answer {
-        Ok(()) => {
-            *place = nowhere();
-            DONE
-        }
-        Err(fault) => {
-            *place = place_of(fault);
-            status_of(fault)
-        }
+        Ok(success) => success.status(),
+        Err(fault) => status_of(fault),
     }
+}
+
+/// The status of a call that returns `answer`; `place` becomes the place of its fault, or no place.
+pub fn status_and_place<T: Success>(answer: Result<T, Fault>, place: &mut Place) -> u32
+    ensures status { result ≡ status_of_result T.status answer }
+    ensures place { place.new ≡ place_of_result answer }
+{
+    *place = match &answer {
+        Ok(_) => nowhere(),
+        Err(fault) => place_of(*fault),
+    };
+    status_of_result(answer)
 }
 
 /// What is done with a cut end.

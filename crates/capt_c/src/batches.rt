@@ -8,7 +8,7 @@ use crate::reading::step;
 use cap_bytes::Fault;
 use cap_source::PacketFeed;
 
-// Tells the next packets that are at hand without a read, as many as there is room for, and passes them.
+// Writes the next packets that need no read, as many as there is room for, and advances past them.
 fn more<F: PacketFeed>(feed: &mut F, packets: &mut [Packet]) -> usize
     ensures most { result ≤ length packets.new }
     ensures told { IsTrue (F.feed feed.old).told
@@ -25,8 +25,8 @@ fn more<F: PacketFeed>(feed: &mut F, packets: &mut [Packet]) -> usize
     count
 }
 
-/// Tells the next packets and passes them: one, and those after it that are at hand without a read, as many as there is
-/// room for.
+/// Writes the next packets and advances past them: one, and those after it that need no further read, as many as there
+/// is room for.
 pub fn step_many<F: PacketFeed>(
     feed: &mut F,
     packets: &mut [Packet],

@@ -1,10 +1,12 @@
 //! What the library keeps for a caller between calls.
-ghost use Rattle.std.specs.Prelude.{◌≡◌, IsSome, IfSome, Option, is_some, Some, None, false, if◌then◌else◌};
+ghost use Rattle.std.specs.Prelude.{◌≡◌, IsOkUnless, IsSome, IfSome, OnErr, OnOk, Option, is_some, Some, None};
+ghost use Rattle.cap_bytes.specs.declared.faults.Fault.{Fault};
 ghost use Rattle.capt_c.specs.Held.{IsClosed};
 ghost use Rattle.capt_c.specs.declared.handles.Held.{Held};
 
-use crate::loose::Loose;
+use crate::raw_box::RawBox;
 use crate::sources::{Input, Slice};
+use cap_bytes::Fault;
 use cap_source::{Capture, FedCapture};
 use cap_talks::Table;
 use std::alloc::Global;
@@ -12,7 +14,7 @@ use std::marker::Model;
 use std::mem::replace;
 use std::ptr::null_mut;
 
-/// What is kept: a capture that is being read or fed, a table of captures, or a text.
+/// What a handle holds: a capture that is being read or fed, a table of captures, or a text.
 #[derive(Drop)]
 pub enum Held {
     /// A capture.
@@ -25,59 +27,59 @@ pub enum Held {
     Text(Vec<u8>),
 }
 
-/// A box of a `Held` by its address, or nothing at an address that doesn't matter.
+/// The address of a box that it owns, or any address if it owns nothing.
 #[repr(C)]
-pub struct Kept {
+pub struct OwnedPointer {
     at: *mut u8,
     pub ghost value: { Option Held },
 }
 
-impl Model for Kept {
+impl Model for OwnedPointer {
     ghost use Rattle.capt_c.specs.Held.{owned};
 
     ghost also_owns = { λ k. owned k.at k.value };
 }
 
-impl Kept {
-    // Keeps a box.
-    fn holding(value: Loose<Held, Global>) -> Kept
+impl OwnedPointer {
+    // The pointer of a box.
+    fn of(value: RawBox<Held, Global>) -> OwnedPointer
         ensures value { result.value ≡ Some value.value }
     {
-        let Loose { at, alloc: _ } = value;
-        Kept { at: at as *mut u8 }
+        let RawBox { at, alloc: _ } = value;
+        OwnedPointer { at: at as *mut u8 }
     }
 
-    // Keeps nothing.
-    fn nothing(at: *mut u8) -> Kept
+    // A pointer that owns nothing.
+    fn nothing(at: *mut u8) -> OwnedPointer
         ensures { (result.value ≡ None) × (result.at ≡ at) }
     {
-        Kept { at }
+        OwnedPointer { at }
     }
 
-    // Gives the box back.
-    fn loosened(self, alloc: Global) -> Loose<Held, Global>
+    // The box.
+    fn into_raw_box(self, alloc: Global) -> RawBox<Held, Global>
         requires { IsSome self.value }
         ensures value { self.value ≡ Some result.value }
     {
-        let Kept { at } = self;
-        Loose {
+        let OwnedPointer { at } = self;
+        RawBox {
             at: at as *mut Held,
             alloc,
         }
     }
 
-    // Nothing is to be given back.
+    // Drops a pointer that owns nothing.
     fn discard(self)
         requires { self.value ≡ None }
     {
-        let Kept { at: _ } = self;
+        let OwnedPointer { at: _ } = self;
     }
 }
 
-/// What a caller holds. All bytes zero is one that isn't open.
+/// What a caller holds. A handle all of whose bytes are zero isn't open.
 #[repr(C)]
 pub struct Handle {
-    kept: Kept,
+    kept: OwnedPointer,
     is_open: bool,
     ghost same: { is_open ≡ is_some kept.value },
 }
@@ -87,18 +89,18 @@ fn closed() -> Handle
     ensures { IsClosed result.kept.value result.kept.at result.is_open }
 {
     let at = null_mut();
-    let kept = Kept::nothing(at);
+    let kept = OwnedPointer::nothing(at);
     Handle {
         kept,
         is_open: false,
     }
 }
 
-// A handle of that box.
+// A handle that holds that box.
 fn opened(value: Box<Held>) -> Handle
     ensures { result.kept.value ≡ Some value.value }
 {
-    let kept = Kept::holding(Loose::of(value));
+    let kept = OwnedPointer::of(RawBox::of(value));
     Handle {
         kept,
         is_open: true,
@@ -106,7 +108,7 @@ fn opened(value: Box<Held>) -> Handle
 }
 
 impl Handle {
-    /// Takes what is held, if it is open.
+    /// Takes out what is held, if the handle is open.
     pub fn take(&mut self, alloc: Global) -> Option<Box<Held>>
         ensures some { IfSome result (λ b. self.old.kept.value ≡ Some b.value) }
         ensures none { result ≡ None → self.old.kept.value ≡ None }
@@ -114,7 +116,7 @@ impl Handle {
     {
         let Handle { kept, is_open } = replace(self, closed());
         if is_open {
-            Some(kept.loosened(alloc).into_box())
+            Some(kept.into_raw_box(alloc).into_box())
         } else {
             kept.discard();
             None
@@ -130,18 +132,33 @@ impl Handle {
         kept.discard();
     }
 
-    /// Lets go what is held, and holds that. If no memory is found, it isn't open.
-    pub fn hold(&mut self, alloc: Global, value: Held) -> bool
-        ensures value { self.new.kept.value ≡ (if result then Some value else None) }
-        ensures closed { result ≡ false → IsClosed self.new.kept.value self.new.kept.at self.new.is_open }
+    /// Closes what is held, and holds `value`. Without memory for it the handle isn't open.
+    pub fn hold(&mut self, alloc: Global, value: Held) -> Result<(), Fault>
+        ensures value { OnOk result (self.new.kept.value ≡ Some value) }
+        ensures closed { OnErr result (IsClosed self.new.kept.value self.new.kept.at self.new.is_open) }
+        ensures fault { IsOkUnless result Fault.Memory }
     {
         let _ = self.take(alloc);
-        match Box::new(alloc, value) {
-            Ok(value) => {
-                self.put(value);
-                true
-            }
-            Err(_) => false,
-        }
+        let value = Box::new(alloc, value)?;
+        self.put(value);
+        Ok(())
     }
 }
+
+/// `with_open!(handle, alloc, |held| status)` is the status of a call on what the handle holds. If the handle isn't
+/// open, the call isn't made, and the status is `MISUSE`.
+macro_rules! with_open {
+    ($handle:expr, $alloc:expr, |$held:ident| $status:expr) => {
+        match $handle.take($alloc) {
+            Some(taken) => {
+                let mut $held = taken;
+                let status = $status;
+                $handle.put($held);
+                status
+            }
+            None => $crate::answers::MISUSE,
+        }
+    };
+}
+
+pub(crate) use with_open;

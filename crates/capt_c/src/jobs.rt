@@ -1,26 +1,18 @@
 //! What `capt` makes of captures in memory: a text that the caller holds.
-ghost use Rattle.std.specs.Prelude.{◌≡◌, ◌≤◌, ◌↔◌, IfOk, IsOkUnless, IsTrue, None, length, map};
+ghost use Rattle.std.specs.Prelude.{◌≡◌, ◌≤◌, ◌↔◌, IfOk, IsOkUnless, IsTrue, length, map};
 ghost use denote.RawPtr.{null_ptr};
-ghost use Rattle.cap_bytes.specs.Printing.{IsReadFault, Prints};
-ghost use Rattle.cap_tool.specs.BlockText.{block_list, block_refusal};
-ghost use Rattle.cap_tool.specs.ListText.{list_refusal, list_text};
-ghost use Rattle.cap_merge.specs.Files.{clocked_run, endings_of_files};
-ghost use Rattle.cap_talks.specs.talks.InfoText.{first_refusal, info_text};
-ghost use Rattle.cap_talks.specs.talks.ReportText.{report_refusal, report_text};
-ghost use Rattle.cap_talks.specs.talks.Telling.{Tells};
-ghost use Rattle.cap_tool.specs.Converted.{convert_refusal, convert_text};
-ghost use Rattle.cap_tool.specs.JoinText.{join_refusal, join_text};
-ghost use Rattle.cap_tool.specs.MergeText.{merge_refusal, merge_text};
+ghost use Rattle.cap_bytes.specs.Printing.{IsReadFault};
 ghost use Rattle.cap_tool.specs.Jobs.{tail_of};
 ghost use Rattle.capt_c.specs.Answers.{order_of, format_of};
-ghost use Rattle.capt_c.specs.Jobs.{IsTextClosed, JobEnds, Shown, by_memory, file_bytes};
+ghost use Rattle.capt_c.specs.Jobs.{AreFiles, HasFiles, IsTextClosed, Makes, Shown, ShowsTask, by_memory, file_bytes};
 ghost use Rattle.capt_c.specs.Sources.{rest_of};
 
-use crate::answers::{MEMORY, MISUSE, Place, finish, format_of, nowhere, order_of, tail_of};
+use crate::answers::{MISUSE, Place, format_of, order_of, status_and_place, tail_of};
 use crate::handles::{Handle, Held};
 use crate::sinks::Grown;
 use crate::sources::Slice;
 use cap_bytes::{Fault, Order, Sink, Tail};
+use cap_source::Format;
 use cap_talks::{file_lines, report};
 use cap_tool::{blocks_to, convert_to, join_to, list_to, merge_to};
 use std::alloc::Global;
@@ -34,7 +26,7 @@ pub struct Bytes<'a> {
     pub bytes: &'a [u8],
 }
 
-/// A text that the library made, and holds until it is closed. All bytes zero is one that isn't open.
+/// A text that the library made, and holds until it is closed. A text all of whose bytes are zero isn't open.
 #[repr(C)]
 pub struct Text {
     /// Where it begins.
@@ -58,16 +50,13 @@ pub(crate) fn slices<'a>(alloc: Global, files: &[Bytes<'a>]) -> Result<Vec<Slice
     Ok(slices)
 }
 
-// A write to memory fails if a growth is refused.
+// A write to memory fails only if an allocation does.
 fn by_memory(answer: Result<(), Fault>) -> Result<(), Fault>
     ensures { result ≡ by_memory answer }
 {
     match answer {
-        Ok(()) => Ok(()),
-        Err(Fault::Refused(refusal)) => Err(Fault::Refused(refusal)),
-        Err(Fault::Read { file, offset }) => Err(Fault::Read { file, offset }),
         Err(Fault::Write) => Err(Fault::Memory),
-        Err(Fault::Memory) => Err(Fault::Memory),
+        answer => answer,
     }
 }
 
@@ -81,7 +70,7 @@ fn empty(text: &mut Text)
     text.len = 0;
 }
 
-/// Shows a text to the caller, and tells how the job ended that made it.
+/// Shows a text to the caller, and returns the status of the job that made it.
 pub(crate) fn show(
     alloc: Global,
     text: &mut Text,
@@ -96,38 +85,88 @@ pub(crate) fn show(
     let bytes = sink.into_bytes();
     text.at = bytes.as_ptr();
     text.len = bytes.len();
-    if text.handle.hold(alloc, Held::Text(bytes)) {
-        finish(by_memory(answer), place)
-    } else {
-        empty(text);
-        *place = nowhere();
-        MEMORY
+    match text.handle.hold(alloc, Held::Text(bytes)) {
+        Ok(()) => status_and_place(by_memory(answer), place),
+        Err(fault) => {
+            empty(text);
+            status_and_place(Err::<(), Fault>(fault), place)
+        }
     }
 }
 
-/// Whether a call takes so many files.
+/// Whether a call takes that many files.
 pub(crate) fn are_files(count: usize) -> bool
-    ensures { IsTrue result ↔ ((1 ≤ count) × (count ≤ 32)) }
+    ensures { IsTrue result ↔ AreFiles count }
 {
     1 <= count && count <= 32
 }
 
-// What `capt_report` makes.
-fn make_report(
-    alloc: Global,
-    files: &[Bytes<'_>],
-    tail: Tail,
-    sink: &mut Grown,
-) -> Result<(), Fault>
-    requires some { 1 ≤ length files.now }
-    requires most { length files.now ≤ 32 }
-    ensures text { Tells (report_text (length files.now) (endings_of_files tail (map file_bytes files.now))
-        (clocked_run tail (map file_bytes files.now))) (report_refusal (clocked_run tail (map file_bytes files.now)))
-        (⟦<Grown as Sink>⟧.held sink.old) result (⟦<Grown as Sink>⟧.held sink.new) }
+/// A command of `capt` that makes a text, and the bytes of its file or files.
+#[derive(Clone, Copy)]
+pub(crate) enum Task<'a> {
+    /// A line for each packet.
+    List(&'a [u8]),
+    /// A line for each block.
+    Blocks(&'a [u8]),
+    /// A file of a format.
+    Convert(&'a [u8], Order, Format),
+    /// A line for each file.
+    Info(&'a [Bytes<'a>]),
+    /// The report.
+    Report(&'a [Bytes<'a>]),
+    /// One file of all packets.
+    Merge(&'a [Bytes<'a>], Order),
+    /// One file of the datagrams.
+    Join(&'a [Bytes<'a>], Order),
+}
+
+// Whether a task has its file, or as many files as a call takes.
+fn has_files(task: Task<'_>) -> bool
+    ensures { IsTrue result ↔ HasFiles task.entry }
+{
+    match task {
+        Task::List(_) | Task::Blocks(_) | Task::Convert(..) => true,
+        Task::Info(files) | Task::Report(files) => are_files(files.len()),
+        Task::Merge(files, _) | Task::Join(files, _) => are_files(files.len()),
+    }
+}
+
+// Writes the text of a task.
+fn make(alloc: Global, task: Task<'_>, tail: Tail, sink: &mut Grown) -> Result<(), Fault>
+    requires { HasFiles task }
+    ensures text { Makes task.entry tail (⟦<Grown as Sink>⟧.held sink.old) result (⟦<Grown as Sink>⟧.held sink.new) }
     ensures read { IsReadFault result → ⊥ }
 {
-    let sources = slices(alloc, files)?;
-    report(alloc, sources, tail, sink)
+    match task {
+        Task::List(bytes) => list_to(alloc, Slice::new(bytes), tail, sink),
+        Task::Blocks(bytes) => blocks_to(alloc, Slice::new(bytes), tail, sink),
+        Task::Convert(bytes, order, format) => {
+            let source = Slice::new(bytes);
+            convert_to(alloc, source, tail, order, format, sink)
+        }
+        Task::Info(files) => file_lines(alloc, slices(alloc, files)?, tail, sink),
+        Task::Report(files) => report(alloc, slices(alloc, files)?, tail, sink),
+        Task::Merge(files, order) => merge_to(alloc, slices(alloc, files)?, tail, order, sink),
+        Task::Join(files, order) => join_to(alloc, slices(alloc, files)?, tail, order, sink),
+    }
+}
+
+// Shows the text of a task to the caller.
+fn show_task(
+    alloc: Global,
+    task: Task<'_>,
+    allow_cut: bool,
+    text: &mut Text,
+    place: &mut Place,
+) -> u32
+    ensures { ShowsTask task.entry (tail_of allow_cut) text.old place.old result text.new place.new }
+{
+    if !has_files(task) {
+        return MISUSE;
+    }
+    let mut sink = Grown::new(alloc);
+    let answer = make(alloc, task, tail_of(allow_cut), &mut sink);
+    show(alloc, text, sink, answer, place)
 }
 
 /// The report over 1 to 32 captures.
@@ -139,34 +178,9 @@ pub extern "C" fn capt_report(
     text: &mut Text,
     place: &mut Place,
 ) -> u32
-    ensures text { (1 ≤ length files.now) × (length files.now ≤ 32)
-        → JobEnds (Tells (report_text (length files.now)
-        (endings_of_files (tail_of allow_cut) (map file_bytes files.now))
-        (clocked_run (tail_of allow_cut) (map file_bytes files.now)))
-        (report_refusal (clocked_run (tail_of allow_cut) (map file_bytes files.now))))
-        result place.new text.new }
-    ensures read { result ≡ 3 → ⊥ }
-    ensures misuse { ((1 ≤ length files.now) × (length files.now ≤ 32) → ⊥)
-        → (result ≡ 6) × (text.new ≡ text.old) × (place.new ≡ place.old) }
+    ensures { ShowsTask (Task.Report files.entry) (tail_of allow_cut) text.old place.old result text.new place.new }
 {
-    if !are_files(files.len()) {
-        return MISUSE;
-    }
-    let mut sink = Grown::new(alloc);
-    let answer = make_report(alloc, files, tail_of(allow_cut), &mut sink);
-    show(alloc, text, sink, answer, place)
-}
-
-// What `capt_info` makes.
-fn make_info(alloc: Global, files: &[Bytes<'_>], tail: Tail, sink: &mut Grown) -> Result<(), Fault>
-    requires some { 1 ≤ length files.now }
-    requires most { length files.now ≤ 32 }
-    ensures text { Tells (info_text tail (map file_bytes files.now)) (first_refusal tail 1 (map file_bytes files.now))
-        (⟦<Grown as Sink>⟧.held sink.old) result (⟦<Grown as Sink>⟧.held sink.new) }
-    ensures read { IsReadFault result → ⊥ }
-{
-    let sources = slices(alloc, files)?;
-    file_lines(alloc, sources, tail, sink)
+    show_task(alloc, Task::Report(files), allow_cut, text, place)
 }
 
 /// The lines of 1 to 32 captures.
@@ -178,39 +192,9 @@ pub extern "C" fn capt_info(
     text: &mut Text,
     place: &mut Place,
 ) -> u32
-    ensures text { (1 ≤ length files.now) × (length files.now ≤ 32)
-        → JobEnds (Tells (info_text (tail_of allow_cut) (map file_bytes files.now))
-        (first_refusal (tail_of allow_cut) 1 (map file_bytes files.now)))
-        result place.new text.new }
-    ensures read { result ≡ 3 → ⊥ }
-    ensures misuse { ((1 ≤ length files.now) × (length files.now ≤ 32) → ⊥)
-        → (result ≡ 6) × (text.new ≡ text.old) × (place.new ≡ place.old) }
+    ensures { ShowsTask (Task.Info files.entry) (tail_of allow_cut) text.old place.old result text.new place.new }
 {
-    if !are_files(files.len()) {
-        return MISUSE;
-    }
-    let mut sink = Grown::new(alloc);
-    let answer = make_info(alloc, files, tail_of(allow_cut), &mut sink);
-    show(alloc, text, sink, answer, place)
-}
-
-// What `capt_merge` makes.
-fn make_merge(
-    alloc: Global,
-    files: &[Bytes<'_>],
-    tail: Tail,
-    order: Order,
-    sink: &mut Grown,
-) -> Result<(), Fault>
-    requires some { 1 ≤ length files.now }
-    requires most { length files.now ≤ 32 }
-    ensures text { Prints (merge_text order tail (map file_bytes files.now))
-        (merge_refusal tail (map file_bytes files.now))
-        (⟦<Grown as Sink>⟧.held sink.old) result (⟦<Grown as Sink>⟧.held sink.new) }
-    ensures read { IsReadFault result → ⊥ }
-{
-    let sources = slices(alloc, files)?;
-    merge_to(alloc, sources, tail, order, sink)
+    show_task(alloc, Task::Info(files), allow_cut, text, place)
 }
 
 /// 1 to 32 captures as one pcapng file, sorted by exact time.
@@ -223,39 +207,11 @@ pub extern "C" fn capt_merge(
     text: &mut Text,
     place: &mut Place,
 ) -> u32
-    ensures text { (1 ≤ length files.now) × (length files.now ≤ 32)
-        → JobEnds (Prints (merge_text (order_of big) (tail_of allow_cut) (map file_bytes files.now))
-        (merge_refusal (tail_of allow_cut) (map file_bytes files.now)))
-        result place.new text.new }
-    ensures read { result ≡ 3 → ⊥ }
-    ensures misuse { ((1 ≤ length files.now) × (length files.now ≤ 32) → ⊥)
-        → (result ≡ 6) × (text.new ≡ text.old) × (place.new ≡ place.old) }
+    ensures { ShowsTask (Task.Merge files.entry (order_of big)) (tail_of allow_cut) text.old place.old
+        result text.new place.new }
 {
-    if !are_files(files.len()) {
-        return MISUSE;
-    }
-    let mut sink = Grown::new(alloc);
-    let answer = make_merge(alloc, files, tail_of(allow_cut), order_of(big), &mut sink);
-    show(alloc, text, sink, answer, place)
-}
-
-// What `capt_join` makes.
-fn make_join(
-    alloc: Global,
-    files: &[Bytes<'_>],
-    tail: Tail,
-    order: Order,
-    sink: &mut Grown,
-) -> Result<(), Fault>
-    requires some { 1 ≤ length files.now }
-    requires most { length files.now ≤ 32 }
-    ensures text { Prints (join_text order tail (map file_bytes files.now))
-        (join_refusal tail (map file_bytes files.now))
-        (⟦<Grown as Sink>⟧.held sink.old) result (⟦<Grown as Sink>⟧.held sink.new) }
-    ensures read { IsReadFault result → ⊥ }
-{
-    let sources = slices(alloc, files)?;
-    join_to(alloc, sources, tail, order, sink)
+    let task = Task::Merge(files, order_of(big));
+    show_task(alloc, task, allow_cut, text, place)
 }
 
 /// The IPv4 datagrams of 1 to 32 captures as one pcapng file.
@@ -268,20 +224,11 @@ pub extern "C" fn capt_join(
     text: &mut Text,
     place: &mut Place,
 ) -> u32
-    ensures text { (1 ≤ length files.now) × (length files.now ≤ 32)
-        → JobEnds (Prints (join_text (order_of big) (tail_of allow_cut) (map file_bytes files.now))
-        (join_refusal (tail_of allow_cut) (map file_bytes files.now)))
-        result place.new text.new }
-    ensures read { result ≡ 3 → ⊥ }
-    ensures misuse { ((1 ≤ length files.now) × (length files.now ≤ 32) → ⊥)
-        → (result ≡ 6) × (text.new ≡ text.old) × (place.new ≡ place.old) }
+    ensures { ShowsTask (Task.Join files.entry (order_of big)) (tail_of allow_cut) text.old place.old
+        result text.new place.new }
 {
-    if !are_files(files.len()) {
-        return MISUSE;
-    }
-    let mut sink = Grown::new(alloc);
-    let answer = make_join(alloc, files, tail_of(allow_cut), order_of(big), &mut sink);
-    show(alloc, text, sink, answer, place)
+    let task = Task::Join(files, order_of(big));
+    show_task(alloc, task, allow_cut, text, place)
 }
 
 /// A line for each packet of a capture.
@@ -293,14 +240,9 @@ pub extern "C" fn capt_list(
     text: &mut Text,
     place: &mut Place,
 ) -> u32
-    ensures text { JobEnds (Prints (list_text (tail_of allow_cut) bytes.now)
-        (list_refusal (tail_of allow_cut) bytes.now))
-        result place.new text.new }
-    ensures read { result ≡ 3 → ⊥ }
+    ensures { ShowsTask (Task.List bytes.entry) (tail_of allow_cut) text.old place.old result text.new place.new }
 {
-    let mut sink = Grown::new(alloc);
-    let answer = list_to(alloc, Slice::new(bytes), tail_of(allow_cut), &mut sink);
-    show(alloc, text, sink, answer, place)
+    show_task(alloc, Task::List(bytes), allow_cut, text, place)
 }
 
 /// A line for each block of a pcapng capture.
@@ -312,14 +254,9 @@ pub extern "C" fn capt_blocks(
     text: &mut Text,
     place: &mut Place,
 ) -> u32
-    ensures text { JobEnds (Prints (block_list (tail_of allow_cut) bytes.now)
-        (block_refusal (tail_of allow_cut) bytes.now))
-        result place.new text.new }
-    ensures read { result ≡ 3 → ⊥ }
+    ensures { ShowsTask (Task.Blocks bytes.entry) (tail_of allow_cut) text.old place.old result text.new place.new }
 {
-    let mut sink = Grown::new(alloc);
-    let answer = blocks_to(alloc, Slice::new(bytes), tail_of(allow_cut), &mut sink);
-    show(alloc, text, sink, answer, place)
+    show_task(alloc, Task::Blocks(bytes), allow_cut, text, place)
 }
 
 /// A capture as a file of the other format, or of the same.
@@ -333,24 +270,14 @@ pub extern "C" fn capt_convert(
     text: &mut Text,
     place: &mut Place,
 ) -> u32
-    ensures text { JobEnds (Prints (convert_text (format_of pcap) (order_of big) (tail_of allow_cut) bytes.now)
-        (convert_refusal (format_of pcap) (tail_of allow_cut) bytes.now))
-        result place.new text.new }
-    ensures read { result ≡ 3 → ⊥ }
+    ensures { ShowsTask (Task.Convert bytes.entry (order_of big) (format_of pcap)) (tail_of allow_cut)
+        text.old place.old result text.new place.new }
 {
-    let mut sink = Grown::new(alloc);
-    let answer = convert_to(
-        alloc,
-        Slice::new(bytes),
-        tail_of(allow_cut),
-        order_of(big),
-        format_of(pcap),
-        &mut sink,
-    );
-    show(alloc, text, sink, answer, place)
+    let task = Task::Convert(bytes, order_of(big), format_of(pcap));
+    show_task(alloc, task, allow_cut, text, place)
 }
 
-/// Lets go a text. It may be closed already.
+/// Closes a text. It may be closed already.
 #[unsafe(no_mangle)]
 pub extern "C" fn capt_text_close(alloc: Global, text: &mut Text)
     ensures { IsTextClosed text.new }

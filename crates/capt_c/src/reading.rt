@@ -8,12 +8,14 @@ ghost use Rattle.capt_c.specs.Held.{IsClosed};
 ghost use Rattle.capt_c.specs.Packets.{StepsPacket};
 ghost use Rattle.capt_c.specs.Sources.{tells_of, input_coming, input_can_fail};
 ghost use Rattle.capt_c.specs.Reading.{Batch, EndTold, Misused, Nexts, NextsMany, OpensCapture, TellsEnd};
-ghost use Rattle.capt_c.specs.Reading.{place_of_step, status_of_step};
+ghost use Rattle.capt_c.specs.Reading.{status_of_found};
 
-use crate::answers::{DONE, MEMORY, MISUSE, PACKET, Place, nowhere, place_of, status_of, tail_of};
+use crate::answers::{
+    DONE, MISUSE, PACKET, Place, Success, status_and_place, status_of_result, tail_of,
+};
 use crate::batches::step_many;
 use crate::feeding::step_fed;
-use crate::handles::{Handle, Held};
+use crate::handles::{Handle, Held, with_open};
 use crate::packets::{Packet, packet_of};
 use crate::sources::{Input, Slice};
 use cap_bytes::{Fault, Tracked};
@@ -21,7 +23,7 @@ use cap_source::{Capture, Ending, Format, Head, PacketFeed, next_packet};
 use std::alloc::Global;
 use std::io::Stdin;
 
-/// Tells the next packet and passes it, if there is one.
+/// Writes the next packet and advances past it, if there is one.
 #[inline(always)]
 pub fn step<F: PacketFeed>(feed: &mut F, packet: &mut Packet) -> Result<bool, Fault>
     ensures answer { StepsPacket (F.feed feed.old) packet.old result packet.new (F.feed feed.new) }
@@ -37,30 +39,22 @@ pub fn step<F: PacketFeed>(feed: &mut F, packet: &mut Packet) -> Result<bool, Fa
     }
 }
 
-// Tells how a step ended.
-fn told(answer: Result<bool, Fault>, place: &mut Place) -> u32
-    ensures status { result ≡ status_of_step answer }
-    ensures place { place.new ≡ place_of_step answer }
-{
-    match answer {
-        Ok(found) => {
-            *place = nowhere();
-            if found { PACKET } else { DONE }
-        }
-        Err(fault) => {
-            *place = place_of(fault);
-            status_of(fault)
-        }
+// Whether there was a next packet.
+impl Success for bool {
+    ghost status = { status_of_found };
+
+    fn status(self) -> u32 {
+        if self { PACKET } else { DONE }
     }
 }
 
-// Tells the next packet of what is held, if that is a capture.
+// Writes the next packet of what is held, if that is a capture.
 fn next_of(held: &mut Held, packet: &mut Packet, place: &mut Place) -> u32
     ensures { Nexts (λ c. ⟦<Capture<Input> as PacketFeed>⟧.feed c) (Some held.old) packet.old place.old result
         packet.new place.new (Some held.new) }
 {
     match held {
-        Held::Capture(capture) => told(step(capture, packet), place),
+        Held::Capture(capture) => status_and_place(step(capture, packet), place),
         Held::Fed(fed) => step_fed(fed, packet, place),
         Held::Table(_) | Held::Text(_) => MISUSE,
     }
@@ -74,25 +68,21 @@ pub struct End {
     pub skipped: u64,
     /// Whether it is a pcapng file, and no pcap file.
     pub is_pcapng: bool,
-    /// Whether it ended in a rest that was cut, and that was dropped.
+    /// Whether its last record or block was cut off, and dropped.
     pub was_cut: bool,
 }
 
-// Opens a capture over what `input` gives. What the handle held is let go.
+// Opens a capture over `input`. What the handle held is closed.
 fn open(alloc: Global, reader: &mut Handle, input: Input, allow_cut: bool) -> u32
     ensures closed { result ≡ 5 → IsClosed reader.new.kept.value reader.new.kept.at reader.new.is_open }
     ensures opens { OpensCapture (λ c. ⟦<Capture<Input> as PacketFeed>⟧.feed c) (tail_of allow_cut)
         (tells_of input) (input_coming input) (input_can_fail input) result reader.new.kept.value }
 {
     let capture = Capture::new(alloc, input, 1, tail_of(allow_cut));
-    if reader.hold(alloc, Held::Capture(capture)) {
-        DONE
-    } else {
-        MEMORY
-    }
+    status_of_result(reader.hold(alloc, Held::Capture(capture)))
 }
 
-/// Opens a capture over bytes in memory, which stay as they are until it is closed. What the handle held is let go.
+/// Opens a capture over bytes in memory, which stay as they are until it is closed. What the handle held is closed.
 #[unsafe(no_mangle)]
 pub extern "C" fn capt_open(
     alloc: Global,
@@ -107,7 +97,7 @@ pub extern "C" fn capt_open(
     open(alloc, reader, Input::Memory(Slice::new(bytes)), allow_cut)
 }
 
-/// Opens a capture over standard input, which is read until it is closed. What the handle held is let go.
+/// Opens a capture over standard input, which is read until it is closed. What the handle held is closed.
 #[unsafe(no_mangle)]
 pub extern "C" fn capt_open_stdin(
     alloc: Global,
@@ -127,7 +117,7 @@ pub extern "C" fn capt_open_stdin(
     )
 }
 
-/// Tells the next packet of a capture, and passes it.
+/// Writes the next packet of a capture, and advances past it.
 #[unsafe(no_mangle)]
 pub extern "C" fn capt_next(
     alloc: Global,
@@ -138,18 +128,10 @@ pub extern "C" fn capt_next(
     ensures { Nexts (λ c. ⟦<Capture<Input> as PacketFeed>⟧.feed c) reader.old.kept.value packet.old place.old result
         packet.new place.new reader.new.kept.value }
 {
-    match reader.take(alloc) {
-        Some(held) => {
-            let mut held = held;
-            let status = next_of(&mut held, packet, place);
-            reader.put(held);
-            status
-        }
-        None => MISUSE, // packet and place stay
-    }
+    with_open!(reader, alloc, |held| next_of(&mut held, packet, place))
 }
 
-// Tells the next packets of what is held, if that is a capture.
+// Writes the next packets of what is held, if that is a capture.
 fn next_many_of(
     held: &mut Held,
     packets: &mut [Packet],
@@ -162,12 +144,12 @@ fn next_many_of(
         (record { count = count.new; packets = packets.new; place = place.new }) (Some held.new) }
 {
     match held {
-        Held::Capture(capture) => told(step_many(capture, packets, count), place),
+        Held::Capture(capture) => status_and_place(step_many(capture, packets, count), place),
         Held::Fed(_) | Held::Table(_) | Held::Text(_) => MISUSE,
     }
 }
 
-/// Tells the next packets of a capture, and passes them: one, and those after it that are at hand without a read, as
+/// Writes the next packets of a capture, and advances past them: one, and those after it that need no further read, as
 /// many as there is room for, at least for one.
 #[unsafe(no_mangle)]
 pub extern "C" fn capt_next_many(
@@ -189,18 +171,14 @@ pub extern "C" fn capt_next_many(
     if packets.is_empty() {
         return MISUSE;
     }
-    match reader.take(alloc) {
-        Some(held) => {
-            let mut held = held;
-            let status = next_many_of(&mut held, packets, count, place);
-            reader.put(held);
-            status
-        }
-        None => MISUSE,
-    }
+    with_open!(
+        reader,
+        alloc,
+        |held| next_many_of(&mut held, packets, count, place)
+    )
 }
 
-/// Lets go what a handle holds. It may be closed already.
+/// Closes a handle. It may be closed already.
 #[unsafe(no_mangle)]
 pub extern "C" fn capt_close(alloc: Global, handle: &mut Handle)
     ensures { IsClosed handle.new.kept.value handle.new.kept.at handle.new.is_open }
@@ -208,8 +186,8 @@ pub extern "C" fn capt_close(alloc: Global, handle: &mut Handle)
     let _ = handle.take(alloc);
 }
 
-// Tells how a capture ended, if nothing comes next of it.
-fn tell_end(capture: &mut Capture<Input>, ending: &mut End) -> u32
+// Writes how a capture ended, if it has no more packets.
+fn end_of_capture(capture: &mut Capture<Input>, ending: &mut End) -> u32
     ensures answer { (answer : Result Head Fault)
         × GivesHead (⟦<Capture<Input> as PacketFeed>⟧.feed capture.old) answer
         (⟦<Capture<Input> as PacketFeed>⟧.feed capture.new)
@@ -235,30 +213,22 @@ fn tell_end(capture: &mut Capture<Input>, ending: &mut End) -> u32
     }
 }
 
-// Tells how what is held ended, if that is a capture of which nothing comes next.
+// Writes how what is held ended, if that is a capture without more packets.
 fn end_of(held: &mut Held, ending: &mut End) -> u32
     ensures { TellsEnd (λ c. ⟦<Capture<Input> as PacketFeed>⟧.feed c) (Some held.old) ending.old result ending.new
         (Some held.new) }
 {
     match held {
-        Held::Capture(capture) => tell_end(capture, ending),
+        Held::Capture(capture) => end_of_capture(capture, ending),
         Held::Fed(_) | Held::Table(_) | Held::Text(_) => MISUSE,
     }
 }
 
-/// Tells how a capture ended of which all packets were told.
+/// Writes how a capture ended, once all of its packets were returned.
 #[unsafe(no_mangle)]
 pub extern "C" fn capt_end(alloc: Global, reader: &mut Handle, ending: &mut End) -> u32
     ensures { TellsEnd (λ c. ⟦<Capture<Input> as PacketFeed>⟧.feed c) reader.old.kept.value ending.old result
         ending.new reader.new.kept.value }
 {
-    match reader.take(alloc) {
-        Some(held) => {
-            let mut held = held;
-            let status = end_of(&mut held, ending);
-            reader.put(held);
-            status
-        }
-        None => MISUSE,
-    }
+    with_open!(reader, alloc, |held| end_of(&mut held, ending))
 }

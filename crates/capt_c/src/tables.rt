@@ -1,15 +1,15 @@
 //! The report over captures in memory, packet by packet.
-ghost use Rattle.std.specs.Prelude.{◌≡◌, ◌≤◌, [], IfOk, IsOkUnless, Some, false, length, map};
-ghost use Rattle.cap_merge.specs.inner.Readers.{IsUnreadRun};
-ghost use Rattle.cap_talks.specs.inner.table.Stepping.{TableStands};
-ghost use Rattle.cap_talks.specs.inner.table.TableView.{table_of};
+ghost use Rattle.std.specs.Prelude.{◌≡◌, ◌≤◌, IsOkUnless, OnErr, Some, length};
 ghost use Rattle.cap_tool.specs.Jobs.{tail_of};
+ghost use Rattle.capt_c.specs.Answers.{status_of_result, status_of_unit};
 ghost use Rattle.capt_c.specs.Held.{IsClosed};
-ghost use Rattle.capt_c.specs.Tables.{OpensTable, StepsTable, WritesTable, reader_of_file, status_of_step};
-ghost use Rattle.capt_c.specs.Tables.{place_of_step};
+ghost use Rattle.capt_c.specs.Jobs.{AreFiles};
+ghost use Rattle.capt_c.specs.Tables.{OpensTable, StepsTable, WritesTable, status_of_step};
 
-use crate::answers::{DONE, MEMORY, MISUSE, PACKET, Place, nowhere, place_of, status_of, tail_of};
-use crate::handles::{Handle, Held};
+use crate::answers::{
+    DONE, MISUSE, PACKET, Place, Success, status_and_place, status_of_result, tail_of,
+};
+use crate::handles::{Handle, Held, with_open};
 use crate::jobs::{Bytes, Text, are_files, show, slices};
 use crate::sinks::Grown;
 use crate::sources::Slice;
@@ -19,26 +19,28 @@ use cap_source::Capture;
 use cap_talks::{Step, Table};
 use std::alloc::Global;
 
-// A table of those files, of which no packet was taken.
-fn table_over(
+// Closes what the handle held, and opens a table of those files.
+fn open_table(
     alloc: Global,
+    table: &mut Handle,
     files: &[Bytes<'static>],
     tail: Tail,
-) -> Result<Box<Table<Capture<Slice<'static>>>>, Fault>
+) -> Result<(), Fault>
     requires some { 1 ≤ length files.now }
     requires most { length files.now ≤ 32 }
-    ensures unread { IfOk result (λ b. IsUnreadRun tail (map reader_of_file files.now) (table_of b.value).parts) }
-    ensures stands { IfOk result (λ b. TableStands (table_of b.value) []) }
-    ensures going { IfOk result (λ b. (table_of b.value).done ≡ false) }
+    ensures opens { OpensTable tail files.now (status_of_result status_of_unit result) table.new.kept.value }
+    ensures closed { OnErr result (IsClosed table.new.kept.value table.new.kept.at table.new.is_open) }
     ensures fault { IsOkUnless result Fault.Memory }
 {
+    let _ = table.take(alloc);
     let sources = slices(alloc, files)?;
     let merged = merge_files(alloc, sources, tail)?;
-    Ok(Box::new(alloc, Table::new(alloc, merged))?)
+    let opened = Box::new(alloc, Table::new(alloc, merged))?;
+    table.hold(alloc, Held::Table(opened))
 }
 
-/// Opens a table of 1 to 32 captures in memory, which stay as they are until it is closed. What the handle held is let
-/// go.
+/// Opens a table of 1 to 32 captures in memory, which stay as they are until it is closed. What the handle held is
+/// closed.
 #[unsafe(no_mangle)]
 pub extern "C" fn capt_table_open(
     alloc: Global,
@@ -46,72 +48,45 @@ pub extern "C" fn capt_table_open(
     files: &[Bytes<'static>],
     allow_cut: bool,
 ) -> u32
-    ensures opens { (1 ≤ length files.now) × (length files.now ≤ 32)
+    ensures opens { AreFiles (length files.now)
         → OpensTable (tail_of allow_cut) files.now result table.new.kept.value }
     ensures closed { result ≡ 5 → IsClosed table.new.kept.value table.new.kept.at table.new.is_open }
-    ensures misuse { ((1 ≤ length files.now) × (length files.now ≤ 32) → ⊥)
+    ensures misuse { (AreFiles (length files.now) → ⊥)
         → (result ≡ 6) × (table.new.kept.value ≡ table.old.kept.value) }
 {
     if !are_files(files.len()) {
         return MISUSE;
     }
-    let _ = table.take(alloc);
-    match table_over(alloc, files, tail_of(allow_cut)) {
-        Ok(opened) => {
-            if table.hold(alloc, Held::Table(opened)) {
-                DONE
-            } else {
-                MEMORY
-            }
-        }
-        Err(_) => MEMORY,
-    }
+    status_of_result(open_table(alloc, table, files, tail_of(allow_cut)))
 }
 
-// Tells how a step ended.
-fn told(answer: Result<Step, Fault>, place: &mut Place) -> u32
-    ensures status { result ≡ status_of_step answer }
-    ensures place { place.new ≡ place_of_step answer }
-{
-    match answer {
-        Ok(step) => {
-            *place = nowhere();
-            match step {
-                Step::Took => PACKET,
-                Step::Done => DONE,
-            }
-        }
-        Err(fault) => {
-            *place = place_of(fault);
-            status_of(fault)
+impl Success for Step {
+    ghost status = { status_of_step };
+
+    fn status(self) -> u32 {
+        match self {
+            Step::Took => PACKET,
+            Step::Done => DONE,
         }
     }
 }
 
-// Takes the next packet of what is held, if that is a table.
+// Counts the next packet of what is held, if that is a table.
 fn step_of(held: &mut Held, place: &mut Place) -> u32
     ensures { StepsTable (Some held.old) place.old result place.new (Some held.new) }
 {
     match held {
-        Held::Table(table) => told(table.step(), place),
+        Held::Table(table) => status_and_place(table.step(), place),
         Held::Capture(_) | Held::Fed(_) | Held::Text(_) => MISUSE,
     }
 }
 
-/// Takes the packet of a table that comes next, in the order of exact time.
+/// Counts the next packet of a table, in the order of exact time.
 #[unsafe(no_mangle)]
 pub extern "C" fn capt_table_step(alloc: Global, table: &mut Handle, place: &mut Place) -> u32
     ensures { StepsTable table.old.kept.value place.old result place.new table.new.kept.value }
 {
-    match table.take(alloc) {
-        Some(held) => {
-            let mut held = held;
-            let status = step_of(&mut held, place);
-            table.put(held);
-            status
-        }
-        None => MISUSE, // place stays
-    }
+    with_open!(table, alloc, |held| step_of(&mut held, place))
 }
 
 // Shows the report so far of what is held, if that is a table.
@@ -128,7 +103,7 @@ fn write_of(alloc: Global, held: &Held, text: &mut Text, place: &mut Place) -> u
     }
 }
 
-/// The report over the packets that a table has taken.
+/// The report over the packets that a table has counted.
 #[unsafe(no_mangle)]
 pub extern "C" fn capt_table_write(
     alloc: Global,
@@ -139,12 +114,5 @@ pub extern "C" fn capt_table_write(
     ensures text { WritesTable table.old.kept.value text.old place.old result text.new place.new }
     ensures table { table.new.kept.value ≡ table.old.kept.value }
 {
-    match table.take(alloc) {
-        Some(held) => {
-            let status = write_of(alloc, &held, text, place);
-            table.put(held);
-            status
-        }
-        None => MISUSE, // text and place stay
-    }
+    with_open!(table, alloc, |held| write_of(alloc, &held, text, place))
 }

@@ -6,8 +6,8 @@ returns-in-Capture c =
     rw c.in-Capture.is (
       c.step_many.result,
       c.step_many.new.feed,
-      c.told.ensures.status,
-      c.told.ensures.place,
+      c.status_and_place.ensures.status,
+      c.status_and_place.ensures.place,
       refl,
       c.step_many.ensures.answer,
       c.step_many.ensures.keeps,

@@ -1,4 +1,4 @@
--- `loosened` gives the box's pointer back.
+-- `into_raw_box` gives the box's pointer back.
 use Rattle.std.proofs.Common.{◌≡◌, List, [], ◌∷◌, ◌++◌, refl, sym, ap, ◌∙◌, subst}
 use mir.Syntax.{impl, tnil, dnil}
 use mir.Val.{Val, vptr}
@@ -30,15 +30,15 @@ use Rattle.std.specs.contracts.impls.GlobalAllocator.TheImpl.{ghosts}
 use Rattle.std.proofs.alloc.Global.TheLaws as global_laws
 use Rattle.capt_c.specs.declared.handles.Held.{Held}
 use Rattle.capt_c.specs.contracts.handles.Held as inner
-use Rattle.capt_c.proofs.Values.{both, loose_good, loose_in}
-use Rattle.capt_c.proofs.Keeps.{Row, word, inside, word_good, kept_out}
-use Rattle.capt_c.specs.contracts.handles.Kept.loosened.{ended, clauses}
-use Rattle.capt_c.specs.contracts.handles.Kept.loosened.Key.{name as #self}
-use Rattle.capt_c.proofs.handles.Kept.loosened.Statement.{statement}
-use Rattle.capt_c.proofs.handles.Kept.loosened.Code as code
+use Rattle.capt_c.proofs.RawBoxValues.{both, raw_box_good, raw_box_in}
+use Rattle.capt_c.proofs.PointerValues.{Row, word, inside, word_good, pointer_out}
+use Rattle.capt_c.specs.contracts.handles.OwnedPointer.into_raw_box.{ended, clauses}
+use Rattle.capt_c.specs.contracts.handles.OwnedPointer.into_raw_box.Key.{name as #self}
+use Rattle.capt_c.proofs.handles.OwnedPointer.into_raw_box.Statement.{statement}
+use Rattle.capt_c.proofs.handles.OwnedPointer.into_raw_box.Code as code
 
-pub loosened_spec : {M : Type 1} → statement M
-loosened_spec 𝓤 𝓛 𝓜 𝓡 wired =
+pub into_raw_box_spec : {M : Type 1} → statement M
+into_raw_box_spec 𝓤 𝓛 𝓜 𝓡 wired =
     let H = 𝓛.H in let 𝓣 = tables 𝓤 H 𝓜 𝓡 𝓡.env in let R : RattleType = inner.the_row in let Z : RattleType =
     global.the_row in let LZ = global_laws.the_row_laws in
     let c = clauses 𝓛 𝓜.mem 𝓡.returns in let fn = code.function in
@@ -52,7 +52,7 @@ loosened_spec 𝓤 𝓛 𝓜 𝓡 wired =
     record { row = Z; laws = LZ; g = ghosts; d = impl [] tnil dnil; drops = impl [] tnil dnil } in let Post : Val
     → SProp 𝓤 = (walk_of 𝓛 ended hs c).post z in let Run : List Val → SProp 𝓤 = λ ws. WpFn 𝓤 H 𝓣.C 𝓣.Λ fn ws Post in
     qed 𝓛 ((raw (alive 𝓛 ended.signature z.0.0 z.0.1) ⊛ ‵ (owns (types_at ended.signature.params z.0.0) z.0.3 z.0.4))
-    ∷ raw ((c z.0.0 z.0.3).requires z.1) ∷ []) ∵ split ! $ move ! (1 ∷ []) $ fsplit ! $ kept_out ! v z.0.4.0 (λ is.
+    ∷ raw ((c z.0.0 z.0.3).requires z.1) ∷ []) ∵ split ! $ move ! (1 ∷ []) $ fsplit ! $ pointer_out ! v z.0.4.0 (λ is.
     move ! (1 ∷ []) $ fsplit ! $ handle_tells al ! a z.0.4.1.0
     (λ h ea fits. move ! (4 ∷ []) $ heard ! (IsSome v.value)
     (λ there. let x : Held = (inside v.value there).0 in let e = (inside v.value there).1 in
@@ -65,8 +65,8 @@ loosened_spec 𝓤 𝓛 𝓜 𝓡 wired =
     sets ! (of_opd ! (get_in ! (fld ! refl (stop !)) (sub ! 0 refl (whole !)))) refl (tt, tt) $
     sets ! (of_opd ! (get ! refl)) refl (tt, tt) $
     sets ! (agg ! (and_then ! (get ! refl) (and_then ! (get ! refl) (no_more !)))) refl
-    (loose_good R Z LZ ghosts b o h fits) $
-    loose_in R Z LZ ghosts ! b o h a x $
+    (raw_box_good R Z LZ ghosts b o h fits) $
+    raw_box_in R Z LZ ghosts ! b o h a x $
     use0 𝓛 (raw (fact 𝓤 (v.value ≡ Some x))) (fact_i 𝓤 (v.value ≡ Some x) (emp 𝓤) e) $ nothing ! $ nothing ! $ fjoin ! $
     nothing ! $ fjoin ! $
     returns ! (look_at ! 0 refl) $ free_all ! refl $ keep ! (4 ∷ 0 ∷ 2 ∷ 1 ∷ []) $ by !

@@ -20,11 +20,11 @@ use denote.Triple.Walked.{Stays, stay_dropped, walk_of, Goes-dropped}
 use Rattle.std.specs.Prelude.{Option, None}
 use Rattle.std.proofs.raw_atomic.Walks.{proved, leaves}
 use Rattle.capt_c.specs.declared.handles.Held.{Held}
-use Rattle.capt_c.proofs.Keeps.{word, word_good, kept_in}
-use Rattle.capt_c.specs.contracts.handles.Kept.nothing.{ended, clauses}
-use Rattle.capt_c.specs.contracts.handles.Kept.nothing.Key.{name as #self}
-use Rattle.capt_c.proofs.handles.Kept.nothing.Statement.{statement}
-use Rattle.capt_c.proofs.handles.Kept.nothing.Code as code
+use Rattle.capt_c.proofs.PointerValues.{word, word_good, pointer_in}
+use Rattle.capt_c.specs.contracts.handles.OwnedPointer.nothing.{ended, clauses}
+use Rattle.capt_c.specs.contracts.handles.OwnedPointer.nothing.Key.{name as #self}
+use Rattle.capt_c.proofs.handles.OwnedPointer.nothing.Statement.{statement}
+use Rattle.capt_c.proofs.handles.OwnedPointer.nothing.Code as code
 
 pub nothing_spec : {M : Type 1} → statement M
 nothing_spec 𝓤 𝓛 𝓜 𝓡 wired =
@@ -38,7 +38,7 @@ nothing_spec 𝓤 𝓛 𝓜 𝓡 wired =
     qed 𝓛 ((raw (alive 𝓛 ended.signature κs qs) ⊛ ‵ (owns (types_at ended.signature.params κs) a (rawptr_vals p, tt)))
     ∷ ‵ ftrue ∷ []) ∵ split ! $
     enter ! 𝓣.C 𝓣.Λ fn (ptr_val p ∷ []) Post $ alloc_all ! (λ l. pass_all ! refl ((rawptr_Lawful 𝓛).typed p _ refl) $
-    sets ! (agg ! (and_then ! (get ! refl) (no_more !))) refl (word_good p) $ move ! (2 ∷ []) $ kept_in ! p none $
+    sets ! (agg ! (and_then ! (get ! refl) (no_more !))) refl (word_good p) $ move ! (2 ∷ []) $ pointer_in ! p none $
     use0 𝓛 (raw (fact 𝓤 ((none ≡ none) × (p ≡ p)))) (fact_i 𝓤 ((none ≡ none) × (p ≡ p)) (emp 𝓤) (refl, refl)) $
     nothing ! $ nothing ! $ fjoin ! $
     returns ! (look_at ! 0 refl) $ free_all ! refl $ keep ! (3 ∷ 0 ∷ 2 ∷ 1 ∷ []) $ by !

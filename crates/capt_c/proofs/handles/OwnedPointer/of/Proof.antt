@@ -1,4 +1,4 @@
--- `holding` keeps the box's pointer.
+-- `of` keeps the box's pointer.
 use Rattle.std.proofs.Common.{◌≡◌, List, [], ◌∷◌, ◌++◌, refl, sym, subst}
 use mir.Val.{Val, vptr}
 use base.Logic.{SProp, ent, emp, id⊢}
@@ -25,26 +25,26 @@ use Rattle.std.specs.contracts.impls.GlobalAllocator.TheImpl.{ghosts}
 use Rattle.std.proofs.alloc.Global.TheLaws as global_laws
 use Rattle.capt_c.specs.declared.handles.Held.{Held}
 use Rattle.capt_c.specs.contracts.handles.Held as inner
-use Rattle.capt_c.proofs.Values.{both, Loose, loose_good, loose_out}
-use Rattle.capt_c.proofs.Keeps.{word, kept_in}
-use Rattle.capt_c.specs.contracts.handles.Kept.holding.{ended, clauses}
-use Rattle.capt_c.specs.contracts.handles.Kept.holding.Key.{name as #self}
-use Rattle.capt_c.proofs.handles.Kept.holding.Statement.{statement}
-use Rattle.capt_c.proofs.handles.Kept.holding.Code as code
+use Rattle.capt_c.proofs.RawBoxValues.{both, RawBox, raw_box_good, raw_box_out}
+use Rattle.capt_c.proofs.PointerValues.{word, pointer_in}
+use Rattle.capt_c.specs.contracts.handles.OwnedPointer.of.{ended, clauses}
+use Rattle.capt_c.specs.contracts.handles.OwnedPointer.of.Key.{name as #self}
+use Rattle.capt_c.proofs.handles.OwnedPointer.of.Statement.{statement}
+use Rattle.capt_c.proofs.handles.OwnedPointer.of.Code as code
 
-pub holding_spec : {M : Type 1} → statement M
-holding_spec 𝓤 𝓛 𝓜 𝓡 wired =
+pub of_spec : {M : Type 1} → statement M
+of_spec 𝓤 𝓛 𝓜 𝓡 wired =
     let H = 𝓛.H in let 𝓣 = tables 𝓤 H 𝓜 𝓡 𝓡.env in let R : RattleType = inner.the_row in let Z : RattleType =
     global.the_row in let LZ = global_laws.the_row_laws in
-    let c = clauses 𝓛 𝓜.mem 𝓡.returns in let fn = code.function in let Row : RattleType = Loose R Z LZ ghosts in
+    let c = clauses 𝓛 𝓜.mem 𝓡.returns in let fn = code.function in let Row : RattleType = RawBox R Z LZ ghosts in
     let hs : Stays ended.signature.params ended.kept = (stay_dropped (plain (λ _. Row)) no, tt) in
     proved_at 𝓛 ended hs c 𝓜 𝓡 (Goes-blank 𝓛 0 (plain (λ _. Row)) no (λ κs x f. tt), tt) #self fn
     (code.unfolded 𝓤 H 𝓜 𝓡 wired) (λ z are.
     let v = z.0.3.0 in let Post : Val → SProp 𝓤 = (walk_of 𝓛 ended hs c).post z in let Run : List Val
     → SProp 𝓤 = λ ws. WpFn 𝓤 H 𝓣.C 𝓣.Λ fn ws Post in
     qed 𝓛 ((raw (alive 𝓛 ended.signature z.0.0 z.0.1) ⊛ ‵ (owns (types_at ended.signature.params z.0.0) z.0.3 z.0.4))
-    ∷ ‵ ftrue ∷ []) ∵ split ! $ move ! (1 ∷ []) $ fsplit ! $ loose_out R Z LZ ghosts ! v z.0.4.0 (λ b o h e ws fits.
-    let w : Val = both (vptr b o) h in let typed = loose_good R Z LZ ghosts b o h fits in let some : Option Held =
+    ∷ ‵ ftrue ∷ []) ∵ split ! $ move ! (1 ∷ []) $ fsplit ! $ raw_box_out R Z LZ ghosts ! v z.0.4.0 (λ b o h e ws fits.
+    let w : Val = both (vptr b o) h in let typed = raw_box_good R Z LZ ghosts b o h fits in let some : Option Held =
     Some v.value in
     suffices ! (Run (w ∷ [])) (subst (λ (us : List Val). ent 𝓤 (Run (w ∷ [])) (Run us)) (sym (λ i. ws i ++ []))
     (id⊢ 𝓤 (Run (w ∷ [])))) $
@@ -52,7 +52,7 @@ holding_spec 𝓤 𝓛 𝓜 𝓡 wired =
     sets ! (of_opd ! (get_in ! (fld ! refl (stop !)) (sub ! 0 refl (whole !)))) refl (tt, tt) $
     sets ! (of_opd ! (get ! refl)) refl (tt, tt) $
     sets ! (agg ! (and_then ! (get ! refl) (no_more !))) refl (tt, (tt, tt)) $
-    kept_in ! (block_ptr b o) some $
+    pointer_in ! (block_ptr b o) some $
     use0 𝓛 (raw (fact 𝓤 (some ≡ some))) (fact_i 𝓤 (some ≡ some) (emp 𝓤) refl) $ nothing ! $ nothing ! $ fjoin ! $
     returns ! (look_at ! 0 refl) $ free_all ! refl $ keep ! (5 ∷ 0 ∷ 2 ∷ 1 ∷ []) $ by !
     (leaves 𝓛 ended hs c z (word (block_ptr b o)) (record { at = block_ptr b o; value = some }) (tt, tt)
