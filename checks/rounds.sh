@@ -117,11 +117,11 @@ same() { holds "$1, its bytes" cmp -s "$2" "$3"; }
 all=([0-9][0-9])
 
 for jobs in 1 4; do
-    JOBS=$jobs rounds out "${all[@]}"
+    JOBS=$jobs rounds -o out "${all[@]}"
     says "70 captures, $jobs at once" 0 ''
     same "70 captures, $jobs at once" out sorted
 done
-chmod 0640 out; rounds out "${all[@]}"; says 'over an older OUT' 0 ''; same 'over an older OUT' out sorted
+chmod 0640 out; rounds -o out "${all[@]}"; says 'over an older OUT' 0 ''; same 'over an older OUT' out sorted
 holds 'the mode of an older OUT' [ "$(stat -c %a out)" = 640 ]
 
 # OUT that is a FILE, under whatever name, is as it was
@@ -129,31 +129,31 @@ cp sorted kept; mkdir folder; ln -s ../sorted folder/soft; ln sorted hard
 for name in sorted ./sorted "$work/sorted" folder/../sorted folder/soft hard; do
     for captures in '' "${all[*]}"; do
         # shellcheck disable=SC2086 # numbers
-        rounds "$name" $captures sorted
+        rounds -o "$name" $captures sorted
         says "into $name" 2 "fault: output
   OUT is file $(wc -w <<< "$captures sorted"): sorted"
         same "into $name" sorted kept
     done
 done
-rounds folder/soft "${all[@]}"; says 'through a link' 0 ''; holds 'a link stays one' [ -L folder/soft ]
+rounds -o folder/soft "${all[@]}"; says 'through a link' 0 ''; holds 'a link stays one' [ -L folder/soft ]
 
 # a refused file is told by its number and its name, and OUT is as it was, or isn't there
 head -c 20 01 > 'cut'; long=$(printf 'a%.0s' $(seq 200)).pcapng; cp 00 "$long"
 echo old > older
 for out in older none; do
-    rounds "$out" "${all[@]:0:37}" cut "${all[@]:37}"
+    rounds -o "$out" "${all[@]:0:37}" cut "${all[@]:37}"
     says "a cut file, into $out" 1 'refused: file 38 offset 0 rule 3 cut
   cut'
 done
-rounds none cut "${all[@]}" cut; says 'two cut files' 1 'refused: file 1 offset 0 rule 3 cut
+rounds -o none cut "${all[@]}" cut; says 'two cut files' 1 'refused: file 1 offset 0 rule 3 cut
   cut
 refused: file 72 offset 0 rule 3 cut
   cut'
-rounds none 00 cut; says 'a cut file of two' 1 'refused: file 2 offset 0 rule 3 cut
+rounds -o none 00 cut; says 'a cut file of two' 1 'refused: file 2 offset 0 rule 3 cut
   cut'
-rounds none "${all[@]}" folder; says 'a folder' 1 'fault: read file 71 offset 0
+rounds -o none "${all[@]}" folder; says 'a folder' 1 'fault: read file 71 offset 0
   folder'
-rounds none "${all[@]}" missing; says 'a missing file' 1 'fault: open file 71
+rounds -o none "${all[@]}" missing; says 'a missing file' 1 'fault: open file 71
   missing'
 holds 'OUT after a refusal' [ "$(cat older)" = old ]
 holds 'no OUT after a refusal' [ ! -e none ]
@@ -171,55 +171,76 @@ PY
 done
 printf '\xd4\xc3\xb2\xa1\x02\0\x04\0\0\0\0\0\0\0\0\0\0\0\x04\0\x01\0\0\0' > empty
 mapfile -t empty < <(yes empty | head -n 31)
-rounds none many1 "${empty[@]}" many2 "${empty[@]}" empty
+rounds -o none many1 "${empty[@]}" many2 "${empty[@]}" empty
 holds '1,025 interfaces' grep -qx 'refused: file [12] offset [0-9]* rule 13 interface-limit, of the merge of files \(1 to 32\|33 to 64\)' said
 
 # options go on to each merge; names of any kind are names
-rounds --allow-cut --order big out "${all[@]}" one.pcap; says 'a missing file with options' 1 'fault: open file 71
+rounds --allow-cut --order big -o out "${all[@]}" one.pcap; says 'a missing file with options' 1 'fault: open file 71
   one.pcap'
 "$program" convert --to pcapng -o whole sorted; head -c -1 whole > -cut; "$program" merge --allow-cut --order big -o wanted -- -cut
-for words in '--allow-cut --order big' '--order=big --allow-cut --'; do
+for words in '--allow-cut --order big -o out --' '-oout --order=big --allow-cut --' '--output=out --order=big --allow-cut --'; do
     # shellcheck disable=SC2086 # words of a command line
-    rounds $words out -cut; says "a cut file with $words" 0 ''; same "a cut file with $words" out wanted
+    rounds $words -cut; says "a cut file with $words" 0 ''; same "a cut file with $words" out wanted
     # shellcheck disable=SC2086 # words of a command line
-    rounds $words out "${empty[@]}" "${empty[@]}" -cut; says "a cut file in rounds with $words" 0 ''; same "a cut file in rounds with $words" out wanted
+    rounds $words "${empty[@]}" "${empty[@]}" -cut; says "a cut file in rounds with $words" 0 ''; same "a cut file in rounds with $words" out wanted
 done
-rounds out "${empty[@]}" "${empty[@]}" "$long" "${all[@]:1}"; says 'a long name' 0 ''
+rounds -o out "${empty[@]}" "${empty[@]}" "$long" "${all[@]:1}"; says 'a long name' 0 ''
 "$program" merge -o wanted sorted
 mapfile -t most < <(yes empty | head -n 1024)
-rounds out "${most[@]}" sorted; says '1,025 captures' 0 ''; same '1,025 captures' out wanted
+rounds -o out "${most[@]}" sorted; says '1,025 captures' 0 ''; same '1,025 captures' out wanted
+
+# OUT as the first word, and in the other format
+rm -f bare; rounds bare "${all[@]}"; says 'OUT as a bare word' 0 ''; same 'OUT as a bare word' bare sorted
+mapfile -t alike < <(yes one.pcap | head -n 40)
+{ cat empty; printf '\x01\0\0\0\x60\xe3\x16\0\x04\0\0\0\x04\0\0\0\x01\x02\x03\x04'; } > one.pcap
+rounds -o all.pcapng "${alike[@]}"; says '40 captures of one link' 0 ''
+for words in '--to pcap' '--to=pcap --order big' '--to pcapng'; do
+    # shellcheck disable=SC2086 # words of a command line
+    rounds $words -o out "${alike[@]}"; says "40 captures $words" 0 ''
+    # shellcheck disable=SC2086 # words of a command line
+    "$program" convert $words -o wanted all.pcapng; same "40 captures $words" out wanted
+done
 
 # what is wrong with a command line
 # shellcheck disable=SC2016 # as it is printed
-usage='Usage: rounds.sh [--allow-cut] [--order ORDER] OUT FILE...
+usage='Usage: rounds.sh [--allow-cut] [--order ORDER] [--to FORMAT] -o OUT FILE...
 It takes room in $TMPDIR: see rounds.sh --help.'
 rounds; says 'no words' 2 "rounds.sh: OUT and FILE are missing
 $usage"
-rounds out; says 'no FILE' 2 "rounds.sh: FILE is missing
+rounds -o out; says 'no FILE' 2 "rounds.sh: FILE is missing
 $usage"
-rounds --frob out 00; says 'a wrong option' 2 "rounds.sh: unknown option --frob
+rounds --frob -o out 00; says 'a wrong option' 2 "rounds.sh: unknown option --frob
 $usage"
-rounds --order middle out 00; says 'a wrong order' 2 "rounds.sh: --order is big or little
+rounds --order middle -o out 00; says 'a wrong order' 2 "rounds.sh: --order is big or little
 $usage"
+rounds --to text -o out 00; says 'a wrong format' 2 "rounds.sh: --to is pcap or pcapng
+$usage"
+rounds 00 -o; says 'no output' 2 "rounds.sh: 00 exists: -o OUT names the output
+$usage"
+rounds -o; says 'no word after -o' 2 "rounds.sh: -o wants OUT
+$usage"
+rounds 00 01 02; says 'captures and no OUT' 2 "rounds.sh: 00 exists: -o OUT names the output
+$usage"
+same 'a capture in the place of OUT' 00 "$long"
 rounds --order; says 'no order' 2 "rounds.sh: --order is big or little
 $usage"
-rounds out 00 -; says 'standard input' 2 "rounds.sh: FILE is a file, not standard input
+rounds -o out 00 -; says 'standard input' 2 "rounds.sh: FILE is a file, not standard input
 $usage"
-rounds - 00; says 'standard output' 2 "rounds.sh: OUT is a file, not standard output
+rounds -o - 00; says 'standard output' 2 "rounds.sh: OUT is a file, not standard output
 $usage"
-CAPT=/nowhere/capt "$top/examples/rounds.sh" out 00 > said 2>&1; status=$?; says 'no program' 2 "rounds.sh: no program /nowhere/capt: set CAPT
+CAPT=/nowhere/capt "$top/examples/rounds.sh" -o out 00 > said 2>&1; status=$?; says 'no program' 2 "rounds.sh: no program /nowhere/capt: set CAPT
 $usage"
-JOBS=some rounds out 00; says 'a wrong JOBS' 2 "rounds.sh: JOBS is a number from 1 on
+JOBS=some rounds -o out 00; says 'a wrong JOBS' 2 "rounds.sh: JOBS is a number from 1 on
 $usage"
-rounds /dev/null 00; says 'a device' 1 "fault: create output
+rounds -o /dev/null 00; says 'a device' 1 "fault: create output
   /dev/null: it is write-protected, or no file"
-rounds folder 00; says 'a folder as OUT' 1 "fault: create output
+rounds -o folder 00; says 'a folder as OUT' 1 "fault: create output
   folder: it is write-protected, or no file"
 rounds --help; holds 'help says the room' grep -q 'TMPDIR.*pcapng' said
 
 # a run that is ended ends its merges, and leaves nothing
 mkfifo slow
-CAPT=$program "$top/examples/rounds.sh" ended "${all[@]}" slow > said 2>&1 &
+CAPT=$program "$top/examples/rounds.sh" -o ended "${all[@]}" slow > said 2>&1 &
 run=$!
 for _ in $(seq 100); do if [ -n "$(pgrep -P "$run")" ] && compgen -G 'tmp/*/*.told' > /dev/null; then break; fi; sleep 0.05; done
 merges=$(pgrep -P "$run")
@@ -230,7 +251,7 @@ says 'a run that was ended' 143 ''
 
 # where $TMPDIR may have too little room, a line says how much is wanted
 printf '#!/bin/sh\necho Filesystem\necho none 9 9 0 0%%%% /\n' > bin/df; chmod +x bin/df
-PATH=$work/bin:$PATH rounds out "${all[@]}"; says 'little room' 0 "rounds.sh: 70 captures take 0 MiB or more in $work/tmp, which has 0"
+PATH=$work/bin:$PATH rounds -o out "${all[@]}"; says 'little room' 0 "rounds.sh: 70 captures take 0 MiB or more in $work/tmp, which has 0"
 same 'little room' out sorted
 echo "$passed passed, $failed failed"
 [ "$failed" = 0 ]

@@ -4,9 +4,9 @@
 # written beside itself, in a folder OUT.XXXXXX, and renamed when all is done: after a refusal or a fault it is as it
 # was before. Only kill -9 leaves that folder.
 #
-# Use: rounds.sh [--allow-cut] [--order ORDER] OUT FILE...
+# Use: rounds.sh [--allow-cut] [--order ORDER] [--to FORMAT] -o OUT FILE...
 #
-# CAPT names the program (capt), JOBS how many merges run at once (one for each processor). The status is 0 if all is
+# Without -o the first word is OUT, if there is no such file: rounds.sh *.pcap writes over no capture. CAPT names the program (capt), JOBS how many merges run at once (one for each processor). The status is 0 if all is
 # done, 1 after a refusal or a fault, 2 if the command line is invalid.
 #
 # Room: with more than 32 FILEs, all packets stand once in $TMPDIR (/tmp) as pcapng: as many bytes as the FILEs have,
@@ -27,6 +27,9 @@ misused() {
 
 cut=()
 order=()
+to=()
+given=
+has_out=
 while [[ ${1-} == -?* ]]; do
     case $1 in
         --allow-cut) cut=(--allow-cut) ;;
@@ -36,15 +39,32 @@ while [[ ${1-} == -?* ]]; do
             if [[ ${2-} != big && ${2-} != little ]]; then misused '--order is big or little'; fi
             shift
             ;;
+        --to=pcap | --to=pcapng) to=("$1") ;;
+        --to)
+            to=("--to=${2-}")
+            if [[ ${2-} != pcap && ${2-} != pcapng ]]; then misused '--to is pcap or pcapng'; fi
+            shift
+            ;;
+        -o | --output)
+            if [ $# = 1 ]; then misused "$1 wants OUT"; fi
+            given=$2
+            has_out=yes
+            shift
+            ;;
+        --output=*) given=${1#*=}; has_out=yes ;;
+        -o*) given=${1#-o}; has_out=yes ;;
         --help) sed -n '2,/^set/s/^# \{0,1\}//p' "$0"; exit ;;
         --) shift; break ;;
         *) misused "unknown option $1" ;;
     esac
     shift
 done
-if [ $# = 0 ]; then misused 'OUT and FILE are missing'; fi
-given=$1
-shift
+if [ ! "$has_out" ]; then
+    if [ $# = 0 ]; then misused 'OUT and FILE are missing'; fi
+    if [ -e "$1" ]; then misused "$1 exists: -o OUT names the output"; fi
+    given=$1
+    shift
+fi
 if [ $# = 0 ]; then misused 'FILE is missing'; fi
 if [ "$given" = - ]; then misused 'OUT is a file, not standard output'; fi
 if ! command -v "$capt" > /dev/null; then misused "no program $capt: set CAPT"; fi
@@ -106,20 +126,26 @@ finish() {
     wait "${running[0]}" || failed=yes
     running=("${running[@]:1}")
 }
-# begin NAME FILE..: begins the merge of the FILEs into NAME.pcapng, once fewer than $jobs run. It stands for itself:
-# a cluster's queue may take its place.
+# begin NAME FILE..: begins the merge of the FILEs into NAME.pcapng, once fewer than $jobs run: a pcapng file, unless it
+# is the last merge, and --to asks for another. It stands for itself: a cluster's queue may take its place.
 begin() {
     if [ "${#running[@]}" -ge "$jobs" ]; then finish; fi
-    "$capt" merge "${cut[@]}" "${order[@]}" -o "$1.pcapng" -- "${@:2}" < /dev/null 2> "$1.told" &
+    "$capt" merge "${cut[@]}" "${order[@]}" "${format[@]}" -o "$1.pcapng" -- "${@:2}" < /dev/null 2> "$1.told" &
     running+=($!)
 }
 
-total=$#
+total=${#files[@]}
 each=1
 round=1
 while
     merged=()
-    if [ "${#files[@]}" -gt 32 ]; then name=$work/$round; else name=$beside/all; fi
+    format=()
+    if [ "${#files[@]}" -gt 32 ]; then
+        name=$work/$round
+    else
+        name=$beside/all
+        format=("${to[@]}")
+    fi
     for ((first = 0; first < ${#files[@]}; first += 32)); do
         begin "$name-$first" "${files[@]:first:32}"
         merged+=("$name-$first.pcapng")
