@@ -29,7 +29,7 @@ import edit_files
 from edit_files import FOLDERS, PARTS, crates_of, edits_of, kit, label_of
 
 # The crates whose checks take longer than their code is long: they begin first.
-LONG = ["cap_line", "cap_tool", "cap_talks", "cap_write"]
+LONG = ["cap_line", "cap_commands", "cap_tool", "cap_talks", "cap_write"]
 # How many edits a check has at most, so that a crate's edits are shared by the processors.
 MOST = 24
 # What a check says of a proof file that names what an edit took away, or of what rests on such a line.

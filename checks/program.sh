@@ -186,6 +186,14 @@ run list ''; check 'an empty name' 1 '' 'fault: open file 1'
 run list "$one/a"; check 'a name below a file' 1 '' 'fault: open file 1'
 cp "$one" "$work/closed"; chmod 0 "$work/closed"; if [ ! -r "$work/closed" ]; then run list "$work/closed"; check 'an unreadable file' 1 '' 'fault: open file 1'; fi
 chmod 0444 "$work/closed"; if [ ! -w "$work/closed" ]; then run merge -o "$work/closed" "$one"; check 'an OUT that is write-protected' 1 '' 'fault: create output'; fi
+mkdir "$work/locked"; chmod 0555 "$work/locked"
+if [ ! -w "$work/locked" ]; then
+    run merge --explain -o "$work/locked/new" "$one"; check 'an OUT in a folder that is write-protected' 1 '' "fault: create output
+  $work/locked/new: Permission denied (os error 13)"; absent 'an OUT in a folder that is write-protected' "$work/locked/new"
+    ln "$work/closed" "$work/closed-too"; run merge --whole --explain -o "$work/closed-too" "$work/closed"
+    check 'whole, one of the files that is write-protected' 1 '' "fault: create output
+  $work/closed-too: Permission denied (os error 13)"; rm "$work/closed-too"
+fi
 # --explain tells the file and why on a second line, elsewhere than at a terminal too; what a terminal wouldn't show of a name
 # is told by its code
 explained() {
@@ -232,6 +240,33 @@ explained 'OUT that is a FILE, explained' 'fault: output
 ends=
 explained 'OUT on a full disk, explained' 'fault: write
   /dev/full: No space left on device (os error 28)' merge --explain -o /dev/full one.pcap
+explained 'OUT in no folder, explained' 'fault: create output
+  nowhere/new: No such file or directory (os error 2)' merge --explain -o nowhere/new one.pcap
+explained 'a folder as OUT, explained' 'fault: create output
+  folder: Is a directory (os error 21)' convert --explain --to pcap -o folder one.pcap
+explained 'OUT that is a FILE under another name, explained' 'fault: create output
+  k/hard: it is one of the files that are read' join --explain -o k/hard k/a; same 'OUT that is a FILE under another name, explained' "$work/k/a" "$one"
+input=$work/folder; explained 'a folder as standard input, explained' "fault: read file 1 offset 0
+  -: it can't be read" list --explain -; input=
+(cd "$work" && "$program" merge --explain -o unmade one.pcap - > out 2> err <&-); status=$?; check 'closed standard input, explained' 1 '' 'fault: open file 2
+  standard input: it is closed'; absent 'closed standard input, explained' "$work/unmade"
+# The reason is the one that the system gave then. Nothing is opened or created again to find it, when more files may be open.
+# few NAME FILES WANTED-ERR WORD..: what is told by a run that may have that many files open, the standard streams among them
+few() {
+    local name=$1 most=$2 want=$3
+    shift 3
+    (cd "$work" && ulimit -n "$most" && exec "$program" "$@") > "$work/out" 2> "$work/err" < /dev/null; status=$?
+    check "$name" 1 '' "$want"
+    for file in unmade unmade.capt-1 unmade.capt-2; do absent "$name" "$work/$file"; done
+}
+few 'one file too many' 4 'fault: open file 2
+  header.pcap: Too many open files (os error 24)' info --explain one.pcap header.pcap
+few 'OUT as one file too many' 4 'fault: create output
+  unmade: Too many open files (os error 24)' merge --explain -o unmade one.pcap
+few 'a file beside OUT as one file too many' 4 'fault: create output
+  unmade.capt-1: Too many open files (os error 24)' merge --whole --explain -o unmade one.pcap
+few 'a file beside OUT that is opened once too often' 5 'fault: create output
+  unmade: Too many open files (os error 24)' merge --whole --explain -o unmade one.pcap
 "$program" list --explain "$one" > /dev/full 2> "$work/err"; status=$?; : > "$work/out"; check 'a full disk, explained' 1 '' 'fault: write
   standard output: No space left on device (os error 28)'
 run list --json $'\xc2\x9b\xe2\x80\xae\x7f'; check 'a name with C1 and bidi controls, as an object' 1 '' '{"type":"fault","fault":"open","file":1,"path":"\u009b\u202e\u007f"}'
@@ -257,7 +292,9 @@ left 'whole, beside another' 'cut new new.capt-1 one out'; rm new new.capt-1
 run merge --whole -o /dev/null one; check 'whole, a device' 1 '' 'fault: create output'
 run merge --whole --explain -o . one; check 'whole, a folder' 1 '' "fault: create output
   .: it isn't a regular file"
-mkfifo pipe; run merge --whole -o pipe one; check 'whole, a pipe' 1 '' 'fault: create output'; rm pipe
+mkfifo pipe; run merge --whole -o pipe one; check 'whole, a pipe' 1 '' 'fault: create output'
+run merge --whole --explain -o pipe one; check 'whole, a pipe, explained' 1 '' "fault: create output
+  pipe: it isn't a regular file"; rm pipe
 run merge --whole --explain -o ./one one; check 'whole, one of the files' 1 '' 'fault: create output
   ./one: it is one of the files that are read'; same 'whole, one of the files' one "$work/kept"
 run merge --whole --explain -o no/new one; check 'whole, in no folder' 1 '' 'fault: create output
@@ -267,7 +304,9 @@ for n in {1..120}; do : > "new.capt-$n"; done; run merge --whole -o new one; che
 same 'whole, beside 120 others' new "$work/want.pcapng"; rm new new.capt-*
 mkdir deep; ln -s far deep/near; ln -s deep/near loose; run merge --whole -o loose one; check 'whole, by a dangling link' 0 '' ''
 same 'whole, by a dangling link' deep/far "$work/want.pcapng"; if [ -L loose ] && [ -L deep/near ]; then passed=$((passed + 1)); else failed=$((failed + 1)); echo 'whole, by a dangling link: a link went'; fi
-rm -r deep loose; ln -s round round; run merge --whole -o round one; check 'whole, by a link to itself' 1 '' 'fault: create output'; rm round
+rm -r deep loose; ln -s round round; run merge --whole -o round one; check 'whole, by a link to itself' 1 '' 'fault: create output'
+run merge --whole --explain -o round one; check 'whole, by a link to itself, explained' 1 '' 'fault: create output
+  round: invalid input parameter'; rm round
 left 'whole, after links' 'cut one out'; cd "$work" || exit 1
 # standard output that goes to a file that is read: nothing is written, however it was opened
 into() { local name=$1; shift; "$program" "$@" 2> "$work/err"; status=$?; : > "$work/out"; check "$name" 1 '' "fault: create output"; same "$name" "$work/a" "$work/kept"; }

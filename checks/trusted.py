@@ -5,7 +5,7 @@ The texts of `report` and `join` are those by places (the laws `report_by_places
 machine that the calls cite.
 
 Prints, for each command, how many definitions and lines these are, by crate; with a command's name, the definitions themselves,
-what stands on nothing first; with --page, their names by file, as docs/TRUSTED.md has them. Words of the toolchain's library and
+what stands on nothing first, under the comments that head their files; with --page, their names by file, as docs/TRUSTED.md has them. Words of the toolchain's library and
 the fields of the types in src/ aren't listed.
 
 Use: checks/trusted.py [COMMAND | --page]
@@ -18,18 +18,18 @@ signal.signal(signal.SIGPIPE, signal.SIG_DFL)
 TOP = pathlib.Path(__file__).resolve().parent.parent
 PRINTS, TELLS = "cap_bytes.Printing.Prints", "cap_talks.talks.Telling.Tells"
 ROOTS = {
-    "list": ["cap_tool.ListText.list_text", "cap_tool.ListText.list_json", "cap_tool.ListText.list_refusal", PRINTS],
-    "blocks": ["cap_tool.BlockText.block_list", "cap_tool.BlockText.block_list_json", "cap_tool.BlockText.block_refusal", PRINTS],
-    "diff": ["cap_tool.DiffText.comparison_of", "cap_tool.DiffText.diff_text_in", "cap_tool.DiffText.diff_refusal", "cap_tool.DiffText.is_same", TELLS],
+    "list": ["cap_commands.ListText.list_text", "cap_commands.ListText.list_json", "cap_commands.ListText.list_refusal", PRINTS],
+    "blocks": ["cap_commands.BlockText.block_list", "cap_commands.BlockText.block_list_json", "cap_commands.BlockText.block_refusal", PRINTS],
+    "diff": ["cap_commands.DiffText.comparison_of", "cap_commands.DiffText.diff_text_in", "cap_commands.DiffText.diff_refusal", "cap_commands.DiffText.is_same", TELLS],
     "info": ["cap_talks.talks.InfoText.info_text_in", "cap_talks.talks.InfoText.first_refusal", TELLS],
     "report": [
         "cap_laws.InOrder.text_by_places_in", "cap_laws.InOrder.refusal_by_places", "cap_merge.Files.clocked_run",
         "cap_merge.Files.endings_of_files", TELLS,
     ],
-    "digest": ["cap_tool.DigestsText.digests_text", "cap_talks.talks.InfoText.first_refusal", PRINTS],
+    "digest": ["cap_commands.DigestsText.digests_text", "cap_talks.talks.InfoText.first_refusal", PRINTS],
     "check": ["cap_tool.CheckedNames.ChecksNames"],
-    "convert": ["cap_tool.Converted.convert_text", "cap_tool.Converted.convert_refusal", PRINTS],
-    "merge": ["cap_tool.MergeText.merge_text_in", "cap_tool.MergeText.merge_refusal_in", PRINTS],
+    "convert": ["cap_commands.Converted.convert_text", "cap_commands.Converted.convert_refusal", PRINTS],
+    "merge": ["cap_commands.MergeText.merge_text_in", "cap_commands.MergeText.merge_refusal_in", PRINTS],
     "join": [
         "cap_laws.JoinedByPlaces.bytes_by_places", "cap_laws.JoinedByPlaces.refusal_by_places", "cap_laws.JoinedByPlaces.pcap_by_places",
         "cap_laws.JoinedByPlaces.pcap_refusal_by_places", "cap_merge.Files.clocked_run", PRINTS,
@@ -38,8 +38,9 @@ ROOTS = {
 
 
 def parsed(path):
-    """A file's imports (name to its full name) and its definitions (name to its lines, comment first)."""
+    """A file's imports (name to its full name), its definitions (name to its lines, comment first), and the comment that heads it."""
     text = path.read_text(encoding="utf-8")
+    head_comment = re.match(r"(?:--.*\n)*", text)[0]
     crate, _, *inner = path.relative_to(TOP / "crates").with_suffix("").parts
     module = ".".join([crate, *inner])
     imports, wide = {}, {}
@@ -61,7 +62,7 @@ def parsed(path):
         if re.search(r"\bdata ", head):
             for case in re.findall(r"^  (?:pub )?([\w-]+) :", part, re.M):
                 definitions.setdefault(f"{module}.{case}", lines)
-    return module, imports, wide, definitions
+    return module, imports, wide, definitions, head_comment
 
 
 def closure(roots, files):
@@ -105,9 +106,9 @@ def closure(roots, files):
     return [name for module in modules for name in files[module][2] if name in done]
 
 
-files = {}
+files, heads = {}, {}
 for path in sorted(TOP.glob("crates/*/specs/**/*.antt")):
-    module, imports, wide, definitions = parsed(path)
+    module, imports, wide, definitions, heads[module] = parsed(path)
     files[module] = imports, wide, definitions
 
 PAGE = """# What must be read
@@ -140,7 +141,7 @@ for command, roots in ROOTS.items():
             for lines, (where, _) in parts.items():
                 if where != module:
                     crate, *inner = where.split(".")
-                    print(f"\n-- crates/{crate}/specs/{'/'.join(inner)}.antt\n")
+                    print(f"\n-- crates/{crate}/specs/{'/'.join(inner)}.antt\n{heads[where]}")
                     module = where
                 print("\n".join(lines) + "\n")
         continue

@@ -1,24 +1,19 @@
 -- What is counted of the packets of a file that is checked, and how the file ends.
 use Rattle.std.specs.Prelude.{◌≡◌, ℕ, ◌+◌, ◌≤◌, ◌&&◌, nat_lt, Bool, true, false, List, [], ◌∷◌, length, take, Option}
-use Rattle.std.specs.Prelude.{Some, None, is_none, is_some, if◌then◌else◌, IsTrue}
+use Rattle.std.specs.Prelude.{Some, None, is_none, if◌then◌else◌, IsTrue}
 use Rattle.std.specs.List.{list_all}
-use Rattle.std.specs.Ordering.{is_lt}
 use Rattle.cap_bytes.specs.declared.faults.Tail.{Tail}
 use Rattle.cap_source.specs.Feed.{Item, packet, refused, refusal_of}
 use Rattle.cap_source.specs.Items.{file_ending, file_items}
 use Rattle.cap_source.specs.Times.{meta_time}
 use Rattle.cap_source.specs.declared.feeds.FileEnd.{FileEnd}
 use Rattle.cap_source.specs.declared.packets.Meta.{Meta}
-use Rattle.cap_time.specs.Clock.{clock_cmp, later}
+use Rattle.cap_time.specs.Clock.{is_backward, later}
 use Rattle.cap_time.specs.declared.stamps.Stamp.{Stamp}
 use Rattle.cap_check.specs.declared.checked.Check.{Check}
 use Rattle.cap_check.specs.declared.checked.CheckEnd.{CheckEnd}
 use Rattle.cap_check.specs.declared.checked.CheckEnd.TheVariants.{Opening, Reading, Refusing, Whole}
 use Rattle.cap_check.specs.declared.checked.Checked.{Checked}
-
--- a packet's time is below the clock before it, the greatest time so far in its file
-abbrev pub is_backward : Option Stamp → Option Stamp → Bool
-is_backward clock time = is_some time && is_lt (clock_cmp time clock)
 
 -- 1 if that is so, else 0
 abbrev pub counted_if : Bool → ℕ

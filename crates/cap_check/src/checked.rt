@@ -1,11 +1,10 @@
 //! What is counted of the packets of a file that is checked.
 ghost use Rattle.std.specs.Prelude.{◌≡◌, ◌<◌, ◌^◌, ◌+◌};
-ghost use Rattle.cap_time.specs.Clock.{later};
-ghost use Rattle.cap_check.specs.Checking.{is_backward, is_whole_end, nothing_checked, with_checked};
+ghost use Rattle.cap_check.specs.Checking.{is_whole_end, nothing_checked, with_checked};
 
 use cap_bytes::Refusal;
 use cap_source::{FileEnd, Meta};
-use cap_time::Stamp;
+use cap_time::{Stamp, reach};
 
 /// What is counted of the packets of a file, as far as they were taken.
 #[derive(Clone, Copy, Debug, PartialEq, Eq)]
@@ -70,32 +69,6 @@ impl Check {
     }
 }
 
-// Whether a time is below the clock before it.
-fn is_backward(clock: Option<Stamp>, time: Option<Stamp>) -> bool
-    ensures { result ≡ is_backward clock time }
-{
-    match time {
-        None => false,
-        Some(time) => match clock {
-            None => false,
-            Some(clock) => time < clock,
-        },
-    }
-}
-
-// The later of a clock and a time.
-fn later(clock: Option<Stamp>, time: Option<Stamp>) -> Option<Stamp>
-    ensures { result ≡ later clock time }
-{
-    match time {
-        None => clock,
-        Some(new) => match clock {
-            None => time,
-            Some(old) => { if old < new { time } else { clock } }
-        },
-    }
-}
-
 impl Checked {
     /// Nothing was taken yet.
     pub fn new() -> Checked
@@ -120,9 +93,8 @@ impl Checked {
     {
         let time = meta.time();
         self.packets += 1;
-        self.backward += u64::from(is_backward(self.clock, time));
+        self.backward += u64::from(reach(&mut self.clock, &time));
         self.untimed += u64::from(time.is_none());
         self.truncated += u64::from(meta.captured < meta.original);
-        self.clock = later(self.clock, time);
     }
 }

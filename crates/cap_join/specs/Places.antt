@@ -1,5 +1,11 @@
 -- The groups of fragments by places: which fragment goes on from which, and what was given up. It is the definition
 -- that one reads aloud; `History.antt` has the form that goes step by step. Lists have the latest first (RFC 791, 3.2).
+-- For example, a1, b1, a2 and b2 arrive at the places 0 to 3; a1 and a2 are the two fragments of one datagram, b1 and
+-- b2 are two of the three fragments of another. If two groups may be open, a1 and b1 begin the groups 0 and 1, a2 goes
+-- on in group 0 and completes it, and b2 goes on in group 1. If one group may be open, b1 begins group 1, at which
+-- group 0 is given up; so a2 has no group to go on in, and begins group 2, at which group 1 is given up; and b2 begins
+-- group 3, at which group 2 is given up. A whole datagram with the key of b1 and b2 that arrives between them ends
+-- group 1, and b2 begins group 3.
 use Rattle.std.specs.Prelude.{◌≡◌, ℕ, List, [], ◌∷◌, ◌++◌, false, ◌<◌, Option, None, Some, ◌+◌, ◌≤◌, ◌==◌, ◌&&◌, not}
 use Rattle.std.specs.Prelude.{length, nat_le, nat_lt, if◌then◌else◌}
 use Rattle.std.specs.List.{find, list_all}

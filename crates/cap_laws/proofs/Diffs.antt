@@ -15,8 +15,8 @@ use Rattle.cap_source.specs.declared.packets.Meta.{Meta}
 use Rattle.cap_time.specs.Clock.{clock_cmp}
 use Rattle.cap_time.specs.Stamp.{stamp_cmp}
 use Rattle.cap_time.specs.declared.stamps.Stamp.{Stamp}
-use Rattle.cap_tool.specs.DiffText.{Comparison, compared, differences_of, do_differ, is_same, is_same_time}
-use Rattle.cap_tool.specs.DiffText.{other_packet, same_packets}
+use Rattle.cap_commands.specs.DiffText.{Comparison, compared, differences_of, do_differ, is_same, is_same_time}
+use Rattle.cap_commands.specs.DiffText.{other_packet, same_packets}
 use Rattle.cap_source.specs.Items.{file_first, file_items}
 use Rattle.cap_bytes.specs.declared.formats.Format.TheVariants.{Pcap, Pcapng}
 use Rattle.cap_merge.specs.inner.Clocks.{clock_total}

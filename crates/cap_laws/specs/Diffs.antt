@@ -6,8 +6,8 @@ use Rattle.cap_bytes.specs.declared.faults.Tail.{Tail}
 use Rattle.cap_bytes.specs.declared.numbers.Order.{Order}
 use Rattle.cap_source.specs.Items.{file_items}
 use Rattle.cap_bytes.specs.declared.formats.Format.{Format}
-use Rattle.cap_tool.specs.Converted.{convert_refusal, convert_text}
-use Rattle.cap_tool.specs.DiffText.{comparison_of, is_same, same_packets}
+use Rattle.cap_commands.specs.Converted.{convert_refusal, convert_text}
+use Rattle.cap_commands.specs.DiffText.{comparison_of, is_same, same_packets}
 use Rattle.cap_laws.specs.again.Laws.{SamePackets}
 
 -- Two captures are the same exactly if neither is refused and they have as many packets, of which those of one place

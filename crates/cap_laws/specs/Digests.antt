@@ -12,8 +12,8 @@ use Rattle.cap_source.specs.Feed.{Item, refusal_of}
 use Rattle.cap_source.specs.Items.{file_items}
 use Rattle.cap_source.specs.inner.Fields.{ItemFits}
 use Rattle.cap_bytes.specs.declared.formats.Format.{Format}
-use Rattle.cap_tool.specs.Converted.{convert_refusal, convert_text}
-use Rattle.cap_tool.specs.DiffText.{comparison_of, is_same}
+use Rattle.cap_commands.specs.Converted.{convert_refusal, convert_text}
+use Rattle.cap_commands.specs.DiffText.{comparison_of, is_same}
 
 -- Two lists of packets, the fields of which fit in their widths, have the same canonical text exactly if their packets
 -- have, one by one, the same link types, exact times, lengths and bytes.

@@ -1,3 +1,4 @@
+pub mod Backward
 pub mod Asking
 pub mod Bounds
 pub mod Breaking

@@ -1,3 +1,4 @@
+pub mod Backward
 pub mod Run
 pub mod Parts
 pub mod Files

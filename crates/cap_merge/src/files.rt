@@ -1,7 +1,7 @@
 //! The packets of several capture files as one feed.
-ghost use Rattle.std.specs.Prelude.{◌≤◌, IfOk, IsOkUnless, map, vec_len};
+ghost use Rattle.std.specs.Prelude.{◌≡◌, ◌≤◌, IfOk, IsOkUnless, false, map, vec_len};
 ghost use Rattle.cap_merge.specs.inner.Readers.{AreUnread, IsUnreadRun, reader_of};
-ghost use Rattle.cap_merge.specs.inner.View.{parts_of};
+ghost use Rattle.cap_merge.specs.inner.View.{backward_of, counts_backward, parts_of};
 
 use crate::merging::Merged;
 use cap_bytes::{Fault, Source, Tail};
@@ -32,7 +32,8 @@ fn captures_of<R: Source>(
 
 /// The packets of 1 to 32 capture files, each of either format, in the order of exact time. The readers are
 /// the files, numbered from 1 by their places. Nothing is read yet, so a faulty file header is a refusal
-/// that comes in its turn. `Memory` is returned if no room for the list of files was found.
+/// that comes in its turn. No packet is counted that runs backward. `Memory` is returned if no room for the list of
+/// files was found.
 pub fn merge_files<R: Source>(
     alloc: Global,
     sources: Vec<R>,
@@ -42,6 +43,8 @@ pub fn merge_files<R: Source>(
     requires most { vec_len sources ≤ 32 }
     ensures unread { IfOk result (λ merged. IsUnreadRun tail
         (map (reader_of R.tells_coming R.can_fail R.coming) sources.items) (parts_of merged)) }
+    ensures backward { IfOk result (λ merged. backward_of merged ≡ 0) }
+    ensures counts { IfOk result (λ merged. counts_backward merged ≡ false) }
     ensures memory { IsOkUnless result Fault.Memory }
 {
     let captures = captures_of(alloc, sources, tail)?;

@@ -6,9 +6,12 @@ ghost use Rattle.std.proofs.Props.{props};
 ghost use Rattle.std.specs.Ordering.{is_gt};
 ghost use Rattle.cap_time.specs.declared.stamps.Stamp.{Stamp};
 ghost use Rattle.cap_time.specs.Stamp.{seconds_of};
-ghost use Rattle.cap_time.specs.Clock.{clock_cmp};
+ghost use Rattle.cap_time.specs.Clock.{clock_cmp, is_backward};
 ghost use Rattle.cap_source.specs.declared.feeds.Head.{Head};
 ghost use Rattle.cap_source.specs.Feed.{GivesHead, FeedKeeps, KeepsItems, FindsPacket, FindsItem, FeedPasses, IsPacket};
+ghost use Rattle.cap_source.specs.Feed.{IfPacket};
+ghost use Rattle.cap_source.specs.Times.{meta_time};
+ghost use Rattle.cap_merge.specs.Backward.{backward_after, backward_step};
 ghost use Rattle.cap_merge.specs.Run.{opened_track, run};
 ghost use Rattle.cap_merge.specs.Parts.{item_time, is_refusal, AreNumberedFeeds, are_known};
 ghost use Rattle.cap_merge.specs.Parts.{merged_feed, new_parts, clock_of, run_of, ClocksFrom, MovesClocks};
@@ -34,6 +37,9 @@ pub struct Merged<F: PacketFeed> {
     // the place of the feed whose item came first when that was looked for: that item still does, or it was a packet
     // and was passed
     front: Option<usize>,
+    // whether packets that run backward are counted, and how many were passed that do
+    counts: bool,
+    backward: u64,
     ghost kept: { IsMergeState F.feed lanes.items feeds.items front } by { IsMergeState-prop _ _ _ _ },
 }
 
@@ -50,10 +56,17 @@ pub struct RunPacket<'a> {
     ghost bounded: { IfSome clock.now (λ c. seconds_of c <ℤ pos (2 ^ 65)) } by { Prim.hlevel props },
 }
 
-impl<F: PacketFeed> Merged<F> {
-    ghost use Rattle.cap_merge.specs.inner.View.{parts_of, feeds_of};
+// Whether the time of a packet is earlier than its clock.
+fn is_backward(clock: &Option<Stamp>, time: &Option<Stamp>) -> bool
+    ensures { result ≡ is_backward clock.now time.now }
+{
+    time.is_some() && clock > time
+}
 
-    /// The feeds as one, the first being file 1, and so on. It asks them nothing yet.
+impl<F: PacketFeed> Merged<F> {
+    ghost use Rattle.cap_merge.specs.inner.View.{parts_of, backward_of, counts_backward};
+
+    /// The feeds as one, the first being file 1, and so on. It asks them nothing yet, and counts nothing.
     pub fn new(feeds: Vec<F>) -> Merged<F>
         requires some { 1 ≤ vec_len feeds }
         requires most { vec_len feeds ≤ 32 }
@@ -61,13 +74,34 @@ impl<F: PacketFeed> Merged<F> {
         ensures parts { parts_of result ≡ new_parts (map F.feed feeds.items) }
         ensures run { run_of (parts_of result)
             ≡ run item_time is_refusal (map (λ f. opened_track f.items) (map F.feed feeds.items)) }
+        ensures backward { backward_of result ≡ 0 }
+        ensures counts { counts_backward result ≡ false }
     {
         let lanes = new_lanes(feeds.len());
         Merged {
             feeds,
             lanes,
             front: None,
+            counts: false,
+            backward: 0,
         }
+    }
+
+    /// From now on counts the packets that are passed and run backward, or doesn't.
+    pub fn count_backward(&mut self, counts: bool)
+        ensures parts { parts_of self.new ≡ parts_of self.old }
+        ensures backward { backward_of self.new ≡ backward_of self.old }
+        ensures counts { counts_backward self.new ≡ counts }
+    {
+        self.counts = counts;
+    }
+
+    /// How many packets ran backward of those that were passed since they are counted: had a time that is earlier than
+    /// that of a packet before them in their file. At most 2^64 - 1 are counted.
+    pub fn backward(&self) -> u64
+        ensures { result ≡ backward_of self.now }
+    {
+        self.backward // as `pass` has counted
     }
 
     /// How many feeds there are, each of one file: at most 32. The files are numbered from 1 on.
@@ -77,14 +111,6 @@ impl<F: PacketFeed> Merged<F> {
         ensures most { result ≤ 32 }
     {
         self.feeds.len() as u32
-    }
-
-    /// The feeds, the first being file 1, and so on: at most 32.
-    pub fn feeds(&self) -> &[F]
-        ensures feeds { result.now ≡ feeds_of self.now }
-        ensures most { length result.now ≤ 32 }
-    {
-        self.feeds.as_slice()
     }
 
     /// The clock of what comes next: the greatest time of the packets of its file up to it, and none
@@ -129,6 +155,31 @@ impl<F: PacketFeed> Merged<F> {
         }
     }
 
+    // Whether the packet that comes next runs backward.
+    #[inline(never)]
+    fn is_backward(&self) -> bool
+        requires { IsPacket (merged_feed (parts_of self.now)).known }
+        ensures { IfPacket (merged_feed (parts_of self.now)).known
+            (λ meta. result ≡ is_backward (clock_of (parts_of self.now)) (meta_time meta)) }
+    {
+        let next = self.next_packet();
+        is_backward(next.clock, &next.meta.time())
+    }
+
+    // How many packets more ran backward once the one that comes next is passed: 1 or 0, if they are counted.
+    #[inline(always)]
+    fn backward_step(&self) -> u64
+        requires { IsPacket (merged_feed (parts_of self.now)).known }
+        ensures { IfPacket (merged_feed (parts_of self.now)).known (λ meta. result
+            ≡ backward_step (counts_backward self.now) (clock_of (parts_of self.now)) (meta_time meta)) }
+    {
+        if self.counts {
+            u64::from(self.is_backward())
+        } else {
+            0
+        }
+    }
+
     // The place of the feed whose item comes first, if what comes next of each is known.
     #[inline(always)]
     fn first_place(&self) -> Option<usize>
@@ -148,6 +199,8 @@ impl<F: PacketFeed> Merged<F> {
     fn look(&mut self) -> Result<Result<bool, Refusal>, Fault>
         ensures asks { AsksAll (parts_of self.old) result (parts_of self.new) }
         ensures next { IfOk result (λ coming. head_coming (merged_feed (parts_of self.new)).known ≡ Some coming) }
+        ensures backward { backward_of self.new ≡ backward_of self.old }
+        ensures counts { counts_backward self.new ≡ counts_backward self.old }
     {
         let unknown = self.front;
         self.front = None;
@@ -160,7 +213,9 @@ impl<F: PacketFeed> Merged<F> {
     // Whether the packet that comes first of all is at hand, after one was passed: it is known then.
     #[inline(always)]
     fn shows_first(&mut self) -> bool
-        ensures { ShowsFirst (parts_of self.old) result (parts_of self.new) }
+        ensures shows { ShowsFirst (parts_of self.old) result (parts_of self.new) }
+        ensures backward { backward_of self.new ≡ backward_of self.old }
+        ensures counts { counts_backward self.new ≡ counts_backward self.old }
     {
         let Some(place) = self.front else {
             return false;
@@ -184,6 +239,8 @@ impl<F: PacketFeed> Merged<F> {
     fn find(&mut self) -> Result<bool, Fault>
         ensures asks { LooksAll (parts_of self.old) result (parts_of self.new) }
         ensures next { TellsNext (merged_feed (parts_of self.new)).known result }
+        ensures backward { backward_of self.new ≡ backward_of self.old }
+        ensures counts { counts_backward self.new ≡ counts_backward self.old }
     {
         match self.look()? {
             Ok(is_packet) => Ok(is_packet),
@@ -194,7 +251,7 @@ impl<F: PacketFeed> Merged<F> {
 
 impl<F: PacketFeed> PacketFeed for Merged<F> {
     ghost use Rattle.cap_merge.specs.inner.MergedLaws.{merged-is-feed};
-    ghost use Rattle.cap_merge.specs.inner.View.{parts_of};
+    ghost use Rattle.cap_merge.specs.inner.View.{parts_of, backward_of, counts_backward};
 
     ghost feed = { λ m. merged_feed (parts_of m) };
 
@@ -212,6 +269,8 @@ impl<F: PacketFeed> PacketFeed for Merged<F> {
         ensures run { IsTrue (merged_feed (parts_of self.old)).told
             → KeepsRun (parts_of self.old) result (parts_of self.new) }
         ensures clocks { MovesClocks (parts_of self.old) (parts_of self.new) }
+        ensures backward { backward_of self.new ≡ backward_of self.old }
+        ensures counts { counts_backward self.new ≡ counts_backward self.old }
     {
         match self.look()? {
             Ok(true) => Ok(Head::Packet(*self.packet())),
@@ -233,6 +292,8 @@ impl<F: PacketFeed> PacketFeed for Merged<F> {
         ensures run { IsTrue (merged_feed (parts_of self.old)).told
             → ShowsRun (parts_of self.old) result (parts_of self.new) }
         ensures clocks { MovesClocks (parts_of self.old) (parts_of self.new) }
+        ensures backward { backward_of self.new ≡ backward_of self.old }
+        ensures counts { counts_backward self.new ≡ counts_backward self.old }
     {
         if self.shows_first() {
             return Ok(true);
@@ -269,7 +330,12 @@ impl<F: PacketFeed> PacketFeed for Merged<F> {
         ensures run { IsTrue (merged_feed (parts_of self.old)).told
             → run_of (parts_of self.new) ≡ drop 1 (run_of (parts_of self.old)) }
         ensures clocks { ClocksFrom (clock_of (parts_of self.old)) (parts_of self.new) }
+        ensures backward { IfPacket (merged_feed (parts_of self.old)).known (λ meta. backward_of self.new
+            ≡ backward_after (counts_backward self.old) (backward_of self.old) (clock_of (parts_of self.old))
+            (meta_time meta)) }
+        ensures counts { counts_backward self.new ≡ counts_backward self.old }
     {
+        self.backward = self.backward.saturating_add(self.backward_step());
         if let Some(place) = self.first_place() {
             pass_at(&mut self.lanes, &mut self.feeds, place);
         }

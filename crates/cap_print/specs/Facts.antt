@@ -1,6 +1,6 @@
 -- A printed line as its facts, and the forms in which it is printed: a line of text, or a JSON object on a line of its
--- own (RFC 8259). A form says how a line begins and ends, what names a value, how a value is written and what encloses a
--- group. The definitions that say this have a clause for each form; all others are the same in every form.
+-- own (RFC 8259). A form says how a line begins and ends, what names a value, how a value is written and what encloses
+-- a group. The definitions that say this have a clause for each form; all others are the same in every form.
 use Rattle.std.specs.Prelude.{ℕ, List, [], ◌∷◌, ◌++◌, codes, decimal, drop, Bool, Option, Some, None}
 use Rattle.std.specs.Prelude.{if◌then◌else◌}
 use Rattle.hex.specs.Hex.{encode_lower}

@@ -1,5 +1,6 @@
 -- What is counted of each file and of all, packet by packet.
-use Rattle.std.proofs.Common.{rules, ◌≡◌, ℕ, zero, suc, ◌+◌, ◌*◌, ◌^◌, ◌≤◌, ◌<◌, ◌==◌, Bool, true, false, List, [], ◌∷◌, ◌++◌}
+use Rattle.std.proofs.Common.{rules, ◌≡◌, ℕ, zero, suc, ◌+◌, ◌*◌, ◌^◌, ◌≤◌, ◌<◌, ◌==◌, Bool, true, false}
+use Rattle.std.proofs.Common.{List, [], ◌∷◌, ◌++◌}
 use Rattle.std.proofs.Common.{length, nat_lt, refl, ap, ◌∙◌, arith, append-nil, length-append, drop, take_at}
 use Rattle.std.specs.Prelude.{replicate, slice_set, slice_index_or, if◌then◌else◌}
 use Rattle.std.specs.Int.{from_bool}

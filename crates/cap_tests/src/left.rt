@@ -5,10 +5,9 @@ use crate::files::{reader_of, room_of, sources_of};
 use crate::hex_vectors::{CUT_PCAP, File, OPTIONS_PCAPNG, RUNS_BACK, RUNS_ON};
 use cap_bytes::{Fault, Order, Pieces, Refusal, Rule, Sink, Source, Tail};
 use cap_line::LineFault;
+use cap_merge::{Merged, merge_files};
 use cap_source::{Capture, Format, PacketFeed};
-use cap_tool::{
-    Left, Outcome, TimeWatched, convert_and_count, join_and_count, left_lines, merge_and_count,
-};
+use cap_tool::{Left, Outcome, convert_and_count, join_and_count, left_lines, merge_and_count};
 use std::alloc::Global;
 use std::process::Abort;
 
@@ -36,69 +35,73 @@ const LEFT: [Row; 5] = [
     (&[RUNS_BACK, CUT_PCAP], Err(CUT), 0, 0, 0),
 ];
 
-// What is left before a command is done.
-const BEFORE: Left = Left {
-    skipped: 7,
-    named: 7,
-    ran_back: 7,
-};
-
-// What a merge of 1 to 32 files answers.
+// What a merge of 1 to 32 files answers, whose packets that run backward are counted.
 fn merge<R: Source, W: Sink>(
     rt: &impl Abort,
     alloc: Global,
     sources: Vec<R>,
     writer: &mut W,
-    left: &mut Left,
-) -> Result<(), Fault> {
+) -> Result<Left, Fault> {
     holds!(rt; !sources.is_empty());
     holds!(rt; sources.len() <= 32);
-    merge_and_count(alloc, sources, Tail::Refuse, Order::Little, writer, left)
+    let format = Format::Pcapng;
+    merge_and_count(
+        alloc,
+        sources,
+        Tail::Refuse,
+        Order::Little,
+        format,
+        true,
+        writer,
+    )
 }
 
-// What a join of 1 to 32 files answers.
+// What a join of 1 to 32 files answers, whose packets that run backward are counted.
 fn join<R: Source, W: Sink>(
     rt: &impl Abort,
     alloc: Global,
     sources: Vec<R>,
     writer: &mut W,
-    left: &mut Left,
-) -> Result<(), Fault> {
+) -> Result<Left, Fault> {
     holds!(rt; !sources.is_empty());
     holds!(rt; sources.len() <= 32);
-    join_and_count(alloc, sources, Tail::Refuse, Order::Little, writer, left)
+    let format = Format::Pcapng;
+    join_and_count(
+        alloc,
+        sources,
+        Tail::Refuse,
+        Order::Little,
+        format,
+        true,
+        writer,
+    )
+}
+
+// What is answered of files that are merged or joined.
+fn wanted(row: &Row) -> Result<Left, Fault> {
+    let (_, ending, skipped, named, ran_back) = *row;
+    ending?;
+    Ok(Left {
+        skipped,
+        named,
+        ran_back,
+    })
 }
 
 // What is left of files that are merged.
 fn merges(rt: &impl Abort, alloc: Global, row: &Row) {
-    let (files, ending, skipped, named, ran_back) = *row;
-    let mut left = BEFORE;
     let mut writer = room_of(rt, alloc, 512);
-    let sources = sources_of(rt, alloc, files, 4096);
-    let answer = merge(rt, alloc, sources, &mut writer, &mut left);
-    let left_out = Left {
-        skipped,
-        named,
-        ran_back,
-    };
-    let wanted = (ending, left_out);
-    same!(rt; (answer, left), wanted, files);
+    let sources = sources_of(rt, alloc, row.0, 4096);
+    let answer = merge(rt, alloc, sources, &mut writer);
+    same!(rt; answer, wanted(row), row.0);
 }
 
 // What is left of files that are joined.
 fn joins(rt: &impl Abort, alloc: Global, row: &Row) {
-    let (files, ending, skipped, named, ran_back) = *row;
-    let mut left = BEFORE;
     let mut writer = room_of(rt, alloc, 512);
-    let sources = sources_of(rt, alloc, files, 4096);
-    let answer = join(rt, alloc, sources, &mut writer, &mut left);
-    let left_out = Left {
-        skipped,
-        named,
-        ran_back,
-    };
-    let wanted = (ending, left_out);
-    same!(rt; (answer, left), wanted, files);
+    let sources = sources_of(rt, alloc, row.0, 4096);
+    let answer = join(rt, alloc, sources, &mut writer);
+    same!(rt; answer, wanted(row), row.0);
 }
 
 #[test]
@@ -125,26 +128,17 @@ const CONVERTED: [(File, Format, u128, u128); 3] = [
 
 // What is left of a file that is converted.
 fn converts(rt: &impl Abort, alloc: Global, file: File, format: Format, kept_back: (u128, u128)) {
-    let mut left = BEFORE;
     let mut writer = room_of(rt, alloc, 512);
     let source = reader_of(rt, alloc, file, 4096);
     let order = Order::Little;
-    let answer = convert_and_count(
-        alloc,
-        source,
-        Tail::Refuse,
-        order,
-        format,
-        &mut writer,
-        &mut left,
-    );
+    let answer = convert_and_count(alloc, source, Tail::Refuse, order, format, &mut writer);
     let (skipped, named) = kept_back;
     let left_out = Left {
         skipped,
         named,
         ran_back: 0,
     };
-    same!(rt; (answer, left), (Ok(()), left_out), file);
+    same!(rt; answer, Ok(left_out), file);
 }
 
 #[test]
@@ -154,21 +148,23 @@ fn always_memory_files_are_converted_with_a_count(rt: HostRuntime) {
     }
 }
 
-// A packet is passed, and then so many have run back.
-fn passes(rt: &impl Abort, feed: &mut TimeWatched<Capture<Pieces>>, ran_back: u64) {
+// A packet is passed, and then so many have run backward.
+fn passes(rt: &impl Abort, feed: &mut Merged<Capture<Pieces>>, backward: u64) {
     same!(rt; feed.has_packet(), Ok(true));
     feed.pass();
-    same!(rt; feed.ran_back(), ran_back);
+    same!(rt; feed.backward(), backward);
 }
 
-// At 5 seconds and then at 1 second.
+// At 5 seconds and then at 1 second, counted or not.
 #[test]
 fn a_packet_runs_back(rt: HostRuntime) {
-    let source = reader_of(&rt, rt.alloc(), RUNS_BACK, 1);
-    let capture = Capture::new(rt.alloc(), source, 1, Tail::Refuse);
-    let mut feed = TimeWatched::new(capture, true);
-    for ran_back in [0, 1] {
-        passes(&rt, &mut feed, ran_back);
+    for counts in [true, false] {
+        let sources = sources_of(&rt, rt.alloc(), &[RUNS_BACK], 1);
+        holds!(&rt; sources.len() == 1);
+        let mut feed = merge_files(rt.alloc(), sources, Tail::Refuse).expect(&rt, "memory");
+        feed.count_backward(counts);
+        passes(&rt, &mut feed, 0);
+        passes(&rt, &mut feed, u64::from(counts));
     }
 }
 

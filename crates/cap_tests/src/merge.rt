@@ -154,7 +154,7 @@ fn ends_by<F: PacketFeed>(rt: &impl Abort, feed: &mut F, end: Head) {
 // Two files give these packets, and then that end.
 fn merges(rt: &impl Abort, feed: &mut Merged<Listed>, came: &[Came], end: Head) {
     same!(rt; feed.files(), 2);
-    same!(rt; feed.feeds().len(), 2);
+    same!(rt; feed.backward(), 0);
     gives(rt, feed, came);
     ends_by(rt, feed, end);
 }

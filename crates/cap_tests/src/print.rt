@@ -55,8 +55,8 @@ fn facts_in_both_forms(rt: HostRuntime) {
     put_facts(&mut line, Form::Json);
     same!(&rt;
         line.as_slice(),
-        b"{\"type\":\"file\",\"link\":1,\"format\":\"pcapng\",\"name\":null,\"protocol\":17,\"first\":null,\"none\":\"\",\
-\"data\":\"0aff\",\"address\":\"10.0.0.1\",\"forward\":{\"packets\":3,\"bytes\":18446744073709551616},\
+        b"{\"type\":\"file\",\"link\":1,\"format\":\"pcapng\",\"name\":null,\"protocol\":17,\"first\":null,\
+\"none\":\"\",\"data\":\"0aff\",\"address\":\"10.0.0.1\",\"forward\":{\"packets\":3,\"bytes\":18446744073709551616},\
 \"whole\":false,\"cut\":true}\n"
             .as_slice()
     );

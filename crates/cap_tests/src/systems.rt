@@ -5,7 +5,9 @@ use crate::checks::same;
 use crate::files::bytes_of;
 use cap_bytes::{Fault, Refusal, Rule, Tracked};
 use cap_line::{Job, LineFault};
-use cap_tool::{Buffered, FileId, Opener, Outcome, Regular, Stop, System, Told, run_words};
+use cap_tool::{
+    Buffered, Cause, FileId, FileType, Left, Opener, Outcome, Stop, System, Told, run_words,
+};
 use std::alloc::Global;
 use std::cell::RefCell;
 use std::io;
@@ -40,11 +42,11 @@ impl<'a> Opener for Shelf<'a> {
     ghost gives = { λ s name reader. option_map (λ r. tracked_inner r) reader
         ≡ (if bytes_eq name (codes "one") then Some s.one else None) };
 
-    fn open(&self, name: &str) -> Option<(Tracked<&'a [u8]>, Option<Regular>)> {
+    fn open(&self, name: &str) -> Result<(Tracked<&'a [u8]>, FileType), Cause> {
         if name == "one" {
-            Some((Tracked::new(self.one), None))
+            Ok((Tracked::new(self.one), FileType::Other))
         } else {
-            None
+            Err(Cause::Unknown)
         }
     }
 }
@@ -89,7 +91,7 @@ impl<'a> Opener for Desk<'a> {
     ghost gives = { λ d name reader. option_map (λ r. tracked_inner r) reader
         ≡ (if bytes_eq name (codes "one") then Some d.shelf.one else None) };
 
-    fn open(&self, name: &str) -> Option<(Tracked<&'a [u8]>, Option<Regular>)> {
+    fn open(&self, name: &str) -> Result<(Tracked<&'a [u8]>, FileType), Cause> {
         self.shelf.open(name)
     }
 }
@@ -120,9 +122,9 @@ impl<'a> System for Desk<'a> {
         job: &Job<'_>,
         _inputs: &[Option<FileId>],
         _size: Option<u64>,
-    ) -> Result<(Buffered<Sheet<'a>>, ()), Outcome> {
+    ) -> Result<(Buffered<Sheet<'a>>, ()), Stop> {
         if job.whole {
-            return Err(Outcome::Create);
+            return Err(Stop::create(Cause::Unknown));
         }
         let sheet = Sheet {
             written: self.written,
@@ -130,7 +132,7 @@ impl<'a> System for Desk<'a> {
         Ok((Buffered::new(self.alloc, 64, sheet)?, ()))
     }
 
-    fn settle(&self, _name: (), answer: Result<(), Stop>) -> Result<(), Stop> {
+    fn settle(&self, _name: (), answer: Result<Left, Stop>) -> Result<Left, Stop> {
         answer
     }
 

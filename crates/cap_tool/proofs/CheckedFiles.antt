@@ -1,10 +1,9 @@
--- Files that are checked, as a job has them, and as they are opened by their names.
+-- Files that are checked, as they are opened by their names.
 use Rattle.std.proofs.Common.{◌≡◌, ◌<◌, ◌+◌, ℕ, Bool, true, false, List, [], ◌∷◌, ◌++◌, map, length, Option, Some}
 use Rattle.std.proofs.Common.{Ok, Err, get_or, refl, sym, ap, subst, ◌∙◌, arith, length-append}
 use Rattle.std.specs.Borrow.{Bor}
 use Rattle.std.proofs.lemmas.List.{get_or-map, length-map, map-append}
 use Rattle.std.specs.Prelude.{◌&&◌, option_map}
-use Rattle.std.specs.List.{list_all}
 use Rattle.cap_bytes.specs.declared.faults.Fault.{Fault}
 use Rattle.cap_bytes.specs.declared.faults.Tail.{Tail}
 use Rattle.cap_check.proofs.Following.{ArePrinted, printed-all, printed-fault, printed-more, printed-none}
@@ -12,28 +11,8 @@ use Rattle.cap_check.specs.CheckText.{WritesCheck, WritesChecks}
 use Rattle.cap_check.specs.Checking.{Opened}
 use Rattle.cap_print.specs.declared.forms.Form.{Form}
 use Rattle.cap_tool.specs.CheckedNames.{AreGiven, ChecksName, ChecksNames}
-use Rattle.cap_tool.specs.Jobs.{opened_files, whole_by, whole_finding}
-
--- files all of which tell their bytes
-pub opened-are : {R : Type 0} (tells : R → Bool) (coming : R → List ℕ) (can_fail : R → Bool) (files : List R)
-    → list_all tells files ≡ true
-    → map (λ s. Some (record { told = tells s; bytes = coming s; can_fail = can_fail s })) files
-    ≡ opened_files (map can_fail files) (map coming files)
-opened-are tells coming can_fail [] t = refl
-opened-are tells coming can_fail (s ∷ files) t =
-    let both : (tells s ≡ true) × (list_all tells files ≡ true) = halves (tells s) (list_all tells files) t in
-    ap (λ b. Some (record { told = b; bytes = coming s; can_fail = can_fail s })
-    ∷ map (λ s. Some (record { told = tells s; bytes = coming s; can_fail = can_fail s })) files) both.0
-    ∙ ap (λ l. Some (record { told = true; bytes = coming s; can_fail = can_fail s }) ∷ l)
-    (opened-are tells coming can_fail files both.1)
-  where
-    halves : (a b : Bool) → (a && b) ≡ true → (a ≡ true) × (b ≡ true)
-    halves a b h = (grind arith, grind arith)
-
--- what `check` returns by its finding is what it found
-pub whole-is : (are_whole : Bool) → whole_by (Ok tt) (whole_finding are_whole) ≡ Ok are_whole
-whole-is true = refl
-whole-is false = refl
+use Rattle.cap_commands.proofs.CheckedFiles.{whole-is}
+use Rattle.cap_commands.specs.Jobs.{whole_finding}
 
 -- one file more is opened, or could not be
 pub AreGiven-more : {R : Type 0} (gives : List ℕ → Option R → Type 0) (names : List (List ℕ))

@@ -1,14 +1,4 @@
-pub mod Parting
 pub mod CheckedFiles
-pub mod DiffWords
-mod Merging
-mod Leaving
-pub mod BlockListing
-pub mod DigestFiles
-pub mod BlockWalking
-pub mod Listing
-pub mod Telling
-pub mod Pieces
 pub mod Escaping
 pub mod Paths
 mod Running

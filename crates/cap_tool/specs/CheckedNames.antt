@@ -6,9 +6,9 @@ use Rattle.cap_bytes.specs.declared.faults.Tail.{Tail}
 use Rattle.cap_check.specs.CheckText.{WritesCheck, WritesChecks}
 use Rattle.cap_check.specs.Checking.{Opened}
 use Rattle.cap_print.specs.declared.forms.Form.{Form}
-use Rattle.cap_tool.specs.Jobs.{done_of, found_in, whole_by}
+use Rattle.cap_commands.specs.Jobs.{done_of, found_in, whole_by}
 use Rattle.cap_tool.specs.Streams.{is_dash, is_standard}
-use Rattle.cap_tool.specs.declared.outcomes.Finding.{Finding}
+use Rattle.cap_commands.specs.declared.jobs.Finding.{Finding}
 use Rattle.cap_tool.specs.declared.streams.Input.{Input}
 
 -- A file of that name was opened by the system: standard input, which isn't closed, exactly if the name is `-`. Or it

@@ -1,15 +1,14 @@
 -- How a run ends: its status, and what is printed of it.
 use Rattle.std.specs.Prelude.{◌≡◌, ℕ, List, [], ◌++◌, codes, decimal, Bool, true, false, Result, Ok, Err}
-use Rattle.cap_bytes.specs.Rules.{rule_number, rule_name}
 use Rattle.cap_bytes.specs.declared.faults.Fault.{Fault}
-use Rattle.cap_bytes.specs.declared.faults.Fault.TheVariants.{Refused, Read, Write, Memory}
-use Rattle.cap_bytes.specs.declared.faults.Refusal.{Refusal}
+use Rattle.cap_bytes.specs.declared.faults.Fault.TheVariants.{Write}
 use Rattle.cap_bytes.specs.Printing.{PrintsFront}
+use Rattle.cap_commands.specs.FaultText.{fault_text}
 use Rattle.cap_line.specs.declared.usage.TheConstants.{USAGE}
 use Rattle.cap_line.specs.declared.faults.LineFault.{LineFault}
 use Rattle.cap_line.specs.declared.faults.LineFault.TheVariants as lines
-use Rattle.cap_tool.specs.declared.outcomes.Finding.{Finding}
-use Rattle.cap_tool.specs.declared.outcomes.Finding.TheVariants.{Difference, Nothing, NotWhole}
+use Rattle.cap_commands.specs.declared.jobs.Finding.{Finding}
+use Rattle.cap_commands.specs.declared.jobs.Finding.TheVariants.{Difference, Nothing, NotWhole}
 use Rattle.cap_tool.specs.declared.outcomes.Outcome.{Outcome}
 use Rattle.cap_tool.specs.declared.outcomes.Outcome.TheVariants as outcomes
 
@@ -39,26 +38,9 @@ status_after (outcomes.Fault fault) = 1
 status_after (outcomes.Open file) = 1
 status_after outcomes.Create = 1
 
--- where a file is refused, and by which rule
-abbrev pub refusal_text : Refusal → List ℕ
-refusal_text refusal =
-    codes "refused: file " ++ decimal refusal.file ++ codes " offset " ++ decimal refusal.offset
-    ++ codes " rule " ++ decimal (rule_number refusal.rule) ++ codes " " ++ rule_name refusal.rule ++ codes "\n"
-
--- the file of that number could not be read, from that offset on
-abbrev pub read_text : ℕ → ℕ → List ℕ
-read_text file offset = codes "fault: read file " ++ decimal file ++ codes " offset " ++ decimal offset ++ codes "\n"
-
 -- the file of that number could not be opened
 abbrev pub open_text : ℕ → List ℕ
 open_text file = codes "fault: open file " ++ decimal file ++ codes "\n"
-
--- what is printed of a fault
-abbrev pub fault_text : Fault → List ℕ
-fault_text (Refused refusal) = refusal_text refusal
-fault_text (Read file offset) = read_text file offset
-fault_text Write = codes "fault: write\n"
-fault_text Memory = codes "fault: memory\n"
 
 -- what is printed of a command line that wasn't run: the usage for help and for one that isn't of capt
 abbrev pub line_fault_text : LineFault → List ℕ

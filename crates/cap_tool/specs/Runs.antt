@@ -9,29 +9,30 @@ use Rattle.cap_line.specs.declared.jobs.Job.{Job}
 use Rattle.cap_line.specs.declared.jobs.Task.{Task}
 use Rattle.cap_line.specs.declared.jobs.Task.TheVariants as tasks
 use Rattle.cap_tool.specs.CheckedNames.{AreGiven, ChecksNames}
-use Rattle.cap_tool.specs.Jobs.{Does, Finds, done_of, form_by, found_in, tail_of}
+use Rattle.cap_commands.specs.Jobs.{Does, Finds, done_of, form_by, found_in, tail_of}
 use Rattle.cap_tool.specs.Outcomes.{ends_by}
 use Rattle.cap_tool.specs.Outlets.{Outgoing}
 use Rattle.cap_tool.specs.Streams.{StopsAtDash, StopsOpening}
-use Rattle.cap_tool.specs.declared.outcomes.Finding.{Finding}
+use Rattle.cap_commands.specs.declared.jobs.Finding.{Finding}
+use Rattle.cap_commands.specs.declared.left.Left.{Left}
 use Rattle.cap_tool.specs.declared.outcomes.Outcome.{Outcome}
 use Rattle.cap_tool.specs.declared.outcomes.Outcome.TheVariants as outcomes
 use Rattle.cap_tool.specs.declared.outcomes.Stop.{Stop}
 use Rattle.cap_tool.specs.declared.regular.FileId.{FileId}
 
--- how a run ended, but for the number of the system's error
-abbrev pub ended_as : Result (Unit {0}) Stop → Result (Unit {0}) Outcome
+-- how a run ended, but for why
+abbrev pub ended_as : {A : Type 0} → Result A Stop → Result (Unit {0}) Outcome
 ended_as (Ok done) = Ok tt
 ended_as (Err stop) = Err stop.outcome
 
 -- the outcome of a run that ended so
-abbrev pub outcome_after : Result (Unit {0}) Stop → Outcome
+abbrev pub outcome_after : {A : Type 0} → Result A Stop → Outcome
 outcome_after (Ok done) = outcomes.Done
 outcome_after (Err stop) = stop.outcome
 
 -- A run ends by what its command returned, and nothing waits in the writer's buffer; or what waited could not be
 -- written, and it ends so.
-abbrev pub EndsBy : Result Finding Fault → List ℕ → Result (Unit {0}) Stop → Type 0
+abbrev pub EndsBy : Result Finding Fault → List ℕ → Result Left Stop → Type 0
 EndsBy answer waiting ended =
     ((ended_as ended ≡ ends_by answer) × (waiting ≡ []))
     ⊎ (ended_as ended ≡ Err (outcomes.Fault faults.Write))
@@ -39,7 +40,7 @@ EndsBy answer waiting ended =
 -- A job was done over files of those bytes, of which a read can fail or not: it wrote what it writes, and the run ended
 -- by what it returned and found.
 pub record RunsJob (job : Job) (fails : List Bool) (files : List (List ℕ)) (old : List ℕ)
-    (ended : Result (Unit {0}) Stop) (new waiting : List ℕ) : Type 0 where
+    (ended : Result Left Stop) (new waiting : List ℕ) : Type 0 where
   pub answer : Result Finding Fault
   pub does : Does job fails files (found_in answer) old (done_of answer) new
   pub finds : IfOk answer (Finds job files)
@@ -52,25 +53,25 @@ names_of job = map (λ n. n.now) job.files.items
 -- A run stopped before its job was begun: standard input, which a job names, is closed; a file can't be opened; the
 -- output can't be created; or there was no memory.
 abbrev pub StopsFirst : {R M : Type 0} → (List ℕ → Option R → Type 0)
-    → (List (Option FileId) → Result M Outcome → Type 0) → Bool → Job → Result (Unit {0}) Stop → Type 0
+    → (List (Option FileId) → Result M Stop → Type 0) → Bool → Job → Result Left Stop → Type 0
 StopsFirst gives makes lacks_input job (Ok done) = ⊥
 StopsFirst gives makes lacks_input job (Err stop) =
     (IsTrue lacks_input × StopsAtDash (names_of job) stop.outcome)
     ⊎ StopsOpening gives (names_of job) stop.outcome
-    ⊎ ((ids : List (Option FileId)) × makes ids (Err stop.outcome))
+    ⊎ ((ids : List (Option FileId)) × makes ids (Err stop))
 
 -- A job other than `check` was done: its files were opened, each as its opener gives it, and its output was created;
 -- if these tell their bytes, the job was done over them; and the output was settled by how that ended.
 pub record RunsFiles {R W N : Type 0} (gives : List ℕ → Option R → Type 0) (known : R → Opened)
-    (makes : List (Option FileId) → Result (W × N) Outcome → Type 0) (sent : W → Outgoing)
-    (settles : N → Result (Unit {0}) Stop → Result (Unit {0}) Stop → Type 0) (job : Job)
-    (result : Result (Unit {0}) Stop) : Type 0 where
+    (makes : List (Option FileId) → Result (W × N) Stop → Type 0) (sent : W → Outgoing)
+    (settles : N → Result Left Stop → Result Left Stop → Type 0) (job : Job)
+    (result : Result Left Stop) : Type 0 where
   pub readers : List R
   pub ids : List (Option FileId)
   pub writer : W
   pub name : N
   pub written : W
-  pub ended : Result (Unit {0}) Stop
+  pub ended : Result Left Stop
   pub opened : AreGiven gives (names_of job) (map Some readers)
   pub all : length readers ≡ length (names_of job)
   pub made : makes ids (Ok (writer, name))
@@ -82,14 +83,14 @@ pub record RunsFiles {R W N : Type 0} (gives : List ℕ → Option R → Type 0)
 -- A `check` was done: its output was created; if that tells its bytes, the files were opened and checked, one after
 -- another, and the run ended by what was found; and the output was settled by how that ended.
 pub record RunsChecks {R W N : Type 0} (gives : List ℕ → Option R → Type 0) (known : R → Opened)
-    (makes : List (Option FileId) → Result (W × N) Outcome → Type 0) (sent : W → Outgoing)
-    (settles : N → Result (Unit {0}) Stop → Result (Unit {0}) Stop → Type 0) (job : Job)
-    (result : Result (Unit {0}) Stop) : Type 0 where
+    (makes : List (Option FileId) → Result (W × N) Stop → Type 0) (sent : W → Outgoing)
+    (settles : N → Result Left Stop → Result Left Stop → Type 0) (job : Job)
+    (result : Result Left Stop) : Type 0 where
   pub writer : W
   pub name : N
   pub written : W
   pub answer : Result Finding Fault
-  pub ended : Result (Unit {0}) Stop
+  pub ended : Result Left Stop
   pub made : makes [] (Ok (writer, name))
   pub checks : IsTrue (sent writer).told
       → ChecksNames gives known (form_by job.json) (tail_of job.allow_cut) (names_of job) (sent writer).held answer
@@ -104,15 +105,15 @@ is_check _ = false
 
 -- a job was done, by whether it is `check`
 abbrev pub RunsWhich : {R W N : Type 0} → Bool → (List ℕ → Option R → Type 0) → (R → Opened)
-    → (List (Option FileId) → Result (W × N) Outcome → Type 0) → (W → Outgoing)
-    → (N → Result (Unit {0}) Stop → Result (Unit {0}) Stop → Type 0) → Job → Result (Unit {0}) Stop → Type 0
+    → (List (Option FileId) → Result (W × N) Stop → Type 0) → (W → Outgoing)
+    → (N → Result Left Stop → Result Left Stop → Type 0) → Job → Result Left Stop → Type 0
 RunsWhich true = RunsChecks
 RunsWhich false = RunsFiles
 
 -- A job was run: it stopped before it was begun, or it was done.
 abbrev pub Runs : {R W N : Type 0} → (List ℕ → Option R → Type 0) → (R → Opened)
-    → (List (Option FileId) → Result (W × N) Outcome → Type 0) → (W → Outgoing)
-    → (N → Result (Unit {0}) Stop → Result (Unit {0}) Stop → Type 0) → Bool → Job → Result (Unit {0}) Stop → Type 0
+    → (List (Option FileId) → Result (W × N) Stop → Type 0) → (W → Outgoing)
+    → (N → Result Left Stop → Result Left Stop → Type 0) → Bool → Job → Result Left Stop → Type 0
 Runs gives known makes sent settles lacks_input job result =
     StopsFirst gives makes lacks_input job result
     ⊎ RunsWhich (is_check job.task) gives known makes sent settles job result

@@ -1,26 +1,27 @@
 //! `capt check`: files that are opened one after another, so that there may be more of them than a process can hold
 //! open.
-ghost use Rattle.std.specs.Prelude.{◌≡◌, ◌<◌, ◌≤◌, IsTrue, map, option_map, vec_len};
+ghost use Rattle.std.specs.Prelude.{◌≡◌, ◌<◌, ◌≤◌, IsTrue, map, vec_len};
 ghost use Rattle.cap_bytes.specs.Device.{WriterKeeps, writer_of};
 ghost use Rattle.cap_bytes.specs.Printing.{is_write};
 ghost use Rattle.cap_tool.specs.CheckedNames.{ChecksName, ChecksNames};
-ghost use Rattle.cap_tool.specs.Jobs.{form_by, tail_of};
+ghost use Rattle.cap_tool.specs.Openers.{reader_of};
+ghost use Rattle.cap_commands.specs.Jobs.{form_by, tail_of};
 
-use crate::jobs::{form_of, tail_of, whole_finding};
+use crate::causes::Cause;
 use crate::openers::Opener;
-use crate::outcomes::Finding;
 use cap_bytes::{Fault, Sink};
 use cap_check::check_to;
+use cap_commands::{Finding, form_of, tail_of, whole_finding};
 use cap_line::Job;
 use std::alloc::Global;
 
-// What a file that an opener gave is read from.
-fn reader_of<R, K: Drop>(opened: Option<(R, K)>) -> Option<R>
-    ensures { result ≡ option_map (λ o. o.0) opened }
+// What a file is read from, if an opener could open it.
+fn reader_of<R, K: Drop>(opened: Result<(R, K), Cause>) -> Option<R>
+    ensures { result ≡ reader_of opened }
 {
     match opened {
-        Some((reader, _)) => Some(reader),
-        None => None,
+        Ok((reader, _)) => Some(reader),
+        Err(_) => None,
     }
 }
 

@@ -2,7 +2,8 @@
 ghost use Rattle.std.specs.Prelude.{◌≡◌, ◌≤◌, Ok, IfErr, IsFalse, length, map};
 ghost use Rattle.cap_tool.specs.Streams.{StopsAtDash};
 
-use crate::outcomes::Outcome;
+use crate::causes::Cause;
+use crate::outcomes::{Outcome, Stop};
 use std::fs::{File, OpenOptions};
 use std::io::{Stderr, Stdin, Stdout};
 use std::os::fd::AsFd;
@@ -75,17 +76,21 @@ impl Closed {
 
 /// Refuses to read standard input, `-`, if it was closed: returns `Outcome::Open` with the number, from 1, of the
 /// file that is so named.
-pub fn check_input(has_no_input: bool, names: &[&str]) -> Result<(), Outcome>
+pub fn check_input(has_no_input: bool, names: &[&str]) -> Result<(), Stop>
     requires most { length names.now ≤ 4294967295 }
     ensures open { IsFalse has_no_input → result ≡ Ok tt }
-    ensures stops { IfErr result (StopsAtDash (map (λ n. n.now) names.now)) }
+    ensures stops { IfErr result (λ stop. StopsAtDash (map (λ n. n.now) names.now) stop.outcome) }
+    ensures cause { IfErr result (λ stop. stop.cause ≡ Cause.Closed) }
 {
     if !has_no_input {
         return Ok(());
     }
     for (place, name) in names.iter().enumerate() {
         if *name == "-" {
-            return Err(Outcome::Open(place as u32 + 1));
+            return Err(Stop {
+                outcome: Outcome::Open(place as u32 + 1),
+                cause: Cause::Closed,
+            });
         }
     }
     Ok(())

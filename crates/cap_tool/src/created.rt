@@ -3,7 +3,7 @@ ghost use Rattle.std.specs.Prelude.{IfErr, IfOk, false, option_map};
 ghost use Rattle.cap_tool.specs.Created.{IsCreated};
 ghost use Rattle.cap_tool.specs.Streams.{StopsCreating};
 
-use crate::outcomes::Outcome;
+use crate::outcomes::Stop;
 use crate::regular::FileId;
 use crate::streams::{Output, check_output, check_terminal, create_output};
 use crate::whole::{Beside, create_beside};
@@ -19,7 +19,7 @@ fn create_named<R: Files<File = File>>(
     standard: Stdout,
     name: Option<&str>,
     inputs: &[Option<FileId>],
-) -> Result<(Output, Option<Beside>), Outcome>
+) -> Result<(Output, Option<Beside>), Stop>
     ensures created { IfOk result (IsCreated false (option_map (λ n. n.now) name.entry) standard) }
     ensures stops { IfErr result StopsCreating }
 {
@@ -29,15 +29,15 @@ fn create_named<R: Files<File = File>>(
 }
 
 /// Creates the output of a job: beside the file of its name, if it takes that once all is done, and else as
-/// `create_output` does. Returns `Outcome::Create`, and no other outcome, if it can't be created, if it is one of the
-/// inputs, also as standard output, and if it is a terminal that is named for a capture.
+/// `create_output` does. Returns `Outcome::Create`, and no other outcome, with the reason, if it can't be created, if
+/// it is one of the inputs, also as standard output, and if it is a terminal that is named for a capture.
 pub fn create_for<R: Files<File = File>>(
     files: &R,
     alloc: Global,
     job: &Job<'_>,
     standard: Stdout,
     inputs: &[Option<FileId>],
-) -> Result<(Output, Option<Beside>), Outcome>
+) -> Result<(Output, Option<Beside>), Stop>
     ensures created { IfOk result (IsCreated job.now.whole (option_map (λ n. n.now) job.now.out) standard) }
     ensures stops { IfErr result StopsCreating }
 {

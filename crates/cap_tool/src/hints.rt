@@ -2,17 +2,16 @@
 ghost use Rattle.std.specs.Prelude.{IfSome, IsSome, IsTrue, string_bytes};
 ghost use Rattle.cap_tool.specs.Hints.{IsHintLine, is_of_file, is_of_files, is_of_names};
 
+use crate::causes::Cause;
 use crate::kinds::{Kind, kind_at};
 use crate::outcomes::{Outcome, Stop};
-use crate::regular::{id_of, is_any_input, regular_file, standard_id};
-use crate::whole::open_beside;
 use cap_bytes::{Fault, Rule};
 use cap_line::{Job, LineFault, Task, escape};
 use std::alloc::Global;
 use std::fmt::Display;
-use std::fs::{File, OpenOptions};
+use std::fs::File;
+use std::io;
 use std::rt::Files;
-use std::{fs, io};
 
 // What is wrong with a file of that kind that begins as none that the task reads: which program unpacks it, or which
 // command reads it.
@@ -86,11 +85,6 @@ fn line(alloc: Global, name: &str, why: &impl Display) -> Option<String>
     told(alloc, text.as_str())
 }
 
-// Whether a file that is open is one of those that a job reads.
-fn is_read<R: Files<File = File>>(files: &R, file: &File, job: &Job<'_>) -> bool {
-    is_any_input(files, id_of(regular_file(file)), job.files.as_slice())
-}
-
 // What is wrong with a file that breaks a rule.
 fn rule_line<R: Files<File = File>>(
     files: &R,
@@ -109,32 +103,57 @@ fn rule_line<R: Files<File = File>>(
     }
 }
 
-// Why a file can't be read.
-fn read_line<R: Files<File = File>>(
-    files: &R,
-    alloc: Global,
-    job: &Job<'_>,
-    file: u32,
-) -> Option<String>
+// `  new: No such file or directory (os error 2)`: why the file or the stream of that name can't be opened, created or
+// written, if it is known.
+fn cause_line(alloc: Global, name: &str, cause: &Cause) -> Option<String>
     ensures { IfSome result (λ line. IsHintLine (string_bytes line)) }
 {
-    let name = name_of(job, file)?;
-    let why = match fs::metadata(files, name) {
-        Ok(metadata) if metadata.is_dir() => "it is a folder",
-        _ => "it can't be read",
+    let why = match cause {
+        Cause::System(error) => return system_line(alloc, name, *error),
+        Cause::Beside { name, error } => return system_line(alloc, name.as_str(), *error),
+        Cause::Unknown | Cause::Memory => return None,
+        Cause::Closed => "it is closed",
+        Cause::Folder => "it is a folder",
+        Cause::IsInput => "it is one of the files that are read",
+        Cause::IsTerminal => "a terminal can't show a capture",
+        Cause::NotRegular => "it isn't a regular file",
+        Cause::Links => "invalid input parameter",
     };
     line(alloc, name, &why)
 }
 
-// Why a job's output can't be written, as the system says it.
-fn write_line(alloc: Global, job: &Job<'_>, error: Option<i32>) -> Option<String>
+// The same, as the system says it.
+fn system_line(alloc: Global, name: &str, error: i32) -> Option<String>
     ensures { IfSome result (λ line. IsHintLine (string_bytes line)) }
 {
-    let error = io::Error::from_raw_os_error(error?);
-    match job.out {
-        Some(name) if name != "-" => line(alloc, name, &error),
-        _ => line(alloc, "standard output", &error),
+    line(alloc, name, &io::Error::from_raw_os_error(error))
+}
+
+// What a file that is read is called.
+fn input_name<'a>(job: &Job<'a>, file: u32) -> Option<&'a str> {
+    match name_of(job, file)? {
+        "-" => Some("standard input"),
+        name => Some(name),
     }
+}
+
+// What a job's output is called.
+fn output_name<'a>(job: &Job<'a>) -> &'a str {
+    match job.out {
+        Some(name) if name != "-" => name,
+        _ => "standard output",
+    }
+}
+
+// Why a file can't be read.
+fn read_line(alloc: Global, job: &Job<'_>, file: u32, cause: &Cause) -> Option<String>
+    ensures { IfSome result (λ line. IsHintLine (string_bytes line)) }
+{
+    let why = match cause {
+        Cause::Folder => "it is a folder",
+        _ => "it can't be read",
+    };
+    line(alloc, name_of(job, file)?, &why)
 }
 
 // What is wrong with a file that is read or written, if a fault is of one.
@@ -143,97 +162,16 @@ fn fault_line<R: Files<File = File>>(
     alloc: Global,
     job: &Job<'_>,
     fault: Fault,
-    error: Option<i32>,
+    cause: &Cause,
 ) -> Option<String>
     ensures file { IsSome result → IsTrue (is_of_files fault) }
     ensures line { IfSome result (λ line. IsHintLine (string_bytes line)) }
 {
     match fault {
         Fault::Refused(refusal) => rule_line(files, alloc, job, refusal.file, refusal.rule),
-        Fault::Read { file, .. } => read_line(files, alloc, job, file),
-        Fault::Write => write_line(alloc, job, error),
+        Fault::Read { file, .. } => read_line(alloc, job, file, cause),
+        Fault::Write => cause_line(alloc, output_name(job), cause),
         Fault::Memory => None,
-    }
-}
-
-// Why a file that is read can't be opened.
-fn open_line<R: Files<File = File>>(
-    files: &R,
-    alloc: Global,
-    job: &Job<'_>,
-    file: u32,
-) -> Option<String>
-    ensures { IfSome result (λ line. IsHintLine (string_bytes line)) }
-{
-    let name = name_of(job, file)?;
-    if name == "-" {
-        return line(alloc, "standard input", &"it is closed");
-    }
-    let error = File::open(files, name).err()?;
-    line(alloc, name, &error)
-}
-
-// Why no file can be written beside the one of that name.
-fn beside_line<R: Files<File = File>>(files: &R, alloc: Global, name: &str) -> Option<String>
-    ensures { IfSome result (λ line. IsHintLine (string_bytes line)) }
-{
-    match open_beside(files, alloc, name, &[]) {
-        Ok((_, beside)) => {
-            beside.remove(files);
-            None
-        }
-        Err(failed) => {
-            let name = match &failed.name {
-                Some(beside) => beside.as_str(),
-                None => name,
-            };
-            line(alloc, name, &failed.error)
-        }
-    }
-}
-
-// Whether the file of that name is one of those that a job reads.
-fn reads_output<R: Files<File = File>>(files: &R, name: &str, job: &Job<'_>) -> bool {
-    match File::open(files, name) {
-        Ok(file) => is_read(files, &file, job),
-        Err(_) => false,
-    }
-}
-
-// Why a job can't write to standard output: it is one of the files that are read, or a terminal.
-fn standard_line<R: Files<File = File>>(files: &R, alloc: Global, job: &Job<'_>) -> Option<String>
-    ensures { IfSome result (λ line. IsHintLine (string_bytes line)) }
-{
-    let why = if is_any_input(files, standard_id(files), job.files.as_slice()) {
-        "it is one of the files that are read"
-    } else {
-        "a terminal can't show a capture"
-    };
-    line(alloc, "standard output", &why)
-}
-
-// Why the output of a job can't be created: it is a terminal, the system says so, or it is one of the files that are
-// read.
-fn create_line<R: Files<File = File>>(files: &R, alloc: Global, job: &Job<'_>) -> Option<String>
-    ensures { IfSome result (λ line. IsHintLine (string_bytes line)) }
-{
-    let name = match job.out {
-        Some(name) if name != "-" => name,
-        _ => return standard_line(files, alloc, job),
-    };
-    if job.whole && !reads_output(files, name, job) {
-        return beside_line(files, alloc, name);
-    }
-    let opened = OpenOptions::new()
-        .write(true)
-        .create(true)
-        .open(files, name);
-    match opened {
-        Ok(file) if is_read(files, &file, job) => {
-            line(alloc, name, &"it is one of the files that are read")
-        }
-        Ok(_) => None,
-        Err(error) => line(alloc, name, &error),
     }
 }
 
@@ -251,10 +189,11 @@ fn names_line(alloc: Global, fault: LineFault) -> Option<String>
     told(alloc, why)
 }
 
-/// The line that a terminal shows after the line of a fault: the name of the file, and what the system says
-/// of it, or what the rule means that is broken; of a command line, what is wrong with the files that it names. What a
-/// terminal wouldn't show of a name is shown as its code. `job` is what was run, if the words of the command line gave
-/// one. There is no line if the fault is of no file, if it isn't known why a write failed, or if memory runs out.
+/// The line that a terminal shows after the line of a fault: the name of the file, and why it can't be opened, created
+/// or written, or what the rule means that is broken; of a command line, what is wrong with the files that it names.
+/// What a terminal wouldn't show of a name is shown as its code. `job` is what was run, if the words of the command
+/// line gave one. There is no line if the fault is of no file, if it isn't known why, or if memory runs out. `hint`
+/// creates no file, and opens one only if it isn't a capture, to see what it is.
 pub fn hint<R: Files<File = File>>(
     files: &R,
     alloc: Global,
@@ -269,9 +208,9 @@ pub fn hint<R: Files<File = File>>(
     }
     let job = job?;
     match stop.outcome {
-        Outcome::Fault(fault) => fault_line(files, alloc, job, fault, stop.error),
-        Outcome::Open(file) => open_line(files, alloc, job, file),
-        Outcome::Create => create_line(files, alloc, job),
+        Outcome::Fault(fault) => fault_line(files, alloc, job, fault, &stop.cause),
+        Outcome::Open(file) => cause_line(alloc, input_name(job, file)?, &stop.cause),
+        Outcome::Create => cause_line(alloc, output_name(job), &stop.cause),
         _ => None,
     }
 }

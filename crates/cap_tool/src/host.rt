@@ -3,6 +3,7 @@ ghost use Rattle.std.specs.Prelude.{◌≡◌, ◌⊎◌, ◌&&◌, IfErr, IsFal
 ghost use Rattle.cap_tool.specs.Outcomes.{is_help};
 ghost use Rattle.cap_line.specs.declared.faults.LineFault.{LineFault};
 
+use crate::causes::Cause;
 use crate::created::create_for;
 use crate::hints::hint;
 use crate::left::{Told, left_lines};
@@ -11,7 +12,7 @@ use crate::openers::Opener;
 use crate::outcomes::{Outcome, Stop, status_of, tell};
 use crate::outlets::Buffered;
 use crate::progress::Progress;
-use crate::regular::{FileId, Regular};
+use crate::regular::{FileId, FileType};
 use crate::runs::{run_words, tell_unread};
 use crate::shared::{Shared, SharedOutput};
 use crate::streams::{Input, Output};
@@ -19,6 +20,7 @@ use crate::systems::System;
 use crate::watched::Watched;
 use crate::whole::Beside;
 use cap_bytes::{Tracked, put_all};
+use cap_commands::Left;
 use cap_line::{Job, LineFault};
 use cap_print::Form;
 use std::alloc::Global;
@@ -87,17 +89,13 @@ impl<'a, R: Files<File = File> + Clock + AllocGlobal> Opener for Host<'a, R> {
     ghost gives = { λ h name reader. IsOpenedBy (host_is_closed h) name
         (option_map (λ w. tracked_inner (watched_inner w)) reader) };
 
-    fn open(&self, name: &str) -> Option<(Watched<'a, Tracked<Input>, R>, Option<Regular>)> {
+    fn open(&self, name: &str) -> Result<(Watched<'a, Tracked<Input>, R>, FileType), Cause> {
         if self.is_closed && name == "-" {
-            return None;
+            return Err(Cause::Closed);
         }
-        match Input::open(self.rt, self.streams.input, name) {
-            Ok(input) => {
-                let regular = input.regular(self.rt);
-                Some((Watched::new(Tracked::new(input), self.progress), regular))
-            }
-            Err(_) => None,
-        }
+        let input = Input::open(self.rt, self.streams.input, name)?;
+        let file_type = input.file_type(self.rt);
+        Ok((Watched::new(Tracked::new(input), self.progress), file_type))
     }
 }
 
@@ -148,7 +146,7 @@ impl<'a, R: Files<File = File> + Clock + AllocGlobal> System for Host<'a, R> {
     ghost lacks_input = { λ h. host_is_closed h };
 
     ghost makes = { λ h job ids result. MatchResult result (λ made. is_some made.1 ≡ (job.whole && is_some job.out))
-        (λ outcome. (outcome ≡ Outcome.Create) ⊎ (outcome ≡ Outcome.Fault Memory)) };
+        (λ stop. (stop.outcome ≡ Outcome.Create) ⊎ (stop.outcome ≡ Outcome.Fault Memory)) };
 
     ghost settles = { λ h name answer result. Settles (is_some name) answer result };
 
@@ -165,7 +163,7 @@ impl<'a, R: Files<File = File> + Clock + AllocGlobal> System for Host<'a, R> {
         job: &Job<'_>,
         inputs: &[Option<FileId>],
         size: Option<u64>,
-    ) -> Result<(Watched<'a, Shared<'a>, R>, Option<Beside>), Outcome> {
+    ) -> Result<(Watched<'a, Shared<'a>, R>, Option<Beside>), Stop> {
         let alloc = self.rt.alloc();
         let (output, beside) = create_for(self.rt, alloc, job, self.streams.output, inputs)?;
         let screen = screen_of(self.rt, self.streams.faults, &output);
@@ -176,7 +174,7 @@ impl<'a, R: Files<File = File> + Clock + AllocGlobal> System for Host<'a, R> {
                 if let Some(beside) = beside {
                     beside.remove(self.rt);
                 }
-                return Err(outcome);
+                return Err(Stop::from(outcome));
             }
         }
         self.progress.begin(screen, is_terminal, size);
@@ -186,7 +184,7 @@ impl<'a, R: Files<File = File> + Clock + AllocGlobal> System for Host<'a, R> {
         ))
     }
 
-    fn settle(&self, name: Option<Beside>, answer: Result<(), Stop>) -> Result<(), Stop> {
+    fn settle(&self, name: Option<Beside>, answer: Result<Left, Stop>) -> Result<Left, Stop> {
         self.progress.wipe();
         match name {
             Some(beside) => beside.settle(self.rt, answer),
@@ -201,7 +199,7 @@ impl<'a, R: Files<File = File> + Clock + AllocGlobal> System for Host<'a, R> {
         if told.counts {
             let stop = Stop {
                 outcome,
-                error: stop.error,
+                cause: stop.cause,
             };
             explain(self.rt, job, &stop, told, &mut faults);
         }

@@ -1,22 +1,13 @@
-//! What a command that writes a capture leaves out, or leaves as it was, and the lines that tell it.
+//! What is told of a run beside how it ended, and the lines that tell what a command that writes a capture leaves out,
+//! or leaves as it was.
 ghost use Rattle.std.specs.Prelude.{◌≡◌, ◌+◌, ◌≤◌, ◌++◌, length};
 ghost use Rattle.cap_print.specs.Lines.{room_in, text_in};
-ghost use Rattle.cap_tool.specs.Left.{count_text, dropped_text, left_text, left_told, names_label as names_label_text};
-ghost use Rattle.cap_tool.specs.Left.{nothing_left};
+ghost use Rattle.cap_tool.specs.LeftLines.{count_text, dropped_text, left_text, left_told};
+ghost use Rattle.cap_tool.specs.LeftLines.{names_label as names_label_text};
 
 use crate::outcomes::Outcome;
+use cap_commands::Left;
 use cap_print::Line;
-
-/// What a command that writes a capture leaves out, or leaves as it was.
-#[derive(Clone, Copy, Debug, PartialEq, Eq)]
-pub struct Left {
-    /// How many blocks of the files aren't carried on: those that were skipped.
-    pub skipped: u128,
-    /// How many interfaces of the files have a name, which isn't carried on.
-    pub named: u128,
-    /// How many packets had a time below the greatest so far of their file.
-    pub ran_back: u128,
-}
 
 /// What is told of a job beside how it ended.
 #[derive(Clone, Copy, Debug, PartialEq, Eq)]
@@ -25,21 +16,6 @@ pub struct Told {
     pub counts: bool,
     /// What it leaves out, if that is told.
     pub left: Left,
-}
-
-impl Told {
-    /// Nothing is left out yet.
-    pub fn new(counts: bool) -> Told
-        ensures counts { result.counts ≡ counts }
-        ensures left { result.left ≡ nothing_left }
-    {
-        let left = Left {
-            skipped: 0,
-            named: 0,
-            ran_back: 0,
-        };
-        Told { counts, left }
-    }
 }
 
 // Puts a label and a count before what was put, and what is counted after it, unless the count is 0.

@@ -1,7 +1,9 @@
 //! What opens the files that a job names.
-ghost use Rattle.std.specs.Prelude.{ℕ, List, Option, option_map};
+ghost use Rattle.std.specs.Prelude.{ℕ, List, Option};
+ghost use Rattle.cap_tool.specs.Openers.{reader_of};
 
-use crate::regular::Regular;
+use crate::causes::Cause;
+use crate::regular::FileType;
 use cap_bytes::Source;
 
 /// What opens files by their names: the system, or a folder in memory.
@@ -13,8 +15,7 @@ pub trait Opener {
     /// the bytes of its files says here which they are.
     ghost gives: { Self → List ℕ → Option Self.Reader → Type 0 };
 
-    /// Opens the file of that name, if it can be opened, and says which regular file it is, if it is one and that can
-    /// be found out.
-    fn open(&self, name: &str) -> Option<(Self::Reader, Option<Regular>)>
-        ensures { gives self.now name.now (option_map (λ opened. opened.0) result) };
+    /// Opens the file of that name and says what it is, or why it can't be opened.
+    fn open(&self, name: &str) -> Result<(Self::Reader, FileType), Cause>
+        ensures { gives self.now name.now (reader_of result) };
 }

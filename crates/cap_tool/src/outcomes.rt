@@ -1,13 +1,14 @@
 //! How a run ends: its status, and what is printed of it.
-ghost use Rattle.std.specs.Prelude.{◌≡◌, ◌≤◌, ◌++◌, length, is_err, IsTrue, IsFalse, IsOk, IsErr, IsOkUnless};
+ghost use Rattle.std.specs.Prelude.{◌≡◌, ◌++◌, is_err, IsTrue, IsFalse, IsOk, IsErr, IsOkUnless};
 ghost use Rattle.cap_bytes.specs.Device.{Puts, WriterKeeps, writer_of};
 ghost use Rattle.cap_print.specs.Lines.{text_in};
-ghost use Rattle.cap_tool.specs.Outcomes.{ends_by, status_after, fault_text, line_fault_text, outcome_text};
-ghost use Rattle.cap_tool.specs.Outcomes.{refusal_text};
-ghost use Rattle.cap_tool.specs.Outcomes.{read_text, open_text, told_text, is_help, HelpEnds};
+ghost use Rattle.cap_tool.specs.Outcomes.{ends_by, status_after, line_fault_text, outcome_text, open_text, told_text};
+ghost use Rattle.cap_tool.specs.Outcomes.{is_help, HelpEnds};
 ghost use Rattle.cap_bytes.specs.Printing.{PrintsFront};
 
-use cap_bytes::{Fault, Refusal, Sink, put_all};
+use crate::causes::Cause;
+use cap_bytes::{Fault, Sink, put_all};
+use cap_commands::{Finding, fault_line};
 use cap_line::{LineFault, USAGE};
 use cap_print::Line;
 use std::io;
@@ -31,35 +32,46 @@ pub enum Outcome {
     Create,
 }
 
-/// What a job that was done found, by which its run ends.
-#[derive(Clone, Copy, Debug, PartialEq, Eq)]
-pub enum Finding {
-    /// Nothing by which a run ends otherwise.
-    Nothing,
-    /// Two captures differ.
-    Difference,
-    /// A file that was checked isn't whole.
-    NotWhole,
-}
-
 /// Why a run ended other than by `Outcome::Done`.
-#[derive(Clone, Copy, Debug, PartialEq, Eq)]
+#[derive(Debug, PartialEq, Eq, Drop)]
 pub struct Stop {
     /// How it ended.
     pub outcome: Outcome,
-    /// The number of the system's error, if it is known.
-    pub error: Option<i32>,
+    /// Why it ended so.
+    pub cause: Cause,
 }
 
 impl From<Outcome> for Stop {
-    ghost use Rattle.std.specs.Prelude.{None};
+    ghost use Rattle.cap_tool.specs.declared.causes.Cause.TheVariants.{Unknown};
 
-    ghost from_gives = { λ outcome stop. stop ≡ record { outcome = outcome; error = None } };
+    ghost from_gives = { λ outcome stop. stop ≡ record { outcome = outcome; cause = Unknown } };
 
     fn from(outcome: Outcome) -> Stop {
         Stop {
             outcome,
-            error: None,
+            cause: Cause::Unknown,
+        }
+    }
+}
+
+impl Stop {
+    /// A run whose output can't be created.
+    pub fn create(cause: Cause) -> Stop
+        ensures { result ≡ record { outcome = Outcome.Create; cause = cause } }
+    {
+        Stop {
+            outcome: Outcome::Create,
+            cause,
+        }
+    }
+
+    /// A run in which memory was refused.
+    pub fn memory() -> Stop
+        ensures { result ≡ record { outcome = Outcome.Fault Fault.Memory; cause = Cause.Memory } }
+    {
+        Stop {
+            outcome: Outcome::Fault(Fault::Memory),
+            cause: Cause::Memory,
         }
     }
 }
@@ -109,31 +121,6 @@ pub fn status_of(outcome: &Outcome) -> u8
     }
 }
 
-// `refused: file 2 offset 24 rule 6 block-trailer`
-fn refusal_line(refusal: &Refusal) -> Line
-    ensures { text_in result ≡ refusal_text refusal.now }
-{
-    let mut line = Line::new();
-    line.prepend_text(b"\n");
-    line.prepend_text(refusal.rule.name().as_bytes());
-    line.prepend_text(b" ");
-    line.prepend_field(b" rule ", u64::from(refusal.rule.number()));
-    line.prepend_field(b" offset ", refusal.offset);
-    line.prepend_field(b"refused: file ", u64::from(refusal.file));
-    line
-}
-
-// `fault: read file 1 offset 24`
-fn read_line(file: u32, offset: u64) -> Line
-    ensures { text_in result ≡ read_text file offset }
-{
-    let mut line = Line::new();
-    line.prepend_text(b"\n");
-    line.prepend_field(b" offset ", offset);
-    line.prepend_field(b"fault: read file ", u64::from(file));
-    line
-}
-
 // `fault: open file 1`
 fn open_line(file: u32) -> Line
     ensures { text_in result ≡ open_text file }
@@ -142,28 +129,6 @@ fn open_line(file: u32) -> Line
     line.prepend_text(b"\n");
     line.prepend_field(b"fault: open file ", u64::from(file));
     line
-}
-
-// A line of that text alone.
-fn short_line(text: &[u8]) -> Line
-    requires { length text.now ≤ 512 }
-    ensures { text_in result ≡ text.now }
-{
-    let mut line = Line::new();
-    line.prepend_text(text);
-    line
-}
-
-/// The line that `outcome_line` writes of a fault of a run, with its end.
-pub fn fault_line(fault: Fault) -> Line
-    ensures { text_in result ≡ fault_text fault }
-{
-    match fault {
-        Fault::Refused(refusal) => refusal_line(&refusal),
-        Fault::Read { file, offset } => read_line(file, offset),
-        Fault::Write => short_line(b"fault: write\n"),
-        Fault::Memory => short_line(b"fault: memory\n"),
-    }
 }
 
 // What is printed of a command line that wasn't run.

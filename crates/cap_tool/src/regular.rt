@@ -1,5 +1,6 @@
 //! Regular files: which of them are the same, and how large they are.
 ghost use Rattle.std.specs.Prelude.{◌≡◌, ◌↔◌, Contains, IsTrue, IsSomeAnd, Some, option_map};
+ghost use Rattle.cap_tool.specs.Regular.{regular_in, type_by};
 
 use std::fs;
 use std::fs::{File, Metadata};
@@ -25,6 +26,39 @@ pub struct Regular {
     pub size: u64,
 }
 
+/// What a file is, as far as it can be found out.
+#[derive(Clone, Copy)]
+pub enum FileType {
+    /// A regular file.
+    Regular(Regular),
+    /// A folder.
+    Folder,
+    /// A device or a pipe, or what can't be found out.
+    Other,
+}
+
+impl FileType {
+    /// A regular file, of which that is known, or something else.
+    pub fn of_regular(regular: Option<Regular>) -> FileType
+        ensures { result ≡ type_by regular }
+    {
+        match regular {
+            Some(regular) => FileType::Regular(regular),
+            None => FileType::Other,
+        }
+    }
+
+    /// What is known of it, if it is a regular file.
+    pub fn regular(self) -> Option<Regular>
+        ensures { result ≡ regular_in self }
+    {
+        match self {
+            FileType::Regular(regular) => Some(regular),
+            FileType::Folder | FileType::Other => None,
+        }
+    }
+}
+
 /// What the system tells of a regular file; none of a device, a pipe and a folder.
 pub fn regular_of(metadata: &Metadata) -> Option<Regular> {
     if metadata.is_file() {
@@ -37,6 +71,15 @@ pub fn regular_of(metadata: &Metadata) -> Option<Regular> {
         })
     } else {
         None
+    }
+}
+
+/// What a file is that is open.
+pub fn type_of(file: &File) -> FileType {
+    match file.metadata() {
+        Ok(metadata) if metadata.is_dir() => FileType::Folder,
+        Ok(metadata) => FileType::of_regular(regular_of(&metadata)),
+        Err(_) => FileType::Other,
     }
 }
 

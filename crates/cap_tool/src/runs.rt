@@ -8,91 +8,81 @@ ghost use Rattle.cap_line.specs.declared.jobs.Job.{Job};
 ghost use Rattle.cap_tool.specs.CheckedNames.{AreGiven};
 ghost use Rattle.cap_bytes.specs.Device.{WriterKeeps, writer_of};
 ghost use Rattle.cap_bytes.specs.Printing.{is_write};
-ghost use Rattle.cap_tool.specs.JobLeft.{JobLeaves};
-ghost use Rattle.cap_tool.specs.Jobs.{Does, Finds, done_of, found_in};
+ghost use Rattle.cap_commands.specs.JobLeft.{JobLeaves};
+ghost use Rattle.cap_commands.specs.Jobs.{finding_in};
 ghost use Rattle.cap_tool.specs.Outcomes.{is_help};
 ghost use Rattle.cap_tool.specs.Runs.{EndsBy, Runs, RunsChecks, RunsFiles, RunsJob, StopsFirst};
-ghost use Rattle.cap_tool.specs.Runs.{is_check, names_of, outcome_after};
+ghost use Rattle.cap_tool.specs.Runs.{ended_as, is_check, names_of, outcome_after};
 ghost use Rattle.cap_tool.specs.declared.outcomes.Stop.{Stop};
 
+use crate::causes::Cause;
 use crate::checks::check_named;
 use crate::closed::check_input;
-use crate::jobs::{job_and_count, job_to};
 use crate::left::Told;
-use crate::outcomes::{Finding, Outcome, Stop, end_of};
+use crate::outcomes::{Outcome, Stop, end_of};
 use crate::outlets::Outlet;
 use crate::streams::{Inputs, open_all};
 use crate::systems::System;
 use cap_bytes::{Fault, Source};
+use cap_commands::{Done, Finding, Left, NOTHING_LEFT, job_to};
 use cap_line::{Job, LineFault, NOT_UTF_8, Task, USAGE, message, parse};
 use std::alloc::Global;
 use std::convert::AsStr;
 
-// How a command ends that returned that, once what waits in its writer's buffer is written.
-fn end_in<W: Outlet>(answer: Result<Finding, Fault>, writer: &mut W) -> Result<(), Stop>
+// How a command ends that returned that and left that out, once what waits in its writer's buffer is written.
+fn end_in<W: Outlet>(
+    answer: Result<Finding, Fault>,
+    left: Left,
+    writer: &mut W,
+) -> Result<Left, Stop>
     ensures ends { IsTrue (W.tells_held writer.old) → EndsBy answer (W.waiting writer.new) result }
     ensures held { IsTrue (W.tells_held writer.old) → W.held writer.new ≡ W.held writer.old }
     ensures help { IsFalse (is_help (outcome_after result)) }
     ensures done { OnOk result (answer ≡ Ok Finding.Nothing) }
+    ensures left { IfOk result (λ l. l ≡ left) }
 {
     match end_of(answer, writer.flush()) {
-        Ok(()) => Ok(()),
+        Ok(()) => Ok(left),
         Err(outcome) => Err(Stop {
             outcome,
-            error: writer.error(),
+            cause: Cause::of_error(writer.error()),
         }),
     }
 }
 
-// Does a job as `job_to` does, and counts what it leaves out if that is told.
-fn answer_to<R: Source, W: Outlet>(
-    alloc: Global,
-    job: &Job<'_>,
-    sources: Vec<R>,
-    writer: &mut W,
-    told: &mut Told,
-) -> Result<Finding, Fault>
-    requires whole { IsWholeJob job.now }
-    requires sources { vec_len sources ≡ vec_len job.now.files }
-    ensures text { IsTrue (list_all R.tells_coming sources.items) → IsTrue (W.tells_held writer.old)
-        → Does job.now (map R.can_fail sources.items) (map R.coming sources.items) (found_in result)
-        (W.held writer.old) (done_of result) (W.held writer.new) }
-    ensures finding { IsTrue (list_all R.tells_coming sources.items)
-        → IfOk result (Finds job.now (map R.coming sources.items)) }
-    ensures writer { WriterKeeps (writer_of W.Sink writer.old) (is_write result) (writer_of W.Sink writer.new) }
-    ensures left { OnOk result (IsTrue told.old.counts → IsTrue (list_all R.tells_coming sources.items)
-        → JobLeaves job.now (map R.coming sources.items) told.new.left) }
-    ensures counts { told.new.counts ≡ told.old.counts }
+// What a job found, and what it left out: nothing after a fault.
+fn split(answer: Result<Done, Fault>) -> (Result<Finding, Fault>, Left)
+    ensures finding { result.0 ≡ finding_in answer }
+    ensures left { IfOk answer (λ done. result.1 ≡ done.left) }
 {
-    if told.counts {
-        job_and_count(alloc, job, sources, writer, &mut told.left)
-    } else {
-        job_to(alloc, job, sources, writer)
+    match answer {
+        Ok(done) => (Ok(done.finding), done.left),
+        Err(fault) => (Err(fault), NOTHING_LEFT),
     }
 }
 
 /// Does a job over the files that it names, of which `sources` gives the bytes in their order, and writes what waits in
 /// the writer's buffer then: the run ends by what `job_to` returns, or by `Fault::Write` if that could not be written.
-/// What is left out is counted if that is told.
+/// A run that is done says what it left out; packets that run backward are counted if that is asked for.
 pub fn run_job<R: Source, W: Outlet>(
     alloc: Global,
     job: &Job<'_>,
     sources: Vec<R>,
+    counts: bool,
     writer: &mut W,
-    told: &mut Told,
-) -> Result<(), Stop>
+) -> Result<Left, Stop>
     requires whole { IsWholeJob job.now }
     requires sources { vec_len sources ≡ vec_len job.now.files }
     ensures runs { IsTrue (list_all R.tells_coming sources.items) → IsTrue (W.tells_held writer.old)
         → RunsJob job.now (map R.can_fail sources.items) (map R.coming sources.items) (W.held writer.old) result
         (W.held writer.new) (W.waiting writer.new) }
     ensures help { IsFalse (is_help (outcome_after result)) }
-    ensures left { OnOk result (IsTrue told.old.counts → IsTrue (list_all R.tells_coming sources.items)
-        → JobLeaves job.now (map R.coming sources.items) told.new.left) }
-    ensures counts { told.new.counts ≡ told.old.counts }
+    ensures left { IfOk result (λ left. IsTrue (list_all R.tells_coming sources.items)
+        → JobLeaves job.now (map R.coming sources.items) left) }
 {
-    let answer = answer_to(alloc, job, sources, writer, told);
-    end_in(answer, writer)
+    let answer = job_to(alloc, job, sources, counts, writer);
+    let (answer, left) = split(answer);
+    end_in(answer, left, writer)
 }
 
 // Opens the files of a job: none, if one of them is standard input, and that is closed.
@@ -100,17 +90,42 @@ fn open_inputs<S: System>(
     system: &S,
     alloc: Global,
     job: &Job<'_>,
-) -> Result<Inputs<S::Reader>, Outcome>
+) -> Result<Inputs<S::Reader>, Stop>
     requires { IsWholeJob job.now }
     ensures opened { IfOk result (λ inputs. AreGiven (S.gives system.now) (names_of job.now)
         (map Some inputs.sources.items)) }
     ensures len { IfOk result (λ inputs. vec_len inputs.sources ≡ vec_len job.now.files) }
-    ensures stops { IfErr result (λ outcome. StopsFirst (S.gives system.now) (S.makes system.now job.now)
-        (S.lacks_input system.now) job.now (Err (record { outcome = outcome; error = None }))) }
-    ensures help { IfErr result (λ outcome. IsFalse (is_help outcome)) }
+    ensures stops { IfErr result (λ stop. StopsFirst (S.gives system.now) (S.makes system.now job.now)
+        (S.lacks_input system.now) job.now (Err stop)) }
+    ensures help { IfErr result (λ stop. IsFalse (is_help stop.outcome)) }
 {
     check_input(system.has_no_input(), job.files.as_slice())?;
     open_all(system, alloc, job.files.as_slice())
+}
+
+// Whether the file of that number, from 1, is a folder.
+fn is_folder(folders: &[bool], file: u32) -> bool {
+    match file.checked_sub(1) {
+        Some(place) => folders.get(place as usize) == Some(&true),
+        None => false,
+    }
+}
+
+// How a run ended, with the cause of a read that failed: the file is a folder.
+fn with_read_cause(ended: Result<Left, Stop>, folders: &[bool]) -> Result<Left, Stop>
+    ensures ended { ended_as result ≡ ended_as ended }
+    ensures left { IfOk ended (λ left. result ≡ Ok left) }
+{
+    match ended {
+        Ok(left) => Ok(left),
+        Err(stop) => match stop.outcome {
+            Outcome::Fault(Fault::Read { file, .. }) if is_folder(folders, file) => Err(Stop {
+                outcome: stop.outcome,
+                cause: Cause::Folder,
+            }),
+            _ => Err(stop),
+        },
+    }
 }
 
 // Does a job whose files are all opened before its output is created.
@@ -118,8 +133,8 @@ fn run_files<S: System>(
     system: &S,
     alloc: Global,
     job: &Job<'_>,
-    told: &mut Told,
-) -> Result<(), Stop>
+    counts: bool,
+) -> Result<Left, Stop>
     requires { IsWholeJob job.now }
     ensures runs { StopsFirst (S.gives system.now) (S.makes system.now job.now) (S.lacks_input system.now) job.now
         result
@@ -134,20 +149,14 @@ fn run_files<S: System>(
         }) (S.settles system.now) job.now result }
     ensures help { IsFalse (is_help (outcome_after result)) }
 {
-    let inputs = match open_inputs(system, alloc, job) {
-        Ok(inputs) => inputs,
-        Err(outcome) => return Err(Stop::from(outcome)),
-    };
-    let (mut writer, name) = match system.create(job, inputs.ids.as_slice(), inputs.size) {
-        Ok(created) => created,
-        Err(outcome) => return Err(Stop::from(outcome)),
-    };
-    let ended = run_job(alloc, job, inputs.sources, &mut writer, told);
-    system.settle(name, ended)
+    let inputs = open_inputs(system, alloc, job)?;
+    let (mut writer, name) = system.create(job, inputs.ids.as_slice(), inputs.size)?;
+    let ended = run_job(alloc, job, inputs.sources, counts, &mut writer);
+    system.settle(name, with_read_cause(ended, inputs.folders.as_slice()))
 }
 
 // Does `check`, whose files are opened one after another once its output is created.
-fn run_checks<S: System>(system: &S, alloc: Global, job: &Job<'_>) -> Result<(), Stop>
+fn run_checks<S: System>(system: &S, alloc: Global, job: &Job<'_>) -> Result<Left, Stop>
     requires { IsWholeJob job.now }
     ensures runs { StopsFirst (S.gives system.now) (S.makes system.now job.now) (S.lacks_input system.now) job.now
         result
@@ -162,12 +171,9 @@ fn run_checks<S: System>(system: &S, alloc: Global, job: &Job<'_>) -> Result<(),
         }) (S.settles system.now) job.now result }
     ensures help { IsFalse (is_help (outcome_after result)) }
 {
-    let (mut writer, name) = match system.create(job, &[], None) {
-        Ok(created) => created,
-        Err(outcome) => return Err(Stop::from(outcome)),
-    };
+    let (mut writer, name) = system.create(job, &[], None)?;
     let answer = check_named(system, alloc, job, &mut writer);
-    let ended = end_in(answer, &mut writer);
+    let ended = end_in(answer, NOTHING_LEFT, &mut writer);
     system.settle(name, ended)
 }
 
@@ -182,12 +188,7 @@ fn is_check(task: Task) -> bool
 }
 
 // Does a job over a system: `check` opens its files one after another, any other job all of them before it begins.
-fn run_task<S: System>(
-    system: &S,
-    alloc: Global,
-    job: &Job<'_>,
-    told: &mut Told,
-) -> Result<(), Stop>
+fn run_task<S: System>(system: &S, alloc: Global, job: &Job<'_>, counts: bool) -> Result<Left, Stop>
     requires { IsWholeJob job.now }
     ensures runs { Runs (S.gives system.now) (λ s. record {
       told = S.Reader.tells_coming s;
@@ -203,24 +204,25 @@ fn run_task<S: System>(
     if is_check(job.task) {
         run_checks(system, alloc, job)
     } else {
-        run_files(system, alloc, job, told)
+        run_files(system, alloc, job, counts)
     }
 }
 
-// How a run ended.
-fn stop_of(answer: Result<(), Stop>) -> Stop
-    ensures { result.outcome ≡ outcome_after answer }
+// How a run ended, and what it left out: nothing if it isn't done.
+fn end_of_run(answer: Result<Left, Stop>) -> (Stop, Left)
+    ensures outcome { result.0.outcome ≡ outcome_after answer }
+    ensures left { IfOk answer (λ left. result.1 ≡ left) }
 {
     match answer {
-        Ok(()) => Stop::from(Outcome::Done),
-        Err(stop) => stop,
+        Ok(left) => (Stop::from(Outcome::Done), left),
+        Err(stop) => (stop, NOTHING_LEFT),
     }
 }
 
 /// Does a job over a system, and tells how it ended: it returns that outcome.
 pub fn do_job<S: System>(system: &S, alloc: Global, job: &Job<'_>) -> Outcome
     requires { IsWholeJob job.now }
-    ensures { (ended : Result (Unit {0}) Stop) × Runs (S.gives system.now) (λ s. record {
+    ensures { (ended : Result Left Stop) × Runs (S.gives system.now) (λ s. record {
       told = S.Reader.tells_coming s;
       bytes = S.Reader.coming s;
       can_fail = S.Reader.can_fail s;
@@ -230,9 +232,9 @@ pub fn do_job<S: System>(system: &S, alloc: Global, job: &Job<'_>) -> Outcome
       waiting = S.Writer.waiting w;
     }) (S.settles system.now) (S.lacks_input system.now) job.now ended × (result ≡ outcome_after ended) }
 {
-    let mut told = Told::new(job.explain || system.explains());
-    let stop = stop_of(run_task(system, alloc, job, &mut told));
-    system.tell(stop, Some(job), USAGE.as_bytes(), &told)
+    let counts = job.explain || system.explains();
+    let (stop, left) = end_of_run(run_task(system, alloc, job, counts));
+    system.tell(stop, Some(job), USAGE.as_bytes(), &Told { counts, left })
 }
 
 // Whether some words ask to explain a failure, even if they give no job.
@@ -254,7 +256,10 @@ fn tell_fault<S: System, T: AsStr>(
 ) -> Outcome
     ensures { IsFalse (is_help (Outcome.Line fault)) → result ≡ Outcome.Line fault }
 {
-    let told = Told::new(asks(words) || system.explains());
+    let told = Told {
+        counts: asks(words) || system.explains(),
+        left: NOTHING_LEFT,
+    };
     let stop = Stop::from(Outcome::Line(fault));
     match message(alloc, words) {
         Some(text) => system.tell(stop, None, text.as_bytes(), &told),
@@ -266,7 +271,7 @@ fn tell_fault<S: System, T: AsStr>(
 /// no job end as `parse` answers, unless help could not be written.
 pub fn run_words<S: System, T: AsStr>(system: &S, alloc: Global, words: &[T]) -> Outcome
     ensures { (parsed : Result Job LineFault) × Parses (map T.text words.now) parsed
-        × MatchResult parsed (λ job. (ended : Result (Unit {0}) Stop) × Runs (S.gives system.now) (λ s. record {
+        × MatchResult parsed (λ job. (ended : Result Left Stop) × Runs (S.gives system.now) (λ s. record {
           told = S.Reader.tells_coming s;
           bytes = S.Reader.coming s;
           can_fail = S.Reader.can_fail s;
@@ -288,5 +293,9 @@ pub fn tell_unread<S: System>(system: &S, fault: LineFault) -> Outcome
     ensures { IsFalse (is_help (Outcome.Line fault)) → result ≡ Outcome.Line fault }
 {
     let stop = Stop::from(Outcome::Line(fault));
-    system.tell(stop, None, NOT_UTF_8.as_bytes(), &Told::new(false))
+    let told = Told {
+        counts: false,
+        left: NOTHING_LEFT,
+    };
+    system.tell(stop, None, NOT_UTF_8.as_bytes(), &told)
 }

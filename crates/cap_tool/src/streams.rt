@@ -4,17 +4,17 @@ ghost use Rattle.std.specs.Prelude.{Contains, Err, IfSome, IsErr, IsFalse, IsSom
 ghost use Rattle.cap_tool.specs.CheckedNames.{AreGiven};
 ghost use Rattle.cap_tool.specs.Streams.{IsOutFile, IsStandardOut, StopsOpening, StopsCreating, is_dash, is_standard};
 
+use crate::causes::Cause;
 use crate::openers::Opener;
-use crate::outcomes::Outcome;
+use crate::outcomes::{Outcome, Stop};
 use crate::regular::{
-    FileId, Regular, id_of, is_any_input, is_input, regular_at, regular_file, regular_of,
-    standard_id,
+    FileId, FileType, Regular, id_of, is_any_input, is_input, regular_at, regular_file, regular_of,
+    standard_id, type_of,
 };
-use cap_bytes::Fault;
 use std::alloc::{AllocError, Global};
 use std::fs::{File, OpenOptions};
 use std::io;
-use std::io::{ErrorKind, IsTerminal, Read, Stdin, Stdout, Write};
+use std::io::{IsTerminal, Read, Stdin, Stdout, Write};
 use std::rt::Files;
 
 /// What a capture is read from.
@@ -39,11 +39,11 @@ impl Input {
         Ok(Input::File(File::open(files, name)?))
     }
 
-    /// Which regular file is read, if it is one and that can be found out.
-    pub fn regular<R: Files<File = File>>(&self, files: &R) -> Option<Regular> {
+    /// What the file is that is read; of standard input only whether it is a regular file, and which.
+    pub fn file_type<R: Files<File = File>>(&self, files: &R) -> FileType {
         match self {
-            Input::File(file) => regular_file(file),
-            Input::Standard(_) => regular_at(files, "/dev/stdin"),
+            Input::File(file) => type_of(file),
+            Input::Standard(_) => FileType::of_regular(regular_at(files, "/dev/stdin")),
         }
     }
 }
@@ -67,16 +67,15 @@ pub enum Output {
 }
 
 // Empties a file that is open, if it is a regular one. One of the inputs is refused, and stays as it is.
-fn empty(file: &File, inputs: &[Option<FileId>]) -> io::Result<()> {
-    let metadata = file.metadata()?;
-    let id = id_of(regular_of(&metadata));
+fn empty(file: &File, inputs: &[Option<FileId>]) -> Result<(), Cause> {
+    let id = id_of(regular_of(&file.metadata()?));
     if is_input(id, inputs) {
-        return Err(io::Error::from(ErrorKind::AlreadyExists));
+        return Err(Cause::IsInput);
     }
-    match id {
-        Some(_) => file.set_len(0),
-        None => Ok(()),
+    if id.is_some() {
+        file.set_len(0)?;
     }
+    Ok(())
 }
 
 // Opens a file to be written and empties it, unless it is one of the inputs: then it stays as it is.
@@ -84,7 +83,7 @@ fn create_file<R: Files<File = File>>(
     files: &R,
     name: &str,
     inputs: &[Option<FileId>],
-) -> io::Result<File> {
+) -> Result<File, Cause> {
     let file = OpenOptions::new()
         .write(true)
         .create(true)
@@ -95,13 +94,13 @@ fn create_file<R: Files<File = File>>(
 
 impl Output {
     /// Takes standard output if the name is `-`, and creates the file of that name else, or empties it
-    /// if there is one. A file that is one of the inputs isn't changed, and is an error.
+    /// if there is one. A file that is one of the inputs is refused, and isn't changed.
     pub fn create<R: Files<File = File>>(
         files: &R,
         standard: Stdout,
         name: &str,
         inputs: &[Option<FileId>],
-    ) -> io::Result<Output>
+    ) -> Result<Output, Cause>
         ensures standard { name.now ≡ codes "-" → result ≡ Ok (Output.Standard standard) }
         ensures file { name.now ≢ codes "-" → IfOk result IsOutFile }
     {
@@ -152,20 +151,21 @@ fn standard_output(
     standard: Stdout,
     goes_to: Option<FileId>,
     inputs: &[Option<FileId>],
-) -> Result<Output, Outcome>
-    ensures input { IsSomeAnd goes_to (λ i. Contains inputs.now (Some i)) → result ≡ Err Outcome.Create }
+) -> Result<Output, Stop>
+    ensures input { IsSomeAnd goes_to (λ i. Contains inputs.now (Some i))
+        → result ≡ Err (record { outcome = Outcome.Create; cause = Cause.IsInput }) }
     ensures other { (IsSomeAnd goes_to (λ i. Contains inputs.now (Some i)) → ⊥)
         → result ≡ Ok (Output.Standard standard) }
 {
     if is_input(goes_to, inputs) {
-        Err(Outcome::Create)
+        Err(Stop::create(Cause::IsInput))
     } else {
         Ok(Output::Standard(standard))
     }
 }
 
 /// Creates the output of a run, which is standard output if none is named. Returns
-/// `Outcome::Create`, and no other outcome, if it can't be created, and if it is one of the inputs,
+/// `Outcome::Create`, and no other outcome, with the reason, if it can't be created, and if it is one of the inputs,
 /// under whatever name: then it isn't changed. Standard output may be one of the inputs as well, as in
 /// `capt list a >> a`.
 pub fn create_output<R: Files<File = File>>(
@@ -173,7 +173,7 @@ pub fn create_output<R: Files<File = File>>(
     standard: Stdout,
     name: Option<&str>,
     inputs: &[Option<FileId>],
-) -> Result<Output, Outcome>
+) -> Result<Output, Stop>
     ensures standard { option_map (λ n. n.now) name.entry ≡ None → IfOk result (λ o. o ≡ Output.Standard standard) }
     ensures dash { option_map (λ n. n.now) name.entry ≡ Some (codes "-")
         → IfOk result (λ o. o ≡ Output.Standard standard) }
@@ -182,7 +182,7 @@ pub fn create_output<R: Files<File = File>>(
 {
     match name {
         Some(name) if name != "-" => {
-            Output::create(files, standard, name, inputs).map_err(|_| Outcome::Create)
+            Output::create(files, standard, name, inputs).map_err(Stop::create)
         }
         _ => standard_output(standard, standard_id(files), inputs),
     }
@@ -190,24 +190,26 @@ pub fn create_output<R: Files<File = File>>(
 
 /// Refuses to print lines into one of the files of these names, of which `-` is standard input: returns
 /// `Outcome::Create`, and no other outcome, if standard output goes to one of them.
-pub fn check_output<R: Files<File = File>>(files: &R, names: &[&str]) -> Result<(), Outcome>
+pub fn check_output<R: Files<File = File>>(files: &R, names: &[&str]) -> Result<(), Stop>
     ensures stops { IfErr result StopsCreating }
+    ensures cause { IfErr result (λ stop. stop.cause ≡ Cause.IsInput) }
 {
     let id = standard_id(files);
     if id.is_some() && is_any_input(files, id, names) {
-        Err(Outcome::Create)
+        Err(Stop::create(Cause::IsInput))
     } else {
         Ok(())
     }
 }
 
 /// Refuses standard output, `-`, for a capture if it is a terminal: returns `Outcome::Create`, and no other outcome.
-pub fn check_terminal(standard: Stdout, name: Option<&str>) -> Result<(), Outcome>
+pub fn check_terminal(standard: Stdout, name: Option<&str>) -> Result<(), Stop>
     ensures other { option_map (λ n. n.now) name.entry ≢ Some (codes "-") → result ≡ Ok tt }
     ensures stops { IfErr result StopsCreating }
+    ensures cause { IfErr result (λ stop. stop.cause ≡ Cause.IsTerminal) }
 {
     if name == Some("-") && standard.is_terminal() {
-        Err(Outcome::Create)
+        Err(Stop::create(Cause::IsTerminal))
     } else {
         Ok(())
     }
@@ -220,6 +222,8 @@ pub struct Inputs<R> {
     pub sources: Vec<R>,
     /// Which regular file each of them is, if it is one and that can be found out.
     pub ids: Vec<Option<FileId>>,
+    /// Whether each of them is a folder.
+    pub folders: Vec<bool>,
     /// How many bytes they have together, if each of them is a regular file.
     pub size: Option<u64>,
 }
@@ -230,12 +234,14 @@ fn add_size(size: Option<u64>, regular: Option<Regular>) -> Option<u64> {
 }
 
 impl<R: Drop> Inputs<R> {
-    // Adds an input, of which that is known.
-    fn add(&mut self, input: R, regular: Option<Regular>) -> Result<(), AllocError>
+    // Adds an input, which is a file of that type.
+    fn add(&mut self, input: R, file_type: FileType) -> Result<(), AllocError>
         ensures all { IfOk result (λ _. self.new.sources.items ≡ self.old.sources.items ++ input ∷ []) }
         ensures len { IfOk result (λ _. vec_len self.new.sources ≡ vec_len self.old.sources + 1) }
     {
+        let regular = file_type.regular();
         self.ids.push(id_of(regular))?;
+        self.folders.push(matches!(file_type, FileType::Folder))?;
         self.sources.push(input)?;
         self.size = add_size(self.size, regular);
         Ok(())
@@ -243,29 +249,36 @@ impl<R: Drop> Inputs<R> {
 }
 
 /// Opens every file of a run, in order, and reads none: each input is what the opener gives for its name. Returns
-/// `Outcome::Open` with the number, from 1, of the first that it can't open, or `Fault::Memory` if a growth is refused.
+/// `Outcome::Open` with the number, from 1, of the first that it can't open, and why, or `Fault::Memory` if a growth is
+/// refused.
 pub fn open_all<O: Opener>(
     opener: &O,
     alloc: Global,
     names: &[&str],
-) -> Result<Inputs<O::Reader>, Outcome>
+) -> Result<Inputs<O::Reader>, Stop>
     requires most { length names.now ≤ 4294967295 }
     ensures all { IfOk result (λ inputs. AreGiven (O.gives opener.now) (map (λ n. n.now) names.now)
         (map Some inputs.sources.items)) }
     ensures len { IfOk result (λ inputs. vec_len inputs.sources ≡ length names.now) }
-    ensures stops { IfErr result (StopsOpening (O.gives opener.now) (map (λ n. n.now) names.now)) }
+    ensures stops { IfErr result (λ stop. StopsOpening (O.gives opener.now) (map (λ n. n.now) names.now)
+        stop.outcome) }
 {
     let mut inputs = Inputs {
         sources: Vec::new(alloc),
         ids: Vec::new(alloc),
+        folders: Vec::new(alloc),
         size: Some(0),
     };
     for (place, name) in names.iter().enumerate() {
-        let Some((input, regular)) = opener.open(name) else {
-            return Err(Outcome::Open(place as u32 + 1));
+        let (input, file_type) = match opener.open(name) {
+            Ok(opened) => opened,
+            Err(cause) => return Err(Stop {
+                outcome: Outcome::Open(place as u32 + 1),
+                cause,
+            }),
         };
-        if inputs.add(input, regular).is_err() {
-            return Err(Outcome::Fault(Fault::Memory));
+        if inputs.add(input, file_type).is_err() {
+            return Err(Stop::memory());
         }
     }
     Ok(inputs)

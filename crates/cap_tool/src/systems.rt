@@ -1,8 +1,8 @@
 //! What a run reaches besides its words: the files that it opens, its output, and who is told how it ended.
-ghost use Rattle.std.specs.Prelude.{◌≡◌, ◌⊎◌, Bool, List, Option, Result, IfErr, IsErr, IsFalse, IsOk};
+ghost use Rattle.std.specs.Prelude.{◌≡◌, ◌⊎◌, Bool, List, Option, Result, IfErr, IfOk, IsErr, IsFalse, IsOk};
+ghost use Rattle.cap_commands.specs.declared.left.Left.{Left};
 ghost use Rattle.cap_line.specs.declared.jobs.Job.{Job};
 ghost use Rattle.cap_tool.specs.Outcomes.{is_help};
-ghost use Rattle.cap_tool.specs.declared.outcomes.Outcome.{Outcome};
 ghost use Rattle.cap_tool.specs.declared.outcomes.Stop.{Stop};
 ghost use Rattle.cap_tool.specs.declared.regular.FileId.{FileId};
 
@@ -12,6 +12,7 @@ use crate::outcomes::{Outcome, Stop};
 use crate::outlets::Outlet;
 use crate::regular::FileId;
 use cap_bytes::Fault;
+use cap_commands::Left;
 use cap_line::Job;
 
 /// What a run reaches besides its words: the files that it opens, its output, and who is told how it ended.
@@ -26,10 +27,10 @@ pub trait System: Opener {
     ghost lacks_input: { Self → Bool };
 
     /// What the creation of a job's output may give, of a job that reads those regular files.
-    ghost makes: { Self → Job → List (Option FileId) → Result (Self.Writer × Self.Name) Outcome → Type 0 };
+    ghost makes: { Self → Job → List (Option FileId) → Result (Self.Writer × Self.Name) Stop → Type 0 };
 
     /// How a run may end whose job ended so, once its output is settled.
-    ghost settles: { Self → Self.Name → Result (Unit {0}) Stop → Result (Unit {0}) Stop → Type 0 };
+    ghost settles: { Self → Self.Name → Result Left Stop → Result Left Stop → Type 0 };
 
     /// Whether standard input is closed.
     fn has_no_input(&self) -> bool
@@ -39,22 +40,23 @@ pub trait System: Opener {
     fn explains(&self) -> bool;
 
     /// Creates the output of a job that reads those regular files, and as many bytes together as `size` says, if that
-    /// is known. Returns `Outcome::Create` if it can't be created, or `Fault::Memory`.
+    /// is known. Returns `Outcome::Create` if it can't be created, and why, or `Fault::Memory`.
     fn create(
         &self,
         job: &Job<'_>,
         inputs: &[Option<FileId>],
         size: Option<u64>,
-    ) -> Result<(Self::Writer, Self::Name), Outcome>
+    ) -> Result<(Self::Writer, Self::Name), Stop>
         ensures makes { makes self.now job.now inputs.now result }
-        ensures stops { IfErr result (λ outcome. (outcome ≡ Outcome.Create)
-            ⊎ (outcome ≡ Outcome.Fault Fault.Memory)) };
+        ensures stops { IfErr result (λ stop. (stop.outcome ≡ Outcome.Create)
+            ⊎ (stop.outcome ≡ Outcome.Fault Fault.Memory)) };
 
     /// Settles the output of a run whose job ended so. A job that wasn't done ends as it did; one that was done can
     /// end by `Fault::Write`, if the output can't take its name.
-    fn settle(&self, name: Self::Name, answer: Result<(), Stop>) -> Result<(), Stop>
+    fn settle(&self, name: Self::Name, answer: Result<Left, Stop>) -> Result<Left, Stop>
         ensures settles { settles self.now name answer result }
         ensures stopped { IsErr answer → result ≡ answer }
+        ensures left { IfOk answer (λ left. IfOk result (λ settled. settled ≡ left)) }
         ensures done { IsOk answer → IfErr result (λ stop. stop.outcome ≡ Outcome.Fault Fault.Write) };
 
     /// Tells how a run ended, and more of it if that is asked for: `said` is what is printed of words that give no job.

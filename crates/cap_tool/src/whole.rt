@@ -3,11 +3,13 @@ ghost use Rattle.std.specs.Prelude.{◌≡◌, IfErr, IfOk, IsErr, IsOk};
 ghost use Rattle.cap_bytes.specs.declared.faults.Fault.TheVariants.{Write};
 ghost use Rattle.cap_tool.specs.Streams.{IsOutFile, StopsCreating};
 
+use crate::causes::Cause;
 use crate::outcomes::{Outcome, Stop};
 use crate::regular::{FileId, id_of, is_input, regular_of};
 use crate::streams::Output;
 use cap_bytes::Fault;
-use std::alloc::Global;
+use cap_commands::Left;
+use std::alloc::{AllocError, Global};
 use std::fs::{File, OpenOptions, Permissions};
 use std::io::ErrorKind;
 use std::rt::Files;
@@ -24,27 +26,13 @@ pub struct Beside {
     target: String,
 }
 
-/// Why a file could not be created beside the output.
-#[derive(Drop)]
-pub(crate) struct NotCreated {
-    // its name, if that is where it failed, and not at the output's own name
-    pub(crate) name: Option<String>,
-    pub(crate) error: io::Error,
-}
-
-impl From<io::Error> for NotCreated {
-    fn from(error: io::Error) -> NotCreated {
-        NotCreated { name: None, error }
-    }
-}
-
 // The name that a symbolic link leads to, if the name is one's: as it is written there, or in the link's folder if it
 // begins with no `/`.
 fn followed<R: Files<File = File>>(
     files: &R,
     alloc: Global,
     name: &str,
-) -> io::Result<Option<String>> {
+) -> Result<Option<String>, AllocError> {
     let Ok(path) = files.read_link(alloc, name) else {
         return Ok(None);
     };
@@ -60,7 +48,7 @@ fn followed<R: Files<File = File>>(
 }
 
 // The name of a file behind its symbolic links, also if there is no such file yet.
-fn real_name<R: Files<File = File>>(files: &R, alloc: Global, name: &str) -> io::Result<String> {
+fn real_name<R: Files<File = File>>(files: &R, alloc: Global, name: &str) -> Result<String, Cause> {
     if let Ok(path) = files.canonicalize(alloc, name) {
         return Ok(path.into_string());
     }
@@ -71,7 +59,7 @@ fn real_name<R: Files<File = File>>(files: &R, alloc: Global, name: &str) -> io:
             None => return Ok(name),
         }
     }
-    Err(io::Error::from(ErrorKind::InvalidInput))
+    Err(Cause::Links)
 }
 
 // The permissions of the file that is to be replaced, if there is one: a regular file that may be written, and none of
@@ -80,18 +68,26 @@ fn replaceable<R: Files<File = File>>(
     files: &R,
     name: &str,
     inputs: &[Option<FileId>],
-) -> io::Result<Option<Permissions>> {
+) -> Result<Option<Permissions>, Cause> {
     let Ok(metadata) = fs::metadata(files, name) else {
         return Ok(None);
     };
     if !metadata.is_file() {
-        return Err(io::Error::new(ErrorKind::InvalidInput, "it isn't a regular file"));
-    }
-    if is_input(id_of(regular_of(&metadata)), inputs) {
-        return Err(io::Error::from(ErrorKind::AlreadyExists));
+        return Err(Cause::NotRegular);
     }
     OpenOptions::new().write(true).open(files, name)?;
+    if is_input(id_of(regular_of(&metadata)), inputs) {
+        return Err(Cause::IsInput);
+    }
     Ok(Some(metadata.permissions()))
+}
+
+// Why a file of that name could not be created beside the output, by what the system said.
+fn beside_cause(name: String, error: &io::Error) -> Cause {
+    match error.raw_os_error() {
+        Some(error) => Cause::Beside { name, error },
+        None => Cause::Unknown,
+    }
 }
 
 // Creates a file that wasn't there, of the name of the target with the least number after it that is free.
@@ -99,11 +95,10 @@ fn create_new<R: Files<File = File>>(
     files: &R,
     alloc: Global,
     target: &str,
-) -> Result<(File, String), NotCreated> {
+) -> Result<(File, String), Cause> {
     for number in 1..u32::MAX {
-        let name = match format!(in alloc; "{target}.capt-{number}") {
-            Ok(name) => name,
-            Err(error) => return Err(NotCreated::from(io::Error::from(error))),
+        let Ok(name) = format!(in alloc; "{target}.capt-{number}") else {
+            return Err(Cause::Memory);
         };
         let opened = OpenOptions::new()
             .write(true)
@@ -112,47 +107,50 @@ fn create_new<R: Files<File = File>>(
         match opened {
             Ok(file) => return Ok((file, name)),
             Err(error) if error.kind() == ErrorKind::AlreadyExists => {}
-            Err(error) => return Err(NotCreated {
-                name: Some(name),
-                error,
-            }),
+            Err(error) => return Err(beside_cause(name, &error)),
         }
     }
-    Err(NotCreated::from(io::Error::from(ErrorKind::AlreadyExists)))
+    Err(Cause::Unknown)
 }
 
 // Creates a file beside the one of that name.
-pub(crate) fn open_beside<R: Files<File = File>>(
+fn open_beside<R: Files<File = File>>(
     files: &R,
     alloc: Global,
     name: &str,
     inputs: &[Option<FileId>],
-) -> Result<(File, Beside), NotCreated> {
+) -> Result<(File, Beside), Cause> {
     let permissions = replaceable(files, name, inputs)?;
     let target = real_name(files, alloc, name)?;
     let (file, name) = create_new(files, alloc, target.as_str())?;
     if let Some(permissions) = permissions {
         let _ = file.set_permissions(permissions);
     }
-    let written = file.try_clone()?;
-    Ok((written, Beside { file, name, target }))
+    let beside = Beside { file, name, target };
+    match beside.file.try_clone() {
+        Ok(written) => Ok((written, beside)),
+        Err(error) => {
+            beside.remove(files);
+            Err(Cause::from(error))
+        }
+    }
 }
 
 /// Creates the output of a run beside the file of that name, which stays as it is until the run is settled. Returns
-/// `Outcome::Create`, and no other outcome, if it can't be created, and if the file of that name is no regular one or
-/// one of the inputs.
+/// `Outcome::Create`, and no other outcome, with the reason, if it can't be created, and if the file of that name is no
+/// regular one or one of the inputs.
 pub fn create_beside<R: Files<File = File>>(
     files: &R,
     alloc: Global,
     name: &str,
     inputs: &[Option<FileId>],
-) -> Result<(Output, Beside), Outcome>
+) -> Result<(Output, Beside), Stop>
     ensures file { IfOk result (λ made. IsOutFile made.0) }
     ensures stops { IfErr result StopsCreating }
 {
     match open_beside(files, alloc, name, inputs) {
         Ok((file, beside)) => Ok((Output::File(file), beside)),
-        Err(_) => Err(Outcome::Create),
+        Err(cause) => Err(Stop::create(cause)),
     }
 }
 
@@ -173,17 +171,18 @@ impl Beside {
     pub fn settle<R: Files<File = File>>(
         &self,
         files: &R,
-        answer: Result<(), Stop>,
-    ) -> Result<(), Stop>
+        answer: Result<Left, Stop>,
+    ) -> Result<Left, Stop>
         ensures stopped { IsErr answer → result ≡ answer }
+        ensures left { IfOk answer (λ left. IfOk result (λ settled. settled ≡ left)) }
         ensures done { IsOk answer → IfErr result (λ stop. stop.outcome ≡ Outcome.Fault Write) }
     {
         let stop = match answer {
-            Ok(()) => match self.rename(files) {
-                Ok(()) => return Ok(()),
+            Ok(left) => match self.rename(files) {
+                Ok(()) => return Ok(left),
                 Err(error) => Stop {
                     outcome: Outcome::Fault(Fault::Write),
-                    error: error.raw_os_error(),
+                    cause: Cause::from(error),
                 },
             },
             Err(stop) => stop,

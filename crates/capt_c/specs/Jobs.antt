@@ -8,11 +8,11 @@ use Rattle.cap_merge.specs.Files.{clocked_run, endings_of_files}
 use Rattle.cap_talks.specs.talks.InfoText.{first_refusal, info_text}
 use Rattle.cap_talks.specs.talks.ReportText.{report_refusal, report_text}
 use Rattle.cap_talks.specs.talks.Telling.{Tells}
-use Rattle.cap_tool.specs.BlockText.{block_list, block_refusal}
-use Rattle.cap_tool.specs.Converted.{convert_refusal, convert_text}
-use Rattle.cap_tool.specs.JoinText.{join_refusal, join_text}
-use Rattle.cap_tool.specs.ListText.{list_refusal, list_text}
-use Rattle.cap_tool.specs.MergeText.{merge_refusal, merge_text}
+use Rattle.cap_commands.specs.BlockText.{block_list, block_refusal}
+use Rattle.cap_commands.specs.Converted.{convert_refusal, convert_text}
+use Rattle.cap_commands.specs.JoinText.{join_refusal, join_text}
+use Rattle.cap_commands.specs.ListText.{list_refusal, list_text}
+use Rattle.cap_commands.specs.MergeText.{merge_refusal, merge_text}
 use Rattle.capt_c.specs.Answers.{nowhere, place_of_result, status_of_result, status_of_unit}
 use Rattle.capt_c.specs.declared.answers.Place.{Place}
 use Rattle.capt_c.specs.declared.handles.Held.{Held}

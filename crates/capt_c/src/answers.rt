@@ -1,6 +1,6 @@
 //! What a call returns: a status, and where a capture is refused or a read failed.
 ghost use Rattle.std.specs.Prelude.{◌≡◌, ℕ};
-ghost use Rattle.cap_tool.specs.Jobs.{tail_of};
+ghost use Rattle.cap_commands.specs.Jobs.{tail_of};
 ghost use Rattle.capt_c.specs.Answers.{status_of, place_of_fault, order_of, format_of, status_of_result};
 ghost use Rattle.capt_c.specs.Answers.{place_of_result, status_of_unit};
 

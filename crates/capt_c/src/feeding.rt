@@ -1,7 +1,7 @@
 //! A capture whose bytes the caller feeds piece by piece.
 ghost use Rattle.std.specs.Prelude.{◌≡◌, Some};
 ghost use Rattle.cap_source.specs.inner.FedStates.{GivesFed};
-ghost use Rattle.cap_tool.specs.Jobs.{tail_of};
+ghost use Rattle.cap_commands.specs.Jobs.{tail_of};
 ghost use Rattle.capt_c.specs.Feeding.{EndsHeld, FeedsHeld, OpensFed, StepsFedCapture, WritesFed, status_of_fed};
 ghost use Rattle.capt_c.specs.Held.{IsClosed};
 

@@ -2,7 +2,7 @@
 ghost use Rattle.std.specs.Prelude.{◌≡◌, ◌≤◌, ◌↔◌, IfOk, IsOkUnless, IsTrue, length, map};
 ghost use denote.RawPtr.{null_ptr};
 ghost use Rattle.cap_bytes.specs.Printing.{IsReadFault};
-ghost use Rattle.cap_tool.specs.Jobs.{tail_of};
+ghost use Rattle.cap_commands.specs.Jobs.{tail_of};
 ghost use Rattle.capt_c.specs.Answers.{order_of, format_of};
 ghost use Rattle.capt_c.specs.Jobs.{AreFiles, HasFiles, IsTextClosed, Makes, Shown, ShowsTask, by_memory, file_bytes};
 ghost use Rattle.capt_c.specs.Sources.{rest_of};
@@ -12,9 +12,9 @@ use crate::handles::{Handle, Held};
 use crate::sinks::Grown;
 use crate::sources::Slice;
 use cap_bytes::{Fault, Order, Sink, Tail};
+use cap_commands::{blocks_to, convert_to, join_to, list_to, merge_to};
 use cap_source::Format;
 use cap_talks::{file_lines, report};
-use cap_tool::{blocks_to, convert_to, join_to, list_to, merge_to};
 use std::alloc::Global;
 use std::ptr::null;
 

@@ -2,12 +2,12 @@
 ghost use Rattle.std.specs.Prelude.{◌≡◌, ◌<◌, ◌⊎◌, IfSome, None, Some, length, codes};
 ghost use Rattle.cap_bytes.specs.Rules.{rule_number};
 ghost use Rattle.cap_bytes.specs.declared.faults.Fault.{Fault};
-ghost use Rattle.cap_tool.specs.Outcomes.{fault_text};
+ghost use Rattle.cap_commands.specs.FaultText.{fault_text};
 ghost use Rattle.capt_c.specs.Names.{NamesRule, PutsText, TellsFault};
 
 use crate::answers::{MEMORY, Place, READ, REFUSED, WRITE};
 use cap_bytes::{Fault, Refusal, Rule};
-use cap_tool::fault_line;
+use cap_commands::fault_line;
 use std::cmp::min;
 
 // The version of the library.

@@ -3,7 +3,7 @@ ghost use Rattle.std.specs.Prelude.{◌≡◌, ◌<◌, [], Result, Some, None, 
 ghost use Rattle.cap_source.specs.Feed.{GivesHead, FeedKeeps};
 ghost use Rattle.cap_bytes.specs.declared.faults.Fault.{Fault};
 ghost use Rattle.cap_source.specs.declared.feeds.Head.{Head};
-ghost use Rattle.cap_tool.specs.Jobs.{tail_of};
+ghost use Rattle.cap_commands.specs.Jobs.{tail_of};
 ghost use Rattle.capt_c.specs.Held.{IsClosed};
 ghost use Rattle.capt_c.specs.Packets.{StepsPacket};
 ghost use Rattle.capt_c.specs.Sources.{tells_of, input_coming, input_can_fail};

@@ -1,6 +1,6 @@
 //! The report over captures in memory, packet by packet.
 ghost use Rattle.std.specs.Prelude.{◌≡◌, ◌≤◌, IsOkUnless, OnErr, Some, length};
-ghost use Rattle.cap_tool.specs.Jobs.{tail_of};
+ghost use Rattle.cap_commands.specs.Jobs.{tail_of};
 ghost use Rattle.capt_c.specs.Answers.{status_of_result, status_of_unit};
 ghost use Rattle.capt_c.specs.Held.{IsClosed};
 ghost use Rattle.capt_c.specs.Jobs.{AreFiles};

@@ -9,7 +9,7 @@ use Rattle.cap_time.specs.declared.resolutions.Interface.{Interface}
 use Rattle.cap_source.specs.Feed.{refusal_of}
 use Rattle.cap_write.specs.Numbering.{Origin, Numbered, numbered, refusal_in, write_fault}
 use Rattle.cap_write.specs.Texts.{interface_part, packet_part, count_after}
-use Rattle.cap_tool.specs.BlockText.{refusal_of_stop}
+use Rattle.cap_commands.specs.BlockText.{refusal_of_stop}
 use Rattle.cap_laws.specs.again.Laws.{Kept, kept_packets, read_items, AreNumbered, all_described}
 
 -- the packets of a pcap file as they are numbered after its one interface, and as they are kept

@@ -35,7 +35,7 @@ use Rattle.cap_write.specs.Texts.{packet_part, count_after, packets_bytes, front
 use Rattle.cap_laws.proofs.again.Files.{length-section_bytes, pcapng-again}
 use Rattle.cap_laws.proofs.again.Held.{AllFit-held, held-written, early-written, records-again}
 use Rattle.cap_laws.proofs.again.Out.{fits, early, records_bytes-read, records_refusal-read, timely-packets}
-use Rattle.cap_tool.specs.BlockText.{refusal_of_stop}
+use Rattle.cap_commands.specs.BlockText.{refusal_of_stop}
 use Rattle.cap_laws.proofs.again.Packed.{number_one, number_all, numbered-packets, refusal-packets}
 use Rattle.cap_laws.proofs.again.Packed.{refusal_of-packets, kept-packets, kept-read, IsNumbered-packets}
 use Rattle.cap_laws.proofs.again.Packed.{all_described-packets}

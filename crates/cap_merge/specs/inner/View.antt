@@ -1,5 +1,5 @@
 -- What contracts see of a `Merged`.
-use Rattle.std.specs.Prelude.{List, map}
+use Rattle.std.specs.Prelude.{ℕ, Bool, List, map}
 use Rattle.cap_merge.specs.declared.merging.Merged.{Merged}
 use Rattle.cap_merge.specs.Parts.{Part, parts}
 
@@ -7,6 +7,10 @@ use Rattle.cap_merge.specs.Parts.{Part, parts}
 abbrev pub parts_of : {F : Type 0} {g : _} → Merged F g → List Part
 parts_of {F} {g} m = parts m.lanes.items (map g.feed m.feeds.items)
 
--- its feeds alone
-abbrev pub feeds_of : {F : Type 0} {g : _} → Merged F g → List F
-feeds_of m = m.feeds.items
+-- how many of the packets that were passed run backward, as far as they were counted
+abbrev pub backward_of : {F : Type 0} {g : _} → Merged F g → ℕ
+backward_of m = m.backward
+
+-- whether they are counted
+abbrev pub counts_backward : {F : Type 0} {g : _} → Merged F g → Bool
+counts_backward m = m.counts

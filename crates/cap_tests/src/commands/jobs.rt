@@ -7,7 +7,7 @@ use crate::files::{ask_written, readers_of, room_of};
 use cap_bytes::{Fault, Order, Sink};
 use cap_line::{Job, Task, can_replace, is_whole};
 use cap_source::Format;
-use cap_tool::{Finding, Left, job_and_count, job_to};
+use cap_tool::{Done, Finding, Left, job_to};
 use std::alloc::Global;
 use std::process::Abort;
 
@@ -117,7 +117,8 @@ fn does<W: Sink>(
     holds!(rt; job.files.len() <= 32);
     holds!(rt; is_whole(job.task, job.files.len(), job.to, job.out));
     holds!(rt; can_replace(job.whole, job.out));
-    job_to(alloc, job, sources, writer)
+    let done = job_to(alloc, job, sources, false, writer)?;
+    Ok(done.finding)
 }
 
 // What a job of two captures that writes answers, which counts what it leaves.
@@ -127,15 +128,14 @@ fn counts<W: Sink>(
     job: &Job<'_>,
     captures: &[&str],
     writer: &mut W,
-    left: &mut Left,
-) -> Result<Finding, Fault> {
+) -> Result<Done, Fault> {
     let sources = readers_of(rt, alloc, captures, 4096);
     holds!(rt; sources.len() == job.files.len());
     holds!(rt; !job.files.is_empty());
     holds!(rt; job.files.len() <= 32);
     holds!(rt; is_whole(job.task, job.files.len(), job.to, job.out));
     holds!(rt; can_replace(job.whole, job.out));
-    job_and_count(alloc, job, sources, writer, left)
+    job_to(alloc, job, sources, true, writer)
 }
 
 // A job of one capture that prints.
@@ -263,26 +263,17 @@ fn leaves(rt: &impl Abort, alloc: Global, task: Task, skipped: u128) {
     let mut job = printing(rt, alloc, task, false);
     job.files.push("b").expect(rt, "memory");
     job.out = if skipped == 0 { None } else { Some("c") };
-    let mut left = Left {
-        skipped: 7,
-        named: 7,
-        ran_back: 7,
-    };
     let mut writer = room_of(rt, alloc, 1024);
-    let answer = counts(
-        rt,
-        alloc,
-        &job,
-        &[SKIPPING, SKIPPING],
-        &mut writer,
-        &mut left,
-    );
-    let wanted = Left {
-        skipped,
-        named: 0,
-        ran_back: 0,
+    let answer = counts(rt, alloc, &job, &[SKIPPING, SKIPPING], &mut writer);
+    let wanted = Done {
+        finding: Finding::Nothing,
+        left: Left {
+            skipped,
+            named: 0,
+            ran_back: 0,
+        },
     };
-    same!(rt; (answer, left), (Ok(Finding::Nothing), wanted), task);
+    same!(rt; answer, Ok(wanted), task);
 }
 
 #[test]

@@ -1,7 +1,7 @@
 //! The order of stamps, which is that of their times, and a hash that agrees with it.
 ghost use Rattle.std.specs.Prelude.{◌≡◌, ◌*◌, refl, IsTrue, if◌then◌else◌};
 ghost use Rattle.std.specs.Ordering.{as_partial_cmp, nat_cmp, is_lt};
-ghost use Rattle.cap_time.specs.Clock.{later};
+ghost use Rattle.cap_time.specs.Clock.{is_backward, later};
 ghost use Rattle.cap_time.specs.Stamp.{numerator_of, denominator_of, stamp_cmp};
 ghost use Rattle.cap_time.specs.inner.StampLaws.{CountAlike};
 
@@ -64,19 +64,22 @@ impl Stamp {
     }
 }
 
-/// Moves a clock to a time, if that is later: a clock is the greatest of some times, and `None` if there is none.
+/// Moves a clock to a time, if that is later, and returns whether the time is earlier: the packet runs backward. A
+/// clock is the greatest of some times, and `None` if there is none.
 #[inline(always)]
-pub fn reach(clock: &mut Option<Stamp>, time: &Option<Stamp>)
-    ensures { clock.new ≡ later clock.old time.now }
+pub fn reach(clock: &mut Option<Stamp>, time: &Option<Stamp>) -> bool
+    ensures clock { clock.new ≡ later clock.old time.now }
+    ensures backward { result ≡ is_backward clock.old time.now }
 {
     let Some(time) = time else {
-        return;
+        return false;
     };
     match clock {
-        None => *clock = Some(*time),
-        Some(clock) => {
-            let _order = clock.reach(time);
+        None => {
+            *clock = Some(*time);
+            false
         }
+        Some(clock) => clock.reach(time).is_gt(),
     }
 }
 

@@ -1,6 +1,6 @@
 use Rattle.std.proofs.Common.{◌≡◌, ◌≤◌, length, map, IsTrue}
 use Rattle.cap_tool.proofs.CheckedFiles.{AreNamed}
-use Rattle.cap_tool.specs.Jobs.{form_by, tail_of}
+use Rattle.cap_commands.specs.Jobs.{form_by, tail_of}
 use Rattle.cap_tool.proofs.checks.check_named.Given as goal
 
 -- the files of the names so far are checked, and their lines are printed

@@ -1,4 +1,4 @@
-use Rattle.cap_tool.proofs.Telling.{Puts-front}
+use Rattle.cap_commands.proofs.Telling.{Puts-front}
 use Rattle.cap_tool.proofs.objects.tell_object.Goals as goal
 
 pub returns-clause-told : goal.returns-clause-told

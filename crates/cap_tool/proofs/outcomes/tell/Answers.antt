@@ -1,5 +1,5 @@
 use Rattle.std.proofs.Common.{rules}
-use Rattle.cap_tool.proofs.Telling.{Puts-front}
+use Rattle.cap_commands.proofs.Telling.{Puts-front}
 use Rattle.cap_tool.proofs.outcomes.tell.Goals as goal
 
 pub returns-clause-told : goal.returns-clause-told

@@ -1,5 +1,6 @@
-use Rattle.std.proofs.Common.{◌≡◌, ◌∙◌, false, Result, Ok, Err, IfOk, is_err, sym, ap, arith, option_map}
+use Rattle.std.proofs.Common.{◌≡◌, ◌∙◌, false, Result, Ok, Err, IfOk, is_err, sym, ap, arith}
 use Rattle.cap_tool.proofs.CheckedFiles.{next-given}
+use Rattle.cap_tool.specs.Openers.{reader_of}
 use Rattle.cap_tool.proofs.streams.open_all.Goals as goal
 
 -- what was done is what an answer that is no error says
@@ -13,9 +14,9 @@ loop-place-preserved g c =
     let all = done c.add.result _ added c.add.ensures.all in
     let len = done c.add.result _ added c.add.ensures.len in (
       next-given (g.O.Opener.gives c.args.opener.now) c.args.names.now c.loop-place.inputs.sources.items _
-          c.loop-place.place _ c.in-Some.input _ c.loop-place-test.true c.loop-place.invariant.0
+          c.loop-place.place _ c.in-Ok.opened.0 _ c.loop-place-test.true c.loop-place.invariant.0
           (omega (arith, c.loop-place.invariant.1, c.loop-place.inputs.sources.ok.0)) c.open.ensures
-          (ap (option_map (λ o. o.0)) c.in-Some.is) all,
+          (ap reader_of c.in-Ok.is) all,
       omega (arith, len),
       omega arith,
     )

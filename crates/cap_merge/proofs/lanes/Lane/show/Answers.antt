@@ -11,5 +11,5 @@ returns-then-shows_packet-clause-shows g c =
     learns-packet c.args.self.now.clock c.args.self.now.next c.time.result (feed c.args.feed.now)
     (feed c.shows_packet.new.self) c.packet.result.now c.reach.new.clock
     (sym c.is_some.ensures ∙ c.if-is_some.false) c.if-shows_packet.ensures.answer c.packet.ensures.packet
-    c.reach.ensures c.time.ensures.time
+    c.reach.ensures.clock c.time.ensures.time
     c.time.ensures.bounded c.shows_packet.ensures.keeps c.shows_packet.ensures.items

@@ -11,4 +11,9 @@ returns-in_err-is_packet g c =
     let qs = parts_of n in
     let p = err_from_is_err_and c.from_residual.result c.from_residual.ensures.1 in
     let h = stopped-looks ps qs c.in_err-is_packet.field-0.0 c.in_err-is_packet.ensures.asks in
-    rw (p.1, p.2) (record { asks = h.0; next = h.1 })
+    rw (p.1, p.2) (record {
+      asks = h.0;
+      next = h.1;
+      backward = c.look.ensures.backward;
+      counts = c.look.ensures.counts;
+    })

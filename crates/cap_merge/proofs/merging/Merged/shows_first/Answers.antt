@@ -25,8 +25,8 @@ invariant_of-self g c =
           (rw c.if-not-show_at.true at e.shows);
     }
 
-pub returns-then-not-show_at : goal.returns-then-not-show_at
-returns-then-not-show_at g c =
+pub returns-then-not-show_at-clause-shows : goal.returns-then-not-show_at-clause-shows
+returns-then-not-show_at-clause-shows g c =
     let m = c.args.self.now in
     let f = g.F.PacketFeed.feed in
     let ps = parts_of m in
@@ -47,8 +47,8 @@ invariant_of-self-then-len-eq1 g c =
           (e.packet c.if-not-show_at.false)));
     }
 
-pub returns-then-len-eq1 : goal.returns-then-len-eq1
-returns-then-len-eq1 g c =
+pub returns-then-len-eq1-clause-shows : goal.returns-then-len-eq1-clause-shows
+returns-then-len-eq1-clause-shows g c =
     let m = c.args.self.now in
     let f = g.F.PacketFeed.feed in
     let ps = parts_of m in
@@ -83,8 +83,8 @@ coming_at-requires-clause-known g c =
     (asked-known (parts_of m) c.show_at.new.lanes.items
     (map f c.show_at.new.feeds.items) c.show_at.ensures.agrees learns)
 
-pub returns : goal.returns
-returns g c =
+pub returns-clause-shows : goal.returns-clause-shows
+returns-clause-shows g c =
     let m = c.args.self.now in
     let f = g.F.PacketFeed.feed in
     let fs = c.show_at.new.feeds.items in

@@ -1,4 +1,4 @@
-use Rattle.std.proofs.Common.{Ok, true}
+use Rattle.std.proofs.Common.{Ok, true, ◌∙◌}
 use Rattle.cap_merge.specs.inner.Sound.{lawful-each, numbered-from}
 use Rattle.cap_merge.specs.inner.View.{parts_of}
 use Rattle.cap_merge.proofs.Peeking.{finds-all}
@@ -11,11 +11,20 @@ returns-then-shows_first g c =
     let ps = parts_of m in
     let qs = parts_of n in
     let lawful = lawful-each g.F.PacketFeed.feed g.met.F.PacketFeed.lawful n.lanes.items n.feeds.items in
-    let shows = rw c.if-shows_first.true at c.shows_first.ensures in
+    let shows = rw c.if-shows_first.true at c.shows_first.ensures.shows in
     let h = finds-all ps qs (Ok true)
     (numbered-from g.F.PacketFeed.feed m.lanes.items m.feeds.items m.kept.alike m.kept.numbered)
     shows.0 shows.1 lawful in
-    record { answer = h.answer; keeps = h.keeps; items = h.items; asks = h.asks; run = h.run; clocks = h.clocks }
+    record {
+      answer = h.answer;
+      keeps = h.keeps;
+      items = h.items;
+      asks = h.asks;
+      run = h.run;
+      clocks = h.clocks;
+      backward = c.shows_first.ensures.backward;
+      counts = c.shows_first.ensures.counts;
+    }
 
 pub returns : goal.returns
 returns g c =
@@ -24,8 +33,17 @@ returns g c =
     let ps = parts_of m in
     let qs = parts_of n in
     let lawful = lawful-each g.F.PacketFeed.feed g.met.F.PacketFeed.lawful n.lanes.items n.feeds.items in
-    let asks = (rw c.if-shows_first.false at c.shows_first.ensures) c.find.result qs c.find.ensures.asks in
+    let asks = (rw c.if-shows_first.false at c.shows_first.ensures.shows) c.find.result qs c.find.ensures.asks in
     let h = finds-all ps qs c.find.result
     (numbered-from g.F.PacketFeed.feed m.lanes.items m.feeds.items m.kept.alike m.kept.numbered) asks
     c.find.ensures.next lawful in
-    record { answer = h.answer; keeps = h.keeps; items = h.items; asks = h.asks; run = h.run; clocks = h.clocks }
+    record {
+      answer = h.answer;
+      keeps = h.keeps;
+      items = h.items;
+      asks = h.asks;
+      run = h.run;
+      clocks = h.clocks;
+      backward = c.find.ensures.backward ∙ c.shows_first.ensures.backward;
+      counts = c.find.ensures.counts ∙ c.shows_first.ensures.counts;
+    }

@@ -24,6 +24,8 @@ returns-in_err-look g c =
       asks = h.asks;
       run = h.run;
       clocks = h.clocks;
+      backward = c.look.ensures.backward;
+      counts = c.look.ensures.counts;
     })
 
 pub packet-requires : goal.packet-requires
@@ -42,7 +44,16 @@ returns-in-Ok-true g c =
     let qs = parts_of n in
     let lawful = lawful-each g.F.PacketFeed.feed g.met.F.PacketFeed.lawful n.lanes.items n.feeds.items in
     let h = heads-known ps qs (Packet c.packet.result.now) c.in_ok-look.ensures.asks c.packet.ensures.packet lawful in
-    record { answer = h.answer; keeps = h.keeps; items = h.items; asks = h.asks; run = h.run; clocks = h.clocks }
+    record {
+      answer = h.answer;
+      keeps = h.keeps;
+      items = h.items;
+      asks = h.asks;
+      run = h.run;
+      clocks = h.clocks;
+      backward = c.look.ensures.backward;
+      counts = c.look.ensures.counts;
+    }
 
 pub returns-in-Err : goal.returns-in-Err
 returns-in-Err g c =
@@ -54,7 +65,16 @@ returns-in-Err g c =
     let known = refusal-comes (merged_feed qs).known c.in-Err.refusal
     (rw c.in-Err.is at c.in_ok-look.ensures.next) in
     let h = heads-known ps qs (Refused c.in-Err.refusal) c.in_ok-look.ensures.asks known lawful in
-    record { answer = h.answer; keeps = h.keeps; items = h.items; asks = h.asks; run = h.run; clocks = h.clocks }
+    record {
+      answer = h.answer;
+      keeps = h.keeps;
+      items = h.items;
+      asks = h.asks;
+      run = h.run;
+      clocks = h.clocks;
+      backward = c.look.ensures.backward;
+      counts = c.look.ensures.counts;
+    }
 
 pub returns-in-Ok-false : goal.returns-in-Ok-false
 returns-in-Ok-false g c =
@@ -66,4 +86,13 @@ returns-in-Ok-false g c =
     let h = heads-known ps qs End c.in_ok-look.ensures.asks
     (end-comes (merged_feed qs).known
     (rw (c.in-Ok-false.is, c.in-Ok-false.field-0-test) at c.in_ok-look.ensures.next)) lawful in
-    record { answer = h.answer; keeps = h.keeps; items = h.items; asks = h.asks; run = h.run; clocks = h.clocks }
+    record {
+      answer = h.answer;
+      keeps = h.keeps;
+      items = h.items;
+      asks = h.asks;
+      run = h.run;
+      clocks = h.clocks;
+      backward = c.look.ensures.backward;
+      counts = c.look.ensures.counts;
+    }

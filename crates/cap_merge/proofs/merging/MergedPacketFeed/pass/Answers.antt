@@ -1,6 +1,8 @@
-use Rattle.std.proofs.Common.{sym, ◌∙◌}
+use Rattle.std.proofs.Common.{refl, sym, ◌∙◌}
 use Rattle.cap_bytes.proofs.Parsing.{none_from}
+use Rattle.cap_merge.specs.Parts.{clock_of, merged_feed}
 use Rattle.cap_merge.specs.inner.View.{parts_of}
+use Rattle.cap_merge.proofs.Backward.{counted-more}
 use Rattle.cap_merge.proofs.Firsts.{packet-at-first, passed-of, no-packet, known-packet}
 use Rattle.cap_merge.proofs.Keeping.{passed-merge}
 use Rattle.cap_merge.proofs.Placing.{place_within, none-placed}
@@ -25,7 +27,10 @@ pass_at-requires g c =
     }
 
 pub invariant_of-self : goal.invariant_of-self
-invariant_of-self g c =
+invariant_of-self g c = record { kept = c.args.self.now.kept }
+
+pub invariant_of-self-in-Some : goal.invariant_of-self-in-Some
+invariant_of-self-in-Some g c =
     let m = c.args.self.now in
     let e = c.pass_at.ensures in
     record {
@@ -41,7 +46,15 @@ returns-in-Some g c =
     m.feeds.items c.pass_at.new.feeds.items c.in-Some.place m.kept.some m.kept.alike
     (sym c.first_place.ensures.place ∙ c.in-Some.is) m.kept.numbered m.kept.reached c.requires.packet
     c.pass_at.ensures.passes in
-    record { passes = passed.passes; keeps = passed.keeps; run = passed.run; clocks = passed.clocks }
+    record {
+      passes = passed.passes;
+      keeps = passed.keeps;
+      run = passed.run;
+      clocks = passed.clocks;
+      backward = counted-more (merged_feed (parts_of m)).known m.counts m.backward c.backward_step.result
+          c.saturating_add-self.result (clock_of (parts_of m)) c.backward_step.ensures c.saturating_add-self.ensures;
+      counts = refl;
+    }
 
 pub returns-in_default : goal.returns-in_default
 returns-in_default g c =

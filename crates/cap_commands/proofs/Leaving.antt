@@ -1,0 +1,93 @@
+-- What is left of files that were written.
+use Rattle.std.proofs.Common.{◌≡◌, ◌+◌, ◌<◌, ℕ, zero, suc, List, map, length, Bool, IsTrue, Some, Result, Ok, Err, OnOk}
+use Rattle.std.proofs.Common.{refl, sym, ap, ◌∙◌, subst, arith}
+use Rattle.std.specs.List.{list_all, range_with_len}
+use Rattle.cap_bytes.specs.Printing.{Prints}
+use Rattle.cap_bytes.specs.declared.faults.Fault.{Fault}
+use Rattle.cap_bytes.specs.declared.faults.Tail.{Tail}
+use Rattle.cap_bytes.specs.declared.numbers.Order.{Order}
+use Rattle.cap_merge.proofs.Unread.{told-readers, bytes-readers}
+use Rattle.cap_merge.specs.Files.{endings_of_files}
+use Rattle.cap_merge.specs.Parts.{Part, merged_feed}
+use Rattle.cap_merge.specs.inner.Readers.{ReaderFacts, IsUnreadRun}
+use Rattle.cap_source.specs.Feed.{Feed, HasFile, Item, FeedKeeps}
+use Rattle.cap_source.specs.Items.{file_first, file_items}
+use Rattle.cap_source.specs.inner.Walk.{SameEndings, Walks}
+use Rattle.cap_source.specs.declared.feeds.FileEnd.{FileEnd}
+use Rattle.cap_source.specs.declared.feeds.Head.TheVariants as heads
+use Rattle.cap_bytes.specs.declared.formats.Format.{Format}
+use Rattle.cap_bytes.specs.declared.formats.Format.TheVariants.{Pcap, Pcapng}
+use Rattle.cap_talks.proofs.TableLines.{is-numbered}
+use Rattle.std.proofs.lemmas.List.{length-map}
+use Rattle.std.proofs.lemmas.List.FromFn.{length-range_with_len}
+use Rattle.cap_commands.specs.Converted.{convert_text, convert_refusal}
+use Rattle.cap_commands.specs.inner.FileText.{written_file_text, file_refusal}
+use Rattle.cap_commands.specs.Left.{left_of_file, sum_of_files, skipped_in, named_in, LeavesOut}
+use Rattle.cap_commands.specs.declared.left.Left.{Left}
+
+-- a walk that is done has come to the end
+pub Walks-done : (old new : Feed) (result : Result (Unit {0}) Fault) → Walks old result new
+    → OnOk result (new.known ≡ Some heads.End)
+Walks-done old new (Ok x) w = w.0
+Walks-done old new (Err fault) w = tt
+
+sum_in-same : (count : FileEnd → ℕ) (f g : ℕ → FileEnd) (n : ℕ) → ((file : ℕ) → f file ≡ g file)
+    → sum_of_files count f n ≡ sum_of_files count g n
+sum_in-same count f g zero same = refl
+sum_in-same count f g (suc n) same = rw (sum_in-same count f g n same, same (suc n)) refl
+
+-- files that end alike leave the same out
+Drops-same : (f g : ℕ → FileEnd) (n m : ℕ) (left : Left) → n ≡ m → ((file : ℕ) → f file ≡ g file) → LeavesOut f n left
+    → LeavesOut g m left
+Drops-same f g n m left is same d = record {
+  skipped = d.skipped ∙ (ap (skipped_in f) is ∙ sum_in-same (λ end. end.ending.skipped) f g m same);
+  named = d.named ∙ (ap (named_in f) is ∙ sum_in-same (λ end. end.named) f g m same);
+}
+
+-- a file of that number is one of them
+pub is-file : (files : List ℕ) (count place : ℕ) → files ≡ range_with_len 1 count → place < count
+    → HasFile files (place + 1)
+is-file files count place is within =
+    let number : 1 + place ≡ place + 1 = omega arith in
+    subst (λ fs. HasFile fs (place + 1)) (sym is) (subst (HasFile (range_with_len 1 count)) number
+    (is-numbered 1 count place within))
+
+-- of files that were merged
+pub Drops-merged : {A : Type 0} (reader : A
+    → ReaderFacts) (tail : Tail) (sources : List A) (ps : List Part) (new : Feed)
+    (result : Result (Unit {0}) Fault) (left : Left)
+    → IsUnreadRun tail (map reader sources) ps → FeedKeeps (merged_feed ps) new
+    → OnOk result (IsTrue (merged_feed ps).told → SameEndings (merged_feed ps) new)
+    → OnOk result (LeavesOut new.endings (length new.files) left)
+    → OnOk result (IsTrue (list_all (λ s. (reader s).told) sources)
+    → LeavesOut (endings_of_files tail (map (λ s. (reader s).bytes) sources)) (length sources) left)
+Drops-merged reader tail sources ps new (Ok x) left u keeps ends is = λ t.
+    let told = told-readers reader tail sources ps u t in
+    let count : length new.files ≡ length sources =
+    ap length (keeps.files ∙ u.files)
+    ∙ (length-range_with_len 1 (length (map reader sources)) ∙ length-map sources reader) in
+    Drops-same new.endings (endings_of_files tail (map (λ s. (reader s).bytes) sources)) (length new.files)
+    (length sources) left count
+    (λ file. ends told file
+    ∙ (u.endings file ∙ ap (λ l. endings_of_files tail l file) (bytes-readers reader sources))) is
+Drops-merged reader tail sources ps new (Err fault) left u keeps ends is = tt
+
+-- of one file
+pub Left-one : (old new : Feed) (told : Bool) (ending : FileEnd) (result : Result (Unit {0}) Fault) (left : Left)
+    → old.told ≡ told → ((n : ℕ) → old.endings n ≡ ending)
+    → OnOk result (IsTrue old.told → SameEndings old new)
+    → OnOk result (left ≡ left_of_file (new.endings 1))
+    → OnOk result (IsTrue told → left ≡ left_of_file ending)
+Left-one old new told ending (Ok x) left is at ends l = λ t. l ∙ ap left_of_file
+    (ends (subst IsTrue (sym is) t) 1 ∙ at 1)
+Left-one old new told ending (Err fault) left is at ends l = tt
+
+-- what is written of a file of which nothing was read
+pub Prints-file : (format : Format) (order : Order) (tail : Tail) (bytes : List ℕ) (number : ℕ) (first : _)
+    (items : List Item) (held new : List ℕ) (result : Result (Unit {0}) Fault)
+    → number ≡ 1 → first ≡ file_first tail 1 bytes → items ≡ file_items tail 1 bytes
+    → Prints (written_file_text format order number first items) (file_refusal format number first items) held result
+    new
+    → Prints (convert_text format order tail bytes) (convert_refusal format tail bytes) held result new
+Prints-file Pcap order tail bytes number first items held new result n f i p = rw (n, f, i) at p
+Prints-file Pcapng order tail bytes number first items held new result n f i p = rw (n, f, i) at p

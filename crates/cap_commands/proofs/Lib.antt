@@ -1,0 +1,11 @@
+pub mod Parting
+pub mod DiffWords
+mod Merging
+mod Leaving
+pub mod BlockListing
+pub mod DigestFiles
+pub mod BlockWalking
+pub mod Listing
+pub mod Telling
+pub mod Pieces
+pub mod CheckedFiles

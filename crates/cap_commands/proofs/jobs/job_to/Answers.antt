@@ -1,0 +1,27 @@
+use Rattle.std.proofs.lemmas.Grind.{common_steps}
+use Rattle.std.proofs.Common.{rules, arith}
+use Rattle.cap_commands.proofs.jobs.job_to.Goals as goal
+
+pub returns-in-List-clause-text : goal.returns-in-List-clause-text
+returns-in-List-clause-text c = search rules
+
+pub returns-in-Blocks-clause-text : goal.returns-in-Blocks-clause-text
+returns-in-Blocks-clause-text c = search rules
+
+pub returns-in-Digest-clause-text : goal.returns-in-Digest-clause-text
+returns-in-Digest-clause-text c = search rules
+
+pub returns-in-Info-clause-text : goal.returns-in-Info-clause-text
+returns-in-Info-clause-text c = search rules
+
+pub returns-in-Report-clause-text : goal.returns-in-Report-clause-text
+returns-in-Report-clause-text c = grind (arith, common_steps)
+
+pub returns-in-Merge-clause-text : goal.returns-in-Merge-clause-text
+returns-in-Merge-clause-text c = search rules
+
+pub returns-in-Join-clause-text : goal.returns-in-Join-clause-text
+returns-in-Join-clause-text c = search rules
+
+pub returns-in-Convert-clause-text : goal.returns-in-Convert-clause-text
+returns-in-Convert-clause-text c = search rules

@@ -1,0 +1,163 @@
+-- What `capt diff` prints of two captures: whether they have the same packets, in whatever container, byte order and
+-- units each of the two has them.
+use Rattle.std.specs.Prelude.{ℕ, ◌+◌, ◌==◌, List, [], ◌∷◌, ◌++◌, codes, decimal, Bool, true, false, not, ◌||◌}
+use Rattle.std.specs.Prelude.{◌≡◌, take, Option, Some, None, Result, Ok, Err, if◌then◌else◌}
+use Rattle.std.specs.Str.{bytes_eq}
+use Rattle.cap_bytes.specs.Printing.{PrintsFront}
+use Rattle.cap_bytes.specs.declared.faults.Fault.{Fault}
+use Rattle.cap_bytes.specs.declared.faults.Fault.TheVariants.{Refused, Read, Write, Memory}
+use Rattle.cap_bytes.specs.declared.faults.Refusal.{Refusal}
+use Rattle.cap_bytes.specs.declared.faults.Tail.{Tail}
+use Rattle.cap_print.specs.Facts.{begin_in, close_in, end_in, fields_in, line_in, named, number, one}
+use Rattle.cap_print.specs.declared.forms.Form.{Form}
+use Rattle.cap_print.specs.declared.forms.Form.TheVariants.{Json, Text}
+use Rattle.cap_source.specs.Feed.{Item, packet, refused}
+use Rattle.cap_source.specs.Items.{file_items}
+use Rattle.cap_source.specs.Times.{meta_time}
+use Rattle.cap_source.specs.declared.packets.Meta.{Meta}
+use Rattle.cap_time.specs.Stamp.{stamp_eq}
+use Rattle.cap_time.specs.declared.stamps.Stamp.{Stamp}
+use Rattle.cap_commands.specs.ListText.{facts_showing}
+use Rattle.cap_commands.specs.declared.diff.Differences.{Differences}
+
+-- A packet with its captured bytes.
+pub record Compared : Type 0 where
+  pub meta : Meta
+  pub frame : List ℕ
+
+-- two packets have the same exact time, or both have none
+abbrev pub is_same_time : Option Stamp → Option Stamp → Bool
+is_same_time None None = true
+is_same_time None (Some other) = false
+is_same_time (Some stamp) None = false
+is_same_time (Some stamp) (Some other) = stamp_eq stamp other
+
+-- in which of five things two packets differ: link type, exact time, captured length, original length, captured bytes
+abbrev pub differences_of : Compared → Compared → Differences
+differences_of a b =
+    record {
+      link = not (a.meta.interface.link == b.meta.interface.link);
+      time = not (is_same_time (meta_time a.meta) (meta_time b.meta));
+      captured = not (a.meta.captured == b.meta.captured);
+      original = not (a.meta.original == b.meta.original);
+      bytes = not (bytes_eq a.frame b.frame);
+    }
+
+-- they differ in one of these at least
+abbrev pub do_differ : Differences → Bool
+do_differ it = it.link || it.time || it.captured || it.original || it.bytes
+
+-- What two captures are to each other: the same packets, so many; or which is the first, from number 1, that isn't the
+-- same in both, with the packet of each, none if it has ended; or refused.
+pub data Comparison : Type 0 where
+  same_packets : ℕ → Comparison
+  other_packet : ℕ → Option Compared → Option Compared → Comparison
+  stopped_by : Refusal → Comparison
+
+-- the comparison of two captures' items, after so many packets that are the same
+unfoldable pub compared : ℕ → List Item → List Item → Comparison
+compared n (refused r ∷ xs) ys = stopped_by r
+compared n (packet meta frame ∷ xs) (refused r ∷ ys) = stopped_by r
+compared n (packet meta frame ∷ xs) [] = other_packet (n + 1) (Some (record { meta = meta; frame = frame })) None
+compared n (packet meta frame ∷ xs) (packet other bytes ∷ ys) =
+    (if do_differ (differences_of (record { meta = meta; frame = frame }) (record { meta = other; frame = bytes }))
+    then other_packet (n + 1) (Some (record { meta = meta; frame = frame }))
+    (Some (record { meta = other; frame = bytes }))
+    else compared (n + 1) xs ys)
+compared n [] (refused r ∷ ys) = stopped_by r
+compared n [] [] = same_packets n
+compared n [] (packet other bytes ∷ ys) = other_packet (n + 1) None (Some (record { meta = other; frame = bytes }))
+
+-- the comparison of two files of those bytes, which have the numbers 1 and 2
+abbrev pub comparison_of : Tail → List ℕ → List ℕ → Comparison
+comparison_of tail first second = compared 0 (file_items tail 1 first) (file_items tail 2 second)
+
+-- the words of which that is so
+unfoldable pub chosen : List (Bool × List ℕ) → List (List ℕ)
+chosen [] = []
+chosen (word ∷ words) = if word.0 then word.1 ∷ chosen words else chosen words
+
+-- the words of what differs, in this order
+abbrev pub words_of : Differences → List (List ℕ)
+words_of it = chosen
+    ((it.link, codes "link") ∷ (it.time, codes "time") ∷ (it.captured, codes "captured")
+    ∷ (it.original, codes "original") ∷ (it.bytes, codes "data") ∷ [])
+
+-- in what two packets differ; of one whose counterpart is missing, that the other file has ended
+abbrev pub difference_words : Option Compared → Option Compared → List (List ℕ)
+difference_words (Some a) (Some b) = words_of (differences_of a b)
+difference_words (Some a) None = codes "end" ∷ []
+difference_words None other = codes "end" ∷ []
+
+-- words in text, each after a blank
+abbrev pub spaced : List (List ℕ) → List ℕ
+spaced [] = []
+spaced (word ∷ words) = codes " " ++ word ++ spaced words
+
+-- words in JSON, as strings with commas between them
+abbrev pub quoted : List (List ℕ) → List ℕ
+quoted [] = []
+quoted (word ∷ []) = codes "\"" ++ word ++ codes "\""
+quoted (word ∷ next ∷ words) = codes "\"" ++ word ++ codes "\"," ++ quoted (next ∷ words)
+
+-- the line of two captures with the same packets, so many, in a form
+abbrev pub same_line : Form → ℕ → List ℕ
+same_line form n = line_in form (record {
+  kind = codes "same";
+  fields = one (named (codes "packets") (number n)) ∷ [];
+})
+
+-- the first line of a difference in a form, at the packet of that number, with these words
+abbrev pub difference_line : Form → ℕ → List (List ℕ) → List ℕ
+difference_line Text n words = codes "differ packet " ++ decimal n ++ spaced words ++ codes "\n"
+difference_line Json n words =
+    codes "{\"type\":\"differ\",\"packet\":" ++ decimal n ++ codes ",\"differs\":[" ++ quoted words ++ codes "]}\n"
+
+-- what stands before a packet in a form, by the sign of its file
+abbrev pub before_side : Form → List ℕ → List ℕ
+before_side Text sign = sign ++ codes " "
+before_side Json sign = codes "{\"type\":\"side\",\"side\":\"" ++ sign ++ codes "\",\"packet\":"
+
+-- the packet of that number in a form, as `list` prints it with at most 16 of its bytes; in JSON its object ends the
+-- object that it stands in
+abbrev pub packet_side : Form → ℕ → Compared → List ℕ
+packet_side form n a = begin_in form (codes "packet")
+    (fields_in form (facts_showing n a.meta (take 16 a.frame)).fields (close_in form (end_in form)))
+
+-- that there is no packet
+abbrev pub no_side : Form → List ℕ
+no_side Text = codes "end\n"
+no_side Json = codes "null}\n"
+
+-- a packet in a form, or that there is none
+abbrev pub side_in : Form → ℕ → Option Compared → List ℕ
+side_in form n None = no_side form
+side_in form n (Some a) = packet_side form n a
+
+-- what is printed of a comparison in a form
+abbrev pub diff_text_in : Form → Comparison → List ℕ
+diff_text_in form (same_packets n) = same_line form n
+diff_text_in form (other_packet n a b) = difference_line form n (difference_words a b)
+    ++ ((before_side form (codes "-") ++ side_in form n a) ++ (before_side form (codes "+") ++ side_in form n b))
+diff_text_in form (stopped_by refusal) = []
+
+-- the refusal that is returned
+abbrev pub diff_refusal : Comparison → Option Refusal
+diff_refusal (same_packets n) = None
+diff_refusal (other_packet n a b) = None
+diff_refusal (stopped_by refusal) = Some refusal
+
+-- whether the packets are the same
+abbrev pub is_same : Comparison → Bool
+is_same (same_packets n) = true
+is_same (other_packet n a b) = false
+is_same (stopped_by refusal) = false
+
+-- The comparison is printed in a form, and returned; or a refusal is returned, and nothing is printed then, nor if a
+-- read failed or a growth was refused. If the writer failed, a prefix is printed.
+abbrev pub TellsDiff : Form → Comparison → List ℕ → Result Bool Fault → List ℕ → Type 0
+TellsDiff form c old (Ok so) new = (diff_refusal c ≡ None) × (so ≡ is_same c) × (new ≡ old ++ diff_text_in form c)
+TellsDiff form c old (Err (Refused r)) new = (diff_refusal c ≡ Some r) × (new ≡ old)
+TellsDiff form c old (Err (Read file offset)) new = new ≡ old
+TellsDiff form c old (Err Write) new = (diff_refusal c ≡ None) × PrintsFront (diff_text_in form c) old new
+TellsDiff form c old (Err Memory) new = new ≡ old

@@ -1,0 +1,159 @@
+-- What `capt` does for a job: the text of each command, over the bytes of the job's files.
+use Rattle.std.specs.Prelude.{◌≡◌, ℕ, List, [], ◌∷◌, length, Bool, true, false, Option, Some, None, unwrap_or}
+use Rattle.std.specs.Prelude.{Result, Ok, Err}
+use Rattle.cap_bytes.specs.Printing.{Prints}
+use Rattle.cap_bytes.specs.declared.faults.Fault.{Fault}
+use Rattle.cap_bytes.specs.declared.faults.Tail.{Tail}
+use Rattle.cap_bytes.specs.declared.faults.Tail.TheVariants.{Accept, Refuse}
+use Rattle.cap_bytes.specs.declared.numbers.Order.{Order}
+use Rattle.cap_check.specs.CheckText.{WritesChecks}
+use Rattle.cap_check.specs.Checking.{Opened}
+use Rattle.cap_line.specs.declared.jobs.Job.{Job}
+use Rattle.cap_line.specs.declared.jobs.Task.{Task}
+use Rattle.cap_line.specs.declared.jobs.Task.TheVariants as tasks
+use Rattle.cap_print.specs.declared.forms.Form.{Form}
+use Rattle.cap_print.specs.declared.forms.Form.TheVariants.{Json, Text}
+use Rattle.cap_merge.specs.Files.{clocked_run, endings_of_files}
+use Rattle.cap_bytes.specs.declared.formats.Format.{Format}
+use Rattle.cap_bytes.specs.declared.formats.Format.TheVariants.{Pcapng}
+use Rattle.cap_talks.specs.talks.InfoText.{first_refusal, info_text_in}
+use Rattle.cap_talks.specs.talks.ReportText.{report_refusal, report_text_in}
+use Rattle.cap_talks.specs.talks.Telling.{Tells}
+use Rattle.cap_commands.specs.BlockText.{block_list_in, block_refusal}
+use Rattle.cap_commands.specs.Converted.{convert_refusal, convert_text}
+use Rattle.cap_commands.specs.DiffText.{Comparison, comparison_of, diff_refusal, diff_text_in, is_same}
+use Rattle.cap_commands.specs.DigestsText.{digests_text}
+use Rattle.cap_commands.specs.JoinText.{join_refusal_in, join_text_in}
+use Rattle.cap_commands.specs.ListText.{list_in, list_refusal}
+use Rattle.cap_commands.specs.MergeText.{merge_refusal_in, merge_text_in}
+use Rattle.cap_commands.specs.Left.{nothing_left}
+use Rattle.cap_commands.specs.declared.jobs.Done.{Done}
+use Rattle.cap_commands.specs.declared.jobs.Finding.{Finding}
+use Rattle.cap_commands.specs.declared.jobs.Finding.TheVariants.{Difference, NotWhole, Nothing}
+use Rattle.cap_commands.specs.declared.left.Left.{Left}
+
+-- what is done with a cut end
+abbrev pub tail_of : Bool → Tail
+tail_of true = Accept
+tail_of false = Refuse
+
+-- the bytes of the only file
+abbrev pub only_of : List (List ℕ) → List ℕ
+only_of [] = []
+only_of (bytes ∷ files) = bytes
+
+-- the comparison of two files
+abbrev pub comparison_in : Tail → List (List ℕ) → Comparison
+comparison_in tail [] = comparison_of tail [] []
+comparison_in tail (first ∷ files) = comparison_of tail first (only_of files)
+
+-- the format that `merge` and `join` write
+abbrev pub format_in : Option Format → Format
+format_in to = unwrap_or to Pcapng
+
+-- the form of what is printed
+abbrev pub form_by : Bool → Form
+form_by true = Json
+form_by false = Text
+
+-- how many bytes of a packet are shown at most: 16 in text, and in JSON unless the job says how many
+abbrev pub shown_by : Form → Option ℕ → ℕ
+shown_by Text count = 16
+shown_by Json count = unwrap_or count 16
+
+-- files of those bytes, with whether a read of each can fail
+abbrev pub opened_files : List Bool → List (List ℕ) → List (Option Opened)
+opened_files [] files = []
+opened_files (fails ∷ others) [] = []
+opened_files (fails ∷ others) (bytes ∷ files) =
+    Some (record { told = true; bytes = bytes; can_fail = fails }) ∷ opened_files others files
+
+-- what `check` returns, by what it finds
+abbrev pub whole_by : Result Unit Fault → Finding → Result Bool Fault
+whole_by (Ok done) Nothing = Ok true
+whole_by (Ok done) Difference = Ok false
+whole_by (Ok done) NotWhole = Ok false
+whole_by (Err fault) finding = Err fault
+
+-- What is written, found and returned by a task over files of those bytes, of which a read can fail or not: `list`,
+-- `blocks` and `convert` are of one file, `diff` is of two.
+abbrev pub DoesTask : Task → Tail → Form → ℕ → Order → Option Format → List Bool → List (List ℕ) → Finding → List ℕ
+    → Result Unit Fault → List ℕ → Type 0
+DoesTask tasks.List tail form shown order to fails files finding =
+    Prints (list_in form shown tail (only_of files)) (list_refusal tail (only_of files))
+DoesTask tasks.Blocks tail form shown order to fails files finding = Prints (block_list_in form tail (only_of files))
+    (block_refusal tail (only_of files))
+DoesTask tasks.Diff tail form shown order to fails files finding = Tells (diff_text_in form (comparison_in tail files))
+    (diff_refusal (comparison_in tail files))
+DoesTask tasks.Digest tail form shown order to fails files finding =
+    Prints (digests_text form tail files) (first_refusal tail 1 files)
+DoesTask tasks.Check tail form shown order to fails files finding =
+    λ old result new. WritesChecks form tail (opened_files fails files) old (whole_by result finding) new
+DoesTask tasks.Info tail form shown order to fails files finding =
+    Tells (info_text_in form tail files) (first_refusal tail 1 files)
+DoesTask tasks.Report tail form shown order to fails files finding =
+    Tells (report_text_in form (length files) (endings_of_files tail files) (clocked_run tail files))
+    (report_refusal (clocked_run tail files))
+DoesTask tasks.Convert tail form shown order None fails files finding = λ old result new. ⊥
+DoesTask tasks.Convert tail form shown order (Some format) fails files finding =
+    Prints (convert_text format order tail (only_of files)) (convert_refusal format tail (only_of files))
+DoesTask tasks.Merge tail form shown order to fails files finding =
+    Prints (merge_text_in (format_in to) order tail files) (merge_refusal_in (format_in to) tail files)
+DoesTask tasks.Join tail form shown order to fails files finding =
+    Prints (join_text_in (format_in to) order tail files) (join_refusal_in (format_in to) tail files)
+
+-- What is written, found and returned by a job: what its task is, with its tail, its form, its order and its format.
+abbrev pub Does : Job → List Bool → List (List ℕ) → Finding → List ℕ → Result Unit Fault → List ℕ → Type 0
+Does job =
+    DoesTask job.task (tail_of job.allow_cut) (form_by job.json) (shown_by (form_by job.json) job.data) job.order job.to
+
+-- what is found by whether two captures have the same packets
+abbrev pub finding_by : Bool → Finding
+finding_by true = Nothing
+finding_by false = Difference
+
+-- what is found by whether all files that are checked are whole
+abbrev pub whole_finding : Bool → Finding
+whole_finding true = Nothing
+whole_finding false = NotWhole
+
+-- What a task finds in files of those bytes: `diff` by whether they differ; `check` by whether all are whole, which
+-- also hangs on the reads.
+abbrev pub FindsTask : Task → Tail → List (List ℕ) → Finding → Type 0
+FindsTask tasks.Diff tail files found = found ≡ finding_by (is_same (comparison_in tail files))
+FindsTask tasks.Check tail files found = (are_whole : Bool) × (found ≡ whole_finding are_whole)
+FindsTask _ tail files found = found ≡ Nothing
+
+-- what a job finds
+abbrev pub Finds : Job → List (List ℕ) → Finding → Type 0
+Finds job = FindsTask job.task (tail_of job.allow_cut)
+
+-- what a job returns, but for what it finds
+abbrev pub done_of : Result Finding Fault → Result Unit Fault
+done_of (Ok finding) = Ok tt
+done_of (Err fault) = Err fault
+
+-- what it finds: nothing after a fault
+abbrev pub found_in : Result Finding Fault → Finding
+found_in (Ok finding) = finding
+found_in (Err fault) = Nothing
+
+-- the same of a call that returns what a job did
+abbrev pub finding_in : Result Done Fault → Result Finding Fault
+finding_in (Ok done) = Ok done.finding
+finding_in (Err fault) = Err fault
+
+-- what a job does that prints: it finds nothing, and leaves nothing out
+abbrev pub printed_by : Result Unit Fault → Result Done Fault
+printed_by (Ok done) = Ok (record { finding = Nothing; left = nothing_left })
+printed_by (Err fault) = Err fault
+
+-- what a job does that finds something: it leaves nothing out
+abbrev pub found_by : Result Finding Fault → Result Done Fault
+found_by (Ok finding) = Ok (record { finding = finding; left = nothing_left })
+found_by (Err fault) = Err fault
+
+-- what a job does that writes a capture: it finds nothing
+abbrev pub written_by : Result Left Fault → Result Done Fault
+written_by (Ok left) = Ok (record { finding = Nothing; left = left })
+written_by (Err fault) = Err fault

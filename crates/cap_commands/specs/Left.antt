@@ -1,0 +1,29 @@
+-- What a command that writes a capture leaves out, or leaves as it was.
+use Rattle.std.specs.Prelude.{◌≡◌, ℕ, zero, suc, ◌+◌}
+use Rattle.cap_source.specs.declared.feeds.FileEnd.{FileEnd}
+use Rattle.cap_commands.specs.declared.left.Left.{Left}
+
+-- nothing was left out, and nothing ran back
+abbrev pub nothing_left : Left
+nothing_left = record { skipped = 0; named = 0; ran_back = 0 }
+
+-- the skipped blocks and the named interfaces of a file that ended so
+abbrev pub left_of_file : FileEnd → Left
+left_of_file end = record { skipped = end.ending.skipped; named = end.named; ran_back = 0 }
+
+-- the sum of a count over the first files, so many of them, by how each ends
+abbrev pub sum_of_files : (FileEnd → ℕ) → (ℕ → FileEnd) → ℕ → ℕ
+sum_of_files count endings zero = 0
+sum_of_files count endings (suc file) = sum_of_files count endings file + count (endings (suc file))
+
+-- how many blocks were skipped of these, and how many interfaces have a name
+abbrev pub skipped_in : (ℕ → FileEnd) → ℕ → ℕ
+skipped_in endings count = sum_of_files (λ end. end.ending.skipped) endings count
+
+abbrev pub named_in : (ℕ → FileEnd) → ℕ → ℕ
+named_in endings count = sum_of_files (λ end. end.named) endings count
+
+-- what isn't carried on of the first files, so many of them, by how each ends
+pub record LeavesOut (endings : ℕ → FileEnd) (count : ℕ) (left : Left) : Type 0 where
+  pub skipped : left.skipped ≡ skipped_in endings count
+  pub named : left.named ≡ named_in endings count

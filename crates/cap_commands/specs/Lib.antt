@@ -1,0 +1,13 @@
+pub mod Converted
+pub mod JoinText
+pub mod MergeText
+pub mod BlockText
+pub mod ListText
+pub mod FaultText
+pub mod Jobs
+pub mod RunText
+pub mod Left
+pub mod JobLeft
+pub mod inner
+pub mod DiffText
+pub mod DigestsText

@@ -1,0 +1,5 @@
+pub mod BlockWalk
+pub mod DiffWalk
+pub mod DiffWords
+pub mod FileText
+pub mod PacketParts

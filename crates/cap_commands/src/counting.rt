@@ -1,0 +1,252 @@
+//! What `capt convert`, `merge` and `join` write of files, and what they leave out of it or as it was.
+ghost use Rattle.std.specs.Prelude.{◌≡◌, ◌≤◌, ◌∷◌, [], IsTrue, IfOk, IsOkUnless, OnOk, Some, length, map};
+ghost use Rattle.std.specs.Prelude.{vec_len};
+ghost use Rattle.std.specs.List.{list_all, range_with_len};
+ghost use Rattle.cap_bytes.specs.Device.{WriterKeeps, writer_of};
+ghost use Rattle.cap_bytes.specs.Printing.{Prints, is_write};
+ghost use Rattle.cap_merge.specs.Files.{endings_of_files};
+ghost use Rattle.cap_merge.specs.Parts.{merged_feed, run_of};
+ghost use Rattle.cap_merge.specs.inner.Readers.{IsUnreadRun, reader_of};
+ghost use Rattle.cap_merge.specs.inner.View.{backward_of, counts_backward, parts_of};
+ghost use Rattle.cap_source.specs.inner.Captures.{capture_feed as file_of, capture_number, capture_first};
+ghost use Rattle.cap_source.specs.Feed.{FeedKeeps};
+ghost use Rattle.cap_source.specs.Items.{file_ending};
+ghost use Rattle.cap_source.specs.ReadFaults.{FailsOf};
+ghost use Rattle.cap_source.specs.inner.Walk.{SameEndings, Walks};
+ghost use Rattle.cap_source.specs.declared.feeds.Head.{Head};
+ghost use Rattle.cap_commands.specs.Converted.{convert_text, convert_refusal};
+ghost use Rattle.cap_commands.specs.inner.FileText.{written_file_text, file_refusal};
+ghost use Rattle.cap_commands.specs.JoinText.{join_text, join_text_in, join_refusal, join_refusal_in};
+ghost use Rattle.cap_commands.specs.Left.{left_of_file, LeavesOut};
+ghost use Rattle.cap_commands.specs.MergeText.{merge_text, merge_text_in, merge_refusal, merge_refusal_in};
+ghost use Rattle.cap_commands.specs.RunText.{datagrams_refusal, datagrams_text, packets_refusal, packets_text};
+
+use crate::left::Left;
+use cap_bytes::{Fault, Order, Sink, Source, Tail};
+use cap_merge::{Merged, merge_files};
+use cap_source::{Capture, Format, PacketFeed};
+use cap_write::{
+    to_pcap, to_pcapng, write_joined, write_joined_pcap, write_merged, write_merged_pcap,
+};
+use std::alloc::Global;
+
+// What isn't carried on of the files of a feed that has come to its end.
+fn dropped_of<F: PacketFeed>(feed: &F, files: u32) -> Left
+    requires end { (F.feed feed.now).known ≡ Some Head.End }
+    requires files { (F.feed feed.now).files ≡ range_with_len 1 files }
+    requires most { files ≤ 32 }
+    ensures { LeavesOut (F.feed feed.now).endings files result }
+{
+    let mut skipped: u128 = 0;
+    let mut named: u128 = 0;
+    for place in 0..files {
+        skipped += u128::from(feed.ending(place + 1).skipped);
+        named += u128::from(feed.named_interfaces(place + 1));
+    }
+    Left {
+        skipped,
+        named,
+        ran_back: 0,
+    }
+}
+
+// What is left of files that were merged, once they have come to their end.
+fn left_of_merged<F: PacketFeed>(merged: &Merged<F>) -> Left
+    requires end { (merged_feed (parts_of merged.now)).known ≡ Some Head.End }
+    ensures dropped { LeavesOut (merged_feed (parts_of merged.now)).endings
+        (length (merged_feed (parts_of merged.now)).files) result }
+    ensures backward { result.ran_back ≡ backward_of merged.now }
+{
+    let dropped = dropped_of(merged, merged.files());
+    Left {
+        skipped: dropped.skipped,
+        named: dropped.named,
+        ran_back: u128::from(merged.backward()),
+    }
+}
+
+// What is left of a file that has come to its end.
+fn left_of_one<F: PacketFeed>(feed: &F) -> Left
+    requires end { (F.feed feed.now).known ≡ Some Head.End }
+    requires file { (F.feed feed.now).files ≡ 1 ∷ [] }
+    ensures { result ≡ left_of_file ((F.feed feed.now).endings 1) }
+{
+    Left {
+        skipped: u128::from(feed.ending(1).skipped),
+        named: u128::from(feed.named_interfaces(1)),
+        ran_back: 0,
+    }
+}
+
+// The packets of 1 to 32 files in the order of exact time, of which those that run backward are counted if that is
+// asked for. Nothing is read yet.
+fn merge_counted<R: Source>(
+    alloc: Global,
+    sources: Vec<R>,
+    tail: Tail,
+    counts: bool,
+) -> Result<Merged<Capture<R>>, Fault>
+    requires some { 1 ≤ vec_len sources }
+    requires most { vec_len sources ≤ 32 }
+    ensures unread { IfOk result (λ merged. IsUnreadRun tail
+        (map (reader_of R.tells_coming R.can_fail R.coming) sources.items) (parts_of merged)) }
+    ensures backward { IfOk result (λ merged. backward_of merged ≡ 0) }
+    ensures counts { IfOk result (λ merged. counts_backward merged ≡ counts) }
+    ensures memory { IsOkUnless result Fault.Memory }
+{
+    let mut merged = merge_files(alloc, sources, tail)?;
+    merged.count_backward(counts);
+    Ok(merged)
+}
+
+// Writes a file of which nothing was passed in that format.
+fn write_file<R: Source, W: Sink>(
+    alloc: Global,
+    capture: &mut Capture<R>,
+    order: Order,
+    format: Format,
+    writer: &mut W,
+) -> Result<(), Fault>
+    ensures text { IsTrue (file_of capture.old).told → IsTrue (W.tells_held writer.old)
+        → Prints (written_file_text format order (capture_number capture.old) (capture_first capture.old)
+        (file_of capture.old).items)
+        (file_refusal format (capture_number capture.old) (capture_first capture.old) (file_of capture.old).items)
+        (W.held writer.old) result (W.held writer.new) }
+    ensures writer { WriterKeeps (writer_of W.Sink writer.old) (is_write result) (writer_of W.Sink writer.new) }
+    ensures walks { Walks (file_of capture.old) result (file_of capture.new) }
+    ensures endings { OnOk result (IsTrue (file_of capture.old).told
+        → SameEndings (file_of capture.old) (file_of capture.new)) }
+    ensures keeps { FeedKeeps (file_of capture.old) (file_of capture.new) }
+{
+    match format {
+        Format::Pcap => to_pcap(capture, order, writer),
+        Format::Pcapng => to_pcapng(alloc, capture, order, writer),
+    }
+}
+
+/// Writes what `convert_to` writes, and returns the faults that it returns, or how many blocks of the file and names of
+/// its interfaces aren't carried on. No packet is counted as one that ran back, since each stays where it was.
+pub fn convert_and_count<R: Source, W: Sink>(
+    alloc: Global,
+    source: R,
+    tail: Tail,
+    order: Order,
+    format: Format,
+    writer: &mut W,
+) -> Result<Left, Fault>
+    ensures text { IsTrue (R.tells_coming source) → IsTrue (W.tells_held writer.old)
+        → Prints (convert_text format order tail (R.coming source)) (convert_refusal format tail (R.coming source))
+        (W.held writer.old) result (W.held writer.new) }
+    ensures writer { WriterKeeps (writer_of W.Sink writer.old) (is_write result) (writer_of W.Sink writer.new) }
+    ensures read { FailsOf (R.can_fail source ∷ []) result }
+    ensures left { IfOk result (λ left. IsTrue (R.tells_coming source)
+        → left ≡ left_of_file (file_ending tail 1 (R.coming source))) }
+{
+    let mut capture = Capture::new(alloc, source, 1, tail);
+    write_file(alloc, &mut capture, order, format, writer)?;
+    Ok(left_of_one(&capture))
+}
+
+// Writes the packets of a run of which nothing was passed.
+fn write_run<F: PacketFeed, W: Sink>(
+    alloc: Global,
+    merged: &mut Merged<F>,
+    order: Order,
+    format: Format,
+    writer: &mut W,
+) -> Result<(), Fault>
+    ensures text { IsTrue (merged_feed (parts_of merged.old)).told → IsTrue (W.tells_held writer.old)
+        → Prints (packets_text format order (merged_feed (parts_of merged.old)).items)
+        (packets_refusal format (merged_feed (parts_of merged.old)).items)
+        (W.held writer.old) result (W.held writer.new) }
+    ensures writer { WriterKeeps (writer_of W.Sink writer.old) (is_write result) (writer_of W.Sink writer.new) }
+    ensures walks { Walks (merged_feed (parts_of merged.old)) result (merged_feed (parts_of merged.new)) }
+    ensures endings { OnOk result (IsTrue (merged_feed (parts_of merged.old)).told
+        → SameEndings (merged_feed (parts_of merged.old)) (merged_feed (parts_of merged.new))) }
+    ensures keeps { FeedKeeps (merged_feed (parts_of merged.old)) (merged_feed (parts_of merged.new)) }
+{
+    match format {
+        Format::Pcap => write_merged_pcap(merged, order, writer),
+        Format::Pcapng => write_merged(alloc, merged, order, writer),
+    }
+}
+
+// Writes the datagrams of a run of which nothing was passed.
+fn write_datagrams<F: PacketFeed, W: Sink>(
+    alloc: Global,
+    merged: &mut Merged<F>,
+    order: Order,
+    format: Format,
+    writer: &mut W,
+) -> Result<(), Fault>
+    ensures text { IsTrue (merged_feed (parts_of merged.old)).told → IsTrue (W.tells_held writer.old)
+        → Prints (datagrams_text format order (run_of (parts_of merged.old)))
+        (datagrams_refusal format (run_of (parts_of merged.old)))
+        (W.held writer.old) result (W.held writer.new) }
+    ensures writer { WriterKeeps (writer_of W.Sink writer.old) (is_write result) (writer_of W.Sink writer.new) }
+    ensures walks { Walks (merged_feed (parts_of merged.old)) result (merged_feed (parts_of merged.new)) }
+    ensures endings { OnOk result (IsTrue (merged_feed (parts_of merged.old)).told
+        → SameEndings (merged_feed (parts_of merged.old)) (merged_feed (parts_of merged.new))) }
+    ensures keeps { FeedKeeps (merged_feed (parts_of merged.old)) (merged_feed (parts_of merged.new)) }
+{
+    match format {
+        Format::Pcap => write_joined_pcap(alloc, merged, order, writer),
+        Format::Pcapng => write_joined(alloc, merged, order, writer),
+    }
+}
+
+/// Writes what `merge_to` writes, in either format, and returns the faults that it returns, or what is left out: how
+/// many blocks of the files and names of their interfaces aren't carried on, and, if `counts` asks for it, how many
+/// packets had a time that is earlier than that of a packet before them in their file.
+pub fn merge_and_count<R: Source, W: Sink>(
+    alloc: Global,
+    sources: Vec<R>,
+    tail: Tail,
+    order: Order,
+    format: Format,
+    counts: bool,
+    writer: &mut W,
+) -> Result<Left, Fault>
+    requires some { 1 ≤ vec_len sources }
+    requires most { vec_len sources ≤ 32 }
+    ensures text { IsTrue (list_all R.tells_coming sources.items) → IsTrue (W.tells_held writer.old)
+        → Prints (merge_text_in format order tail (map R.coming sources.items))
+        (merge_refusal_in format tail (map R.coming sources.items))
+        (W.held writer.old) result (W.held writer.new) }
+    ensures writer { WriterKeeps (writer_of W.Sink writer.old) (is_write result) (writer_of W.Sink writer.new) }
+    ensures read { FailsOf (map R.can_fail sources.items) result }
+    ensures dropped { IfOk result (λ left. IsTrue (list_all R.tells_coming sources.items)
+        → LeavesOut (endings_of_files tail (map R.coming sources.items)) (length sources.items) left) }
+{
+    let mut merged = merge_counted(alloc, sources, tail, counts)?;
+    write_run(alloc, &mut merged, order, format, writer)?;
+    Ok(left_of_merged(&merged))
+}
+
+/// Writes what `join_to` writes, in either format, and returns the faults that it returns, or what is left out: how
+/// many blocks of the files and names of their interfaces aren't carried on, and, if `counts` asks for it, how many
+/// packets had a time that is earlier than that of a packet before them in their file.
+pub fn join_and_count<R: Source, W: Sink>(
+    alloc: Global,
+    sources: Vec<R>,
+    tail: Tail,
+    order: Order,
+    format: Format,
+    counts: bool,
+    writer: &mut W,
+) -> Result<Left, Fault>
+    requires some { 1 ≤ vec_len sources }
+    requires most { vec_len sources ≤ 32 }
+    ensures text { IsTrue (list_all R.tells_coming sources.items) → IsTrue (W.tells_held writer.old)
+        → Prints (join_text_in format order tail (map R.coming sources.items))
+        (join_refusal_in format tail (map R.coming sources.items))
+        (W.held writer.old) result (W.held writer.new) }
+    ensures writer { WriterKeeps (writer_of W.Sink writer.old) (is_write result) (writer_of W.Sink writer.new) }
+    ensures read { FailsOf (map R.can_fail sources.items) result }
+    ensures dropped { IfOk result (λ left. IsTrue (list_all R.tells_coming sources.items)
+        → LeavesOut (endings_of_files tail (map R.coming sources.items)) (length sources.items) left) }
+{
+    let mut run = merge_counted(alloc, sources, tail, counts)?;
+    write_datagrams(alloc, &mut run, order, format, writer)?;
+    Ok(left_of_merged(&run))
+}

@@ -1,0 +1,354 @@
+//! `capt diff`: whether two captures have the same packets.
+ghost use Rattle.std.specs.Prelude.{◌≡◌, ℕ, ◌+◌, ◌≤◌, ◌++◌, ◌∷◌, ◌^◌, [], false, codes, None, Some};
+ghost use Rattle.std.specs.Prelude.{IsSome, IsTrue};
+ghost use Rattle.std.specs.Prelude.{IfOk, IsOkUnless, is_none, is_some, ◌&&◌};
+ghost use Rattle.cap_bytes.specs.Device.{WriterKeeps, writer_of};
+ghost use Rattle.cap_bytes.specs.Printing.{Prints, is_write};
+ghost use Rattle.cap_print.specs.Lines.{text_in};
+ghost use Rattle.cap_print.specs.declared.forms.Form.TheVariants.{Text};
+ghost use Rattle.cap_source.specs.Feed.{FeedKeeps, IsPacket};
+ghost use Rattle.cap_source.specs.ReadFaults.{FailsOf};
+ghost use Rattle.cap_source.specs.inner.Walk.{GivesPacket, ShowsItem};
+ghost use Rattle.cap_source.specs.Times.{meta_time};
+ghost use Rattle.cap_commands.specs.DiffText.{TellsDiff, before_side, compared, comparison_of, diff_text_in};
+ghost use Rattle.cap_commands.specs.DiffText.{difference_line, difference_words, differences_of, do_differ, is_same};
+ghost use Rattle.cap_commands.specs.DiffText.{is_same_time, other_packet, side_in};
+ghost use Rattle.cap_commands.specs.inner.DiffWalk.{FailsOne, KnowsPackets, Parts, are_alike, compared_of, given};
+ghost use Rattle.cap_commands.specs.inner.DiffWalk.{known_packet, parted};
+
+use crate::diff_lines::{before_first, before_second, differ_line, end_line, same_line};
+use crate::lines::write_side;
+use cap_bytes::{Fault, Sink, Source, Tail, put_all};
+use cap_print::{Form, Line};
+use cap_source::{Capture, Meta, PacketFeed};
+use cap_time::Stamp;
+use std::alloc::Global;
+
+/// In which of five things two packets differ.
+#[derive(Clone, Copy, Debug, PartialEq, Eq)]
+pub struct Differences {
+    /// The link type.
+    pub link: bool,
+    /// The exact time, or that one of them has none.
+    pub time: bool,
+    /// How many bytes were captured.
+    pub captured: bool,
+    /// How many bytes the packet had.
+    pub original: bool,
+    /// The captured bytes.
+    pub bytes: bool,
+}
+
+// Whether two packets have the same exact time, or both have none.
+fn is_same_time(first: Option<Stamp>, second: Option<Stamp>) -> bool
+    ensures { result ≡ is_same_time first second }
+{
+    match first {
+        None => second.is_none(),
+        Some(first) => match second {
+            None => false,
+            Some(second) => first == second,
+        },
+    }
+}
+
+// In what two packets with these captured bytes differ.
+fn differences_of(first: &Meta, frame: &[u8], second: &Meta, bytes: &[u8]) -> Differences
+    ensures { result ≡ differences_of (record { meta = first.now; frame = frame.now })
+        (record { meta = second.now; frame = bytes.now }) }
+{
+    Differences {
+        link: first.interface.link != second.interface.link,
+        time: !is_same_time(first.time(), second.time()),
+        captured: first.captured != second.captured,
+        original: first.original != second.original,
+        bytes: frame != bytes,
+    }
+}
+
+// Whether they differ in one of these at least.
+fn do_differ(it: Differences) -> bool
+    ensures { result ≡ do_differ it }
+{
+    it.link || it.time || it.captured || it.original || it.bytes
+}
+
+// Where two feeds are no longer the same: after how many packets, and which packet each of them has there.
+#[derive(Clone, Copy)]
+struct Parting {
+    passed: u64,
+    first: Option<Meta>,
+    second: Option<Meta>,
+}
+
+// Whether a packet comes next, which is known then. A copy of it would cost more than all else of a small packet.
+#[inline(always)]
+fn look<F: PacketFeed>(feed: &mut F) -> Result<bool, Fault>
+    ensures answer { GivesPacket (F.feed feed.old) (given result (F.feed feed.new).known) (F.feed feed.new) }
+    ensures keeps { FeedKeeps (F.feed feed.old) (F.feed feed.new) }
+    ensures items { IsTrue (F.feed feed.old).told
+        → ShowsItem (F.feed feed.old) (given result (F.feed feed.new).known) (F.feed feed.new) }
+    ensures found { IfOk result (λ found. found ≡ is_some (known_packet (F.feed feed.new).known)) }
+{
+    feed.has_packet()
+}
+
+// The packet that comes next, if one does.
+fn packet_of<F: PacketFeed>(feed: &F, found: bool) -> Option<Meta>
+    requires { found ≡ is_some (known_packet (F.feed feed.now).known) }
+    ensures { result ≡ known_packet (F.feed feed.now).known }
+{
+    if found { Some(*feed.packet()) } else { None }
+}
+
+// Whether the packets that come next, if there are some, are the same: none is the same as nothing.
+fn is_alike<F: PacketFeed>(first: &F, one: bool, second: &F, other: bool) -> bool
+    requires first { one ≡ is_some (known_packet (F.feed first.now).known) }
+    requires second { other ≡ is_some (known_packet (F.feed second.now).known) }
+    ensures { result ≡ are_alike (compared_of (known_packet (F.feed first.now).known) (F.feed first.now).frame)
+        (compared_of (known_packet (F.feed second.now).known) (F.feed second.now).frame) }
+{
+    if one {
+        if other {
+            let (a, b) = (first.packet(), second.packet());
+            return !do_differ(differences_of(a, first.frame(), b, second.frame()));
+        }
+    }
+    false
+}
+
+// Passes the packets that are the same, up to the first that isn't, or to the end of both.
+fn part<F: PacketFeed>(first: &mut F, second: &mut F) -> Result<Parting, Fault>
+    requires left { (F.feed first.old).left ≤ 2 ^ 40 }
+    ensures parts { IsTrue (F.feed first.old).told → IsTrue (F.feed second.old).told
+        → Parts (compared 0 (F.feed first.old).items (F.feed second.old).items) result (F.feed first.new).frame
+        (F.feed second.new).frame }
+    ensures known { IfOk result (λ p. KnowsPackets p (F.feed first.new) (F.feed second.new)) }
+    ensures few { IfOk result (λ p. p.passed ≤ 2 ^ 40) }
+    ensures write { is_write result ≡ false }
+    ensures fails { FailsOne (F.feed first.old) (F.feed second.old) result }
+{
+    let mut passed = 0u64;
+    loop {
+        let one = look(first)?;
+        let other = look(second)?;
+        if !is_alike(first, one, second, other) {
+            return Ok(Parting {
+                passed,
+                first: packet_of(first, one),
+                second: packet_of(second, other),
+            });
+        }
+        first.pass();
+        second.pass();
+        passed += 1;
+    }
+}
+
+// The line of a packet with these bytes in a form.
+fn packet_line(form: Form, n: u64, meta: &Meta, frame: &[u8]) -> Line
+    ensures { text_in result ≡ side_in form n (Some (record { meta = meta.now; frame = frame.now })) }
+{
+    let mut line = Line::new();
+    write_side(&mut line, form, n, meta, frame);
+    line
+}
+
+// The line in a form that there is no packet.
+fn no_packet_line(form: Form) -> Line
+    ensures { (n : ℕ) → text_in result ≡ side_in form n None }
+{
+    let mut line = Line::new();
+    line.prepend_text(match form {
+        Form::Text => b"end\n",
+        Form::Json => b"null}\n",
+    });
+    line
+}
+
+// The line of a packet that comes next in a form, or that there is none.
+fn side_line<F: PacketFeed>(form: Form, n: u64, packet: Option<Meta>, feed: &F) -> Line
+    requires packet { IsSome packet → IsPacket (F.feed feed.now).known }
+    ensures { text_in result ≡ side_in form n (compared_of packet (F.feed feed.now).frame) }
+{
+    match packet {
+        None => no_packet_line(form),
+        Some(meta) => packet_line(form, n, &meta, feed.frame()),
+    }
+}
+
+// Writes a line.
+fn put_line<W: Sink>(writer: &mut W, line: &Line) -> Result<(), Fault>
+    ensures text { IsTrue (W.tells_held writer.old)
+        → Prints (text_in line.now) None (W.held writer.old) result (W.held writer.new) }
+    ensures writer { WriterKeeps (writer_of W.Sink writer.old) (is_write result) (writer_of W.Sink writer.new) }
+    ensures fault { IsOkUnless result Fault.Write }
+{
+    put_all(writer, line.as_slice())
+}
+
+// Writes one side of a difference in a form: what stands before it, and the packet that comes next, or that there is
+// none.
+fn put_side<F: PacketFeed, W: Sink>(
+    writer: &mut W,
+    form: Form,
+    before: &[u8],
+    n: u64,
+    packet: Option<Meta>,
+    feed: &F,
+) -> Result<(), Fault>
+    requires packet { IsSome packet → IsPacket (F.feed feed.now).known }
+    ensures text { IsTrue (W.tells_held writer.old)
+        → Prints (before.now ++ side_in form n (compared_of packet (F.feed feed.now).frame)) None (W.held writer.old)
+        result (W.held writer.new) }
+    ensures writer { WriterKeeps (writer_of W.Sink writer.old) (is_write result) (writer_of W.Sink writer.new) }
+    ensures fault { IsOkUnless result Fault.Write }
+{
+    put_all(writer, before)?;
+    let line = side_line(form, n, packet, feed);
+    put_line(writer, &line)
+}
+
+// Writes both sides in a form.
+fn put_sides<F: PacketFeed, W: Sink>(
+    writer: &mut W,
+    form: Form,
+    n: u64,
+    parting: &Parting,
+    first: &F,
+    second: &F,
+) -> Result<(), Fault>
+    requires known { KnowsPackets parting.now (F.feed first.now) (F.feed second.now) }
+    ensures text { IsTrue (W.tells_held writer.old)
+        → Prints ((before_side form (codes "-") ++ side_in form n
+        (compared_of parting.now.first (F.feed first.now).frame))
+        ++ (before_side form (codes "+") ++ side_in form n
+        (compared_of parting.now.second (F.feed second.now).frame))) None (W.held writer.old) result
+        (W.held writer.new) }
+    ensures writer { WriterKeeps (writer_of W.Sink writer.old) (is_write result) (writer_of W.Sink writer.new) }
+    ensures fault { IsOkUnless result Fault.Write }
+{
+    put_side(writer, form, before_first(form), n, parting.first, first)?;
+    put_side(writer, form, before_second(form), n, parting.second, second)
+}
+
+// The first line of a difference in a form.
+fn head_line<F: PacketFeed>(form: Form, n: u64, parting: &Parting, first: &F, second: &F) -> Line
+    requires known { KnowsPackets parting.now (F.feed first.now) (F.feed second.now) }
+    ensures { text_in result ≡ difference_line form n
+        (difference_words (compared_of parting.now.first (F.feed first.now).frame)
+        (compared_of parting.now.second (F.feed second.now).frame)) }
+{
+    match parting.first {
+        None => end_line(form, n),
+        Some(one) => match parting.second {
+            None => end_line(form, n),
+            Some(other) => {
+                let it = differences_of(&one, first.frame(), &other, second.frame());
+                differ_line(form, n, it)
+            }
+        },
+    }
+}
+
+// Writes what is printed in a form of two packets that aren't the same, or of one whose counterpart is missing.
+fn put_difference<F: PacketFeed, W: Sink>(
+    writer: &mut W,
+    form: Form,
+    n: u64,
+    parting: &Parting,
+    first: &F,
+    second: &F,
+) -> Result<(), Fault>
+    requires known { KnowsPackets parting.now (F.feed first.now) (F.feed second.now) }
+    ensures text { IsTrue (W.tells_held writer.old)
+        → Prints (diff_text_in form (other_packet n (compared_of parting.now.first (F.feed first.now).frame)
+        (compared_of parting.now.second (F.feed second.now).frame))) None (W.held writer.old) result
+        (W.held writer.new) }
+    ensures writer { WriterKeeps (writer_of W.Sink writer.old) (is_write result) (writer_of W.Sink writer.new) }
+    ensures fault { IsOkUnless result Fault.Write }
+{
+    let line = head_line(form, n, parting, first, second);
+    put_all(writer, line.as_slice())?;
+    put_sides(writer, form, n, parting, first, second)
+}
+
+// Whether both have ended.
+fn is_end(parting: &Parting) -> bool
+    ensures { result ≡ (is_none parting.now.first && is_none parting.now.second) }
+{
+    parting.first.is_none() && parting.second.is_none()
+}
+
+// Writes what is printed in a form where two feeds part, and returns whether they are the same.
+fn put_parting<F: PacketFeed, W: Sink>(
+    writer: &mut W,
+    form: Form,
+    parting: &Parting,
+    first: &F,
+    second: &F,
+) -> Result<bool, Fault>
+    requires known { KnowsPackets parting.now (F.feed first.now) (F.feed second.now) }
+    requires few { parting.now.passed ≤ 2 ^ 40 }
+    ensures text { IsTrue (W.tells_held writer.old)
+        → TellsDiff form (parted parting.now.passed (compared_of parting.now.first (F.feed first.now).frame)
+        (compared_of parting.now.second (F.feed second.now).frame)) (W.held writer.old) result (W.held writer.new) }
+    ensures same { IfOk result (λ so. so ≡ (is_none parting.now.first && is_none parting.now.second)) }
+    ensures writer { WriterKeeps (writer_of W.Sink writer.old) (is_write result) (writer_of W.Sink writer.new) }
+    ensures fault { IsOkUnless result Fault.Write }
+{
+    if is_end(parting) {
+        put_line(writer, &same_line(form, parting.passed))?;
+        return Ok(true);
+    }
+    put_difference(writer, form, parting.passed + 1, parting, first, second)?;
+    Ok(false)
+}
+
+/// Prints in a form whether two capture files, each of either format, have the same packets, in link type, exact time,
+/// captured and original length and captured bytes: `same packets N`, and returns `true`; or the number and the
+/// differences of the first packet that isn't the same in both, and its line in each, as `list_to` prints it, and
+/// returns `false`. In JSON these are three objects, of which the second and the third hold the object that
+/// `list_json_to` prints with 16 bytes, or `null`. If a file is refused before that, the refusal is returned. It
+/// returns `Read` if a read fails and `Memory` if a growth is refused; after these and a refusal nothing is printed. It
+/// returns `Write` if a write fails, after a prefix.
+pub fn diff_in<R: Source, W: Sink>(
+    alloc: Global,
+    first: R,
+    second: R,
+    tail: Tail,
+    form: Form,
+    writer: &mut W,
+) -> Result<bool, Fault>
+    ensures text { IsTrue (R.tells_coming first) → IsTrue (R.tells_coming second) → IsTrue (W.tells_held writer.old)
+        → TellsDiff form (comparison_of tail (R.coming first) (R.coming second)) (W.held writer.old) result
+        (W.held writer.new) }
+    ensures same { IsTrue (R.tells_coming first) → IsTrue (R.tells_coming second)
+        → IfOk result (λ so. so ≡ is_same (comparison_of tail (R.coming first) (R.coming second))) }
+    ensures writer { WriterKeeps (writer_of W.Sink writer.old) (is_write result) (writer_of W.Sink writer.new) }
+    ensures read { FailsOf (R.can_fail first ∷ R.can_fail second ∷ []) result }
+{
+    let mut first = Capture::new(alloc, first, 1, tail);
+    let mut second = Capture::new(alloc, second, 2, tail);
+    let parting = part(&mut first, &mut second)?;
+    put_parting(writer, form, &parting, &first, &second)
+}
+
+/// Does what `diff_in` does, in text.
+pub fn diff_to<R: Source, W: Sink>(
+    alloc: Global,
+    first: R,
+    second: R,
+    tail: Tail,
+    writer: &mut W,
+) -> Result<bool, Fault>
+    ensures text { IsTrue (R.tells_coming first) → IsTrue (R.tells_coming second) → IsTrue (W.tells_held writer.old)
+        → TellsDiff Text (comparison_of tail (R.coming first) (R.coming second)) (W.held writer.old) result
+        (W.held writer.new) }
+    ensures same { IsTrue (R.tells_coming first) → IsTrue (R.tells_coming second)
+        → IfOk result (λ so. so ≡ is_same (comparison_of tail (R.coming first) (R.coming second))) }
+    ensures writer { WriterKeeps (writer_of W.Sink writer.old) (is_write result) (writer_of W.Sink writer.new) }
+    ensures read { FailsOf (R.can_fail first ∷ R.can_fail second ∷ []) result }
+{
+    diff_in(alloc, first, second, tail, Form::Text, writer)
+}

@@ -1,0 +1,264 @@
+//! What the command line asks for, done over readers and a writer.
+ghost use Rattle.std.specs.Prelude.{◌≡◌, ◌≤◌, ◌∷◌, [], Bool, IfOk, IsTrue, map, vec_len};
+ghost use Rattle.cap_check.specs.CheckText.{WritesChecks};
+ghost use Rattle.std.specs.List.{list_all};
+ghost use Rattle.cap_line.specs.Jobs.{IsWholeJob};
+ghost use Rattle.cap_talks.specs.talks.Telling.{Tells};
+ghost use Rattle.cap_commands.specs.DiffText.{comparison_of, diff_refusal, diff_text_in, is_same};
+ghost use Rattle.cap_commands.specs.Jobs.{Does, Finds, done_of, finding_by, form_by, format_in, found_in};
+ghost use Rattle.cap_commands.specs.Jobs.{finding_in, found_by, opened_files, printed_by, shown_by, tail_of};
+ghost use Rattle.cap_commands.specs.Jobs.{whole_by, whole_finding, written_by};
+ghost use Rattle.cap_commands.specs.JobLeft.{JobLeaves};
+ghost use Rattle.cap_commands.specs.ListText.{list_refusal};
+ghost use Rattle.cap_bytes.specs.Device.{WriterKeeps, writer_of};
+ghost use Rattle.cap_bytes.specs.Printing.{Prints, is_write};
+ghost use Rattle.cap_source.specs.ReadFaults.{FailsOf};
+
+use crate::blocks::blocks_in;
+use crate::counting::{convert_and_count, join_and_count, merge_and_count};
+use crate::diff::diff_in;
+use crate::digests::digests_to;
+use crate::left::{Left, NOTHING_LEFT};
+use crate::list::list_in;
+use cap_bytes::{Fault, Sink, Source, Tail};
+use cap_check::check_all_to;
+use cap_line::{Job, Task};
+use cap_print::Form;
+use cap_source::Format;
+use cap_talks::{file_lines_in, report_in};
+use std::alloc::Global;
+
+/// What a job that was done found, by which its run ends.
+#[derive(Clone, Copy, Debug, PartialEq, Eq)]
+pub enum Finding {
+    /// Nothing by which a run ends otherwise.
+    Nothing,
+    /// Two captures differ.
+    Difference,
+    /// A file that was checked isn't whole.
+    NotWhole,
+}
+
+/// What a job that was done found, and what it left out.
+#[derive(Clone, Copy, Debug, PartialEq, Eq)]
+pub struct Done {
+    /// What it found, by which its run ends.
+    pub finding: Finding,
+    /// What it left out of what it wrote, or as it was.
+    pub left: Left,
+}
+
+/// What is done with a cut end.
+pub fn tail_of(allow_cut: bool) -> Tail
+    ensures { result ≡ tail_of allow_cut }
+{
+    if allow_cut {
+        Tail::Accept
+    } else {
+        Tail::Refuse
+    }
+}
+
+/// The form of what is printed.
+pub fn form_of(json: bool) -> Form
+    ensures { result ≡ form_by json }
+{
+    if json { Form::Json } else { Form::Text }
+}
+
+// How many bytes of a packet are shown at most: 16 in text, and in JSON unless the job says how many.
+fn shown_of(form: Form, count: Option<u32>) -> u32
+    ensures { result ≡ shown_by form count }
+{
+    match form {
+        Form::Text => 16,
+        Form::Json => count.unwrap_or(16),
+    }
+}
+
+// The one source of a task of one file.
+fn only<R: Source>(mut sources: Vec<R>) -> R
+    requires { vec_len sources ≡ 1 }
+    ensures { sources.items ≡ result ∷ [] }
+{
+    sources.remove(0)
+}
+
+// The two sources of `diff`.
+fn pair<R: Source>(mut sources: Vec<R>) -> (R, R)
+    requires { vec_len sources ≡ 2 }
+    ensures { sources.items ≡ result.0 ∷ result.1 ∷ [] }
+{
+    let second = sources.remove(1);
+    let first = sources.remove(0);
+    (first, second)
+}
+
+// What is found by whether two captures have the same packets.
+fn finding_of(is_same: bool) -> Finding
+    ensures { result ≡ finding_by is_same }
+{
+    if is_same {
+        Finding::Nothing
+    } else {
+        Finding::Difference
+    }
+}
+
+// `diff` in a form, and what it finds.
+fn compare<R: Source, W: Sink>(
+    alloc: Global,
+    sources: (R, R),
+    tail: Tail,
+    form: Form,
+    writer: &mut W,
+) -> Result<Finding, Fault>
+    ensures text { IsTrue (R.tells_coming sources.0) → IsTrue (R.tells_coming sources.1)
+        → IsTrue (W.tells_held writer.old)
+        → Tells (diff_text_in form (comparison_of tail (R.coming sources.0) (R.coming sources.1)))
+        (diff_refusal (comparison_of tail (R.coming sources.0) (R.coming sources.1))) (W.held writer.old)
+        (done_of result) (W.held writer.new) }
+    ensures finding { IfOk result (λ finding. IsTrue (R.tells_coming sources.0) → IsTrue (R.tells_coming sources.1)
+        → finding ≡ finding_by (is_same (comparison_of tail (R.coming sources.0) (R.coming sources.1)))) }
+    ensures writer { WriterKeeps (writer_of W.Sink writer.old) (is_write result) (writer_of W.Sink writer.new) }
+    ensures read { FailsOf (R.can_fail sources.0 ∷ R.can_fail sources.1 ∷ []) result }
+{
+    let (first, second) = sources;
+    let is_same = diff_in(alloc, first, second, tail, form, writer)?;
+    Ok(finding_of(is_same))
+}
+
+/// What is found by whether all files that were checked are whole.
+pub fn whole_finding(are_whole: bool) -> Finding
+    ensures { result ≡ whole_finding are_whole }
+{
+    if are_whole {
+        Finding::Nothing
+    } else {
+        Finding::NotWhole
+    }
+}
+
+// `check` in a form, and what it finds.
+fn check<R: Source, W: Sink>(
+    alloc: Global,
+    sources: Vec<R>,
+    tail: Tail,
+    form: Form,
+    writer: &mut W,
+) -> Result<Finding, Fault>
+    requires most { vec_len sources ≤ 4294967295 }
+    ensures text { IsTrue (list_all R.tells_coming sources.items) → IsTrue (W.tells_held writer.old)
+        → WritesChecks form tail (opened_files (map R.can_fail sources.items) (map R.coming sources.items))
+        (W.held writer.old) (whole_by (done_of result) (found_in result)) (W.held writer.new) }
+    ensures finding { IfOk result (λ finding. (are_whole : Bool) × (finding ≡ whole_finding are_whole)) }
+    ensures writer { WriterKeeps (writer_of W.Sink writer.old) (is_write result) (writer_of W.Sink writer.new) }
+    ensures read { FailsOf (map R.can_fail sources.items) result }
+{
+    let are_whole = check_all_to(alloc, sources, tail, form, writer)?;
+    Ok(whole_finding(are_whole))
+}
+
+// The format that `merge` and `join` write: pcapng if none is asked for.
+fn format_of(to: Option<Format>) -> Format
+    ensures { result ≡ format_in to }
+{
+    to.unwrap_or(Format::Pcapng)
+}
+
+// What a job has done that prints, finds nothing and leaves nothing out.
+fn printed(answer: Result<(), Fault>) -> Result<Done, Fault>
+    ensures { result ≡ printed_by answer }
+{
+    match answer {
+        Ok(()) => Ok(Done {
+            finding: Finding::Nothing,
+            left: NOTHING_LEFT,
+        }),
+        Err(fault) => Err(fault),
+    }
+}
+
+// What a job has done that found that, and leaves nothing out.
+fn found(answer: Result<Finding, Fault>) -> Result<Done, Fault>
+    ensures { result ≡ found_by answer }
+{
+    match answer {
+        Ok(finding) => Ok(Done {
+            finding,
+            left: NOTHING_LEFT,
+        }),
+        Err(fault) => Err(fault),
+    }
+}
+
+// What a job has done that wrote a capture, and left that out.
+fn written(answer: Result<Left, Fault>) -> Result<Done, Fault>
+    ensures { result ≡ written_by answer }
+{
+    match answer {
+        Ok(left) => Ok(Done {
+            finding: Finding::Nothing,
+            left,
+        }),
+        Err(fault) => Err(fault),
+    }
+}
+
+/// Does a job over the files that it names, of which `sources` gives the bytes in their order, and writes to what it
+/// names as its output: each task is the command of its name, with the tail, the form, the order and the format that
+/// the job has. It returns what it found: `Difference` exactly if it is `diff` of captures that differ, `NotWhole`
+/// exactly if it is `check` of files that aren't all whole. And it returns what it left out, as `convert_and_count`,
+/// `merge_and_count` and `join_and_count` say: nothing of other tasks. Packets that run backward are counted if
+/// `counts` says so. `info`, `report` and `diff` write all of their text, or nothing if they return `Refused`, `Read`
+/// or `Memory`; the others write up to the first refusal, which they return, and a prefix of their text if they return
+/// another fault. It returns `Read` if a read fails, `Write` if a write does, and `Memory` if a growth is refused.
+#[inline(never)]
+pub fn job_to<R: Source, W: Sink>(
+    alloc: Global,
+    job: &Job<'_>,
+    sources: Vec<R>,
+    counts: bool,
+    writer: &mut W,
+) -> Result<Done, Fault>
+    requires whole { IsWholeJob job.now }
+    requires sources { vec_len sources ≡ vec_len job.now.files }
+    ensures text { IsTrue (list_all R.tells_coming sources.items) → IsTrue (W.tells_held writer.old)
+        → Does job.now (map R.can_fail sources.items) (map R.coming sources.items) (found_in (finding_in result))
+        (W.held writer.old) (done_of (finding_in result)) (W.held writer.new) }
+    ensures writer { WriterKeeps (writer_of W.Sink writer.old) (is_write result) (writer_of W.Sink writer.new) }
+    ensures read { FailsOf (map R.can_fail sources.items) result }
+    ensures left { IfOk result (λ done. IsTrue (list_all R.tells_coming sources.items)
+        → JobLeaves job.now (map R.coming sources.items) done.left) }
+    ensures finding { IfOk result (λ done. IsTrue (list_all R.tells_coming sources.items)
+        → Finds job.now (map R.coming sources.items) done.finding) }
+{
+    let tail = tail_of(job.allow_cut);
+    let form = form_of(job.json);
+    match job.task {
+        Task::List => {
+            let shown = shown_of(form, job.data);
+            printed(list_in(alloc, only(sources), tail, form, shown, writer))
+        }
+        Task::Blocks => printed(blocks_in(alloc, only(sources), tail, form, writer)),
+        Task::Diff => found(compare(alloc, pair(sources), tail, form, writer)),
+        Task::Digest => printed(digests_to(alloc, sources, tail, form, writer)),
+        Task::Check => found(check(alloc, sources, tail, form, writer)),
+        Task::Info => printed(file_lines_in(alloc, sources, tail, form, writer)),
+        Task::Report => printed(report_in(alloc, sources, tail, form, writer)),
+        Task::Convert => {
+            let format = job.to.unwrap();
+            written(convert_and_count(alloc, only(sources), tail, job.order, format, writer))
+        }
+        Task::Merge => {
+            let format = format_of(job.to);
+            let answer = merge_and_count(alloc, sources, tail, job.order, format, counts, writer);
+            written(answer)
+        }
+        Task::Join => {
+            let format = format_of(job.to);
+            let answer = join_and_count(alloc, sources, tail, job.order, format, counts, writer);
+            written(answer)
+        }
+    }
+}

@@ -1,0 +1,25 @@
+//! What the commands of `capt` do over readers and writers: what they print and write, what they find, and what they
+//! leave out.
+#![tactic(auto)]
+
+mod blocks;
+mod commands;
+mod counting;
+mod diff;
+mod diff_lines;
+mod digests;
+mod faults;
+mod jobs;
+mod left;
+mod lines;
+mod list;
+
+pub use crate::blocks::{blocks_json_to, blocks_to};
+pub use crate::commands::{convert_to, join_to, join_to_pcap, merge_to, merge_to_pcap};
+pub use crate::counting::{convert_and_count, join_and_count, merge_and_count};
+pub use crate::diff::{Differences, diff_in, diff_to};
+pub use crate::digests::digests_to;
+pub use crate::faults::fault_line;
+pub use crate::jobs::{Done, Finding, form_of, job_to, tail_of, whole_finding};
+pub use crate::left::{Left, NOTHING_LEFT};
+pub use crate::list::{list_json_to, list_to};

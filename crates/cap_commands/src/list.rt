@@ -1,0 +1,168 @@
+//! `capt list`, in text and in JSON: one line for each packet, as it is found.
+ghost use Rattle.std.specs.Prelude.{◌≡◌, ◌<◌, ◌≤◌, ◌^◌, ◌∷◌, [], None, IsTrue, length};
+ghost use Rattle.std.specs.Prelude.{IsOkUnless, is_err};
+ghost use Rattle.cap_commands.specs.ListText.{facts_showing, list_in, list_json, list_lines, list_refusal, list_text};
+ghost use Rattle.cap_commands.specs.ListText.{packet_line};
+ghost use Rattle.cap_commands.specs.inner.PacketParts.{packet_rest};
+ghost use Rattle.cap_print.specs.Facts.{line_in};
+ghost use Rattle.cap_bytes.specs.Device.{Puts, WriterKeeps, writer_of};
+ghost use Rattle.cap_bytes.specs.Printing.{Prints, is_write};
+ghost use Rattle.cap_source.specs.Feed.{refusal_of};
+ghost use Rattle.cap_source.specs.ReadFaults.{FailsOf};
+ghost use Rattle.cap_source.specs.inner.Walk.{Walks};
+ghost use Rattle.cap_source.specs.inner.Growing.{IfMemory};
+
+use crate::lines::{MOST_SHOWN, write_packet, write_packet_head};
+use cap_bytes::{Fault, Sink, Source, Tail, put_all};
+use cap_print::{Form, Line};
+use cap_source::{Capture, Meta, PacketFeed, next_packet};
+use std::alloc::Global;
+use std::cmp::min;
+
+// Writes bytes as digits, and then the end of their packet's line in a form.
+fn put_rest<W: Sink>(writer: &mut W, line: &mut Line, form: Form, bytes: &[u8]) -> Result<(), Fault>
+    ensures bytes { IsTrue (W.tells_held writer.old)
+        → Puts (W.held writer.old) result (W.held writer.new) (packet_rest form bytes.now) }
+    ensures writer { WriterKeeps (writer_of W.Sink writer.old) (is_err result) (writer_of W.Sink writer.new) }
+    ensures fault { IsOkUnless result Fault.Write }
+{
+    let mut rest = bytes;
+    while rest.len() > MOST_SHOWN {
+        let (piece, behind) = rest.split_at(MOST_SHOWN);
+        line.clear();
+        line.prepend_hex(b"", piece);
+        put_all(writer, line.as_slice())?;
+        rest = behind;
+    }
+    line.clear_to_end(form);
+    line.put_quote(form);
+    line.prepend_hex(b"", rest);
+    put_all(writer, line.as_slice())
+}
+
+// Writes the packet number n, from 1, in a form, with these of its captured bytes, which are more than a line holds.
+#[inline(never)]
+fn put_long_packet<W: Sink>(
+    writer: &mut W,
+    line: &mut Line,
+    form: Form,
+    n: u64,
+    meta: &Meta,
+    shown: &[u8],
+) -> Result<(), Fault>
+    requires { 128 < length shown.now }
+    ensures bytes { IsTrue (W.tells_held writer.old)
+        → Puts (W.held writer.old) result (W.held writer.new) (line_in form (facts_showing n meta.now shown.now)) }
+    ensures writer { WriterKeeps (writer_of W.Sink writer.old) (is_err result) (writer_of W.Sink writer.new) }
+    ensures fault { IsOkUnless result Fault.Write }
+{
+    write_packet_head(line, form, n, meta);
+    put_all(writer, line.as_slice())?;
+    put_rest(writer, line, form, shown)
+}
+
+// Writes the packet number n, from 1, in a form, with at most `most` of its captured bytes.
+#[inline(always)]
+fn put_packet<W: Sink>(
+    writer: &mut W,
+    line: &mut Line,
+    form: Form,
+    most: u32,
+    n: u64,
+    meta: &Meta,
+    bytes: &[u8],
+) -> Result<(), Fault>
+    ensures bytes { IsTrue (W.tells_held writer.old)
+        → Puts (W.held writer.old) result (W.held writer.new) (packet_line form most n meta.now bytes.now) }
+    ensures writer { WriterKeeps (writer_of W.Sink writer.old) (is_err result) (writer_of W.Sink writer.new) }
+    ensures fault { IsOkUnless result Fault.Write }
+{
+    let (shown, _) = bytes.split_at(min(bytes.len(), most as usize));
+    if shown.len() > MOST_SHOWN {
+        return put_long_packet(writer, line, form, n, meta, shown);
+    }
+    write_packet(line, form, n, meta, shown);
+    put_all(writer, line.as_slice())
+}
+
+// Prints the packets that a feed still gives in a form, the first of which has the number 1, with at most `most` bytes
+// of each.
+fn list_packets<F: PacketFeed, W: Sink>(
+    feed: &mut F,
+    form: Form,
+    most: u32,
+    writer: &mut W,
+) -> Result<(), Fault>
+    requires { (F.feed feed.old).left ≤ 2 ^ 40 }
+    ensures text { IsTrue (F.feed feed.old).told → IsTrue (W.tells_held writer.old)
+        → Prints (list_lines (packet_line form most) 1 (F.feed feed.old).items) (refusal_of (F.feed feed.old).items)
+        (W.held writer.old) result (W.held writer.new) }
+    ensures writer { WriterKeeps (writer_of W.Sink writer.old) (is_write result) (writer_of W.Sink writer.new) }
+    ensures walks { Walks (F.feed feed.old) result (F.feed feed.new) }
+    ensures memory { IfMemory result ((F.feed feed.new).known ≡ None) }
+{
+    let mut line = Line::new();
+    let mut number = 1u64;
+    while let Some(packet) = next_packet(feed)? {
+        put_packet(writer, &mut line, form, most, number, &packet, feed.frame())?;
+        feed.pass();
+        number += 1;
+    }
+    Ok(())
+}
+
+/// Does what `list_to` or `list_json_to` does, by the form, with at most `most` bytes of each packet.
+pub(crate) fn list_in<R: Source, W: Sink>(
+    alloc: Global,
+    source: R,
+    tail: Tail,
+    form: Form,
+    most: u32,
+    writer: &mut W,
+) -> Result<(), Fault>
+    ensures text { IsTrue (R.tells_coming source) → IsTrue (W.tells_held writer.old)
+        → Prints (list_in form most tail (R.coming source)) (list_refusal tail (R.coming source))
+        (W.held writer.old) result (W.held writer.new) }
+    ensures writer { WriterKeeps (writer_of W.Sink writer.old) (is_write result) (writer_of W.Sink writer.new) }
+    ensures read { FailsOf (R.can_fail source ∷ []) result }
+{
+    let mut capture = Capture::new(alloc, source, 1, tail);
+    list_packets(&mut capture, form, most, writer)
+}
+
+/// Prints a line for each packet of a capture file of either format, each as it is found, up to the first refusal,
+/// which it returns. It returns `Read` if a read fails, `Write` if a write does, `Memory` if a growth is refused; then
+/// a prefix of those lines is written.
+pub fn list_to<R: Source, W: Sink>(
+    alloc: Global,
+    source: R,
+    tail: Tail,
+    writer: &mut W,
+) -> Result<(), Fault>
+    ensures text { IsTrue (R.tells_coming source) → IsTrue (W.tells_held writer.old)
+        → Prints (list_text tail (R.coming source)) (list_refusal tail (R.coming source))
+        (W.held writer.old) result (W.held writer.new) }
+    ensures writer { WriterKeeps (writer_of W.Sink writer.old) (is_write result) (writer_of W.Sink writer.new) }
+    ensures read { FailsOf (R.can_fail source ∷ []) result }
+{
+    list_in(alloc, source, tail, Form::Text, 16, writer)
+}
+
+/// Prints a JSON object on a line of its own for each packet of a capture file of either format, each as it is found,
+/// with at most `shown` of its captured bytes, up to the first refusal, which it returns. It returns `Read` if a read
+/// fails, `Write` if a write does, `Memory` if a growth is refused; then a prefix of those lines is written.
+pub fn list_json_to<R: Source, W: Sink>(
+    alloc: Global,
+    source: R,
+    tail: Tail,
+    shown: u32,
+    writer: &mut W,
+) -> Result<(), Fault>
+    ensures text { IsTrue (R.tells_coming source) → IsTrue (W.tells_held writer.old)
+        → Prints (list_json shown tail (R.coming source)) (list_refusal tail (R.coming source))
+        (W.held writer.old) result (W.held writer.new) }
+    ensures writer { WriterKeeps (writer_of W.Sink writer.old) (is_write result) (writer_of W.Sink writer.new) }
+    ensures read { FailsOf (R.can_fail source ∷ []) result }
+{
+    list_in(alloc, source, tail, Form::Json, shown, writer)
+}

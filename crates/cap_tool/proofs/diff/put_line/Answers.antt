@@ -1,7 +1,0 @@
-use Rattle.cap_tool.proofs.Parting.{Prints-line}
-use Rattle.cap_tool.proofs.diff.put_line.Goals as goal
-
-pub returns-clause-text : goal.returns-clause-text
-returns-clause-text g c = λ w.
-    rw c.as_slice.ensures.value at (Prints-line _ _ _ c.put_all.result (c.put_all.ensures.bytes w)
-    c.put_all.ensures.fault)

@@ -1,6 +1,0 @@
-pub mod BlockWalk
-pub mod DiffWalk
-pub mod DiffWords
-pub mod FileText
-pub mod PacketJson
-pub mod RanBack
