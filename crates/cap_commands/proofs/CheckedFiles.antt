@@ -4,7 +4,7 @@ use Rattle.std.specs.Prelude.{◌&&◌}
 use Rattle.std.specs.List.{list_all}
 use Rattle.cap_commands.specs.Jobs.{opened_files, whole_by, whole_finding}
 
--- files all of which tell their bytes
+-- files that all tell their bytes
 pub opened-are : {R : Type 0} (tells : R → Bool) (coming : R → List ℕ) (can_fail : R → Bool) (files : List R)
     → list_all tells files ≡ true
     → map (λ s. Some (record { told = tells s; bytes = coming s; can_fail = can_fail s })) files

@@ -99,7 +99,7 @@ fn merge_counted<R: Source>(
     Ok(merged)
 }
 
-// Writes a file of which nothing was passed in that format.
+// Writes a file in that format, before any of its packets was passed.
 fn write_file<R: Source, W: Sink>(
     alloc: Global,
     capture: &mut Capture<R>,
@@ -147,7 +147,7 @@ pub fn convert_and_count<R: Source, W: Sink>(
     Ok(left_of_one(&capture))
 }
 
-// Writes the packets of a run of which nothing was passed.
+// Writes the packets of a run, before any was passed.
 fn write_run<F: PacketFeed, W: Sink>(
     alloc: Global,
     merged: &mut Merged<F>,
@@ -171,7 +171,7 @@ fn write_run<F: PacketFeed, W: Sink>(
     }
 }
 
-// Writes the datagrams of a run of which nothing was passed.
+// Writes the datagrams of a run, before any packet was passed.
 fn write_datagrams<F: PacketFeed, W: Sink>(
     alloc: Global,
     merged: &mut Merged<F>,

@@ -22,7 +22,7 @@ fn stamp_of(meta: &Meta) -> Option<Stamp>
     meta.time()
 }
 
-// Puts the facts of the packet number n, from 1, but for its bytes, and the beginning of its line.
+// Puts the facts of the packet number n, from 1, except its bytes, and the beginning of its line.
 #[inline(always)]
 fn put_packet(line: &mut Line, form: Form, n: u64, meta: &Meta)
     requires { 240 ≤ room_in line.old }

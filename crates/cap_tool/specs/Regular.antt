@@ -4,7 +4,7 @@ use Rattle.cap_tool.specs.declared.regular.FileType.{FileType}
 use Rattle.cap_tool.specs.declared.regular.FileType.TheVariants as types
 use Rattle.cap_tool.specs.declared.regular.Regular.{Regular}
 
--- a regular file of which that is known, or something else
+-- a regular file, with what is known of it, or something else
 abbrev pub type_by : Option Regular → FileType
 type_by (Some regular) = types.Regular regular
 type_by None = types.Other

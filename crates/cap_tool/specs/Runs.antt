@@ -20,7 +20,7 @@ use Rattle.cap_tool.specs.declared.outcomes.Outcome.TheVariants as outcomes
 use Rattle.cap_tool.specs.declared.outcomes.Stop.{Stop}
 use Rattle.cap_tool.specs.declared.regular.FileId.{FileId}
 
--- how a run ended, but for why
+-- how a run ended, without the cause
 abbrev pub ended_as : {A : Type 0} → Result A Stop → Result (Unit {0}) Outcome
 ended_as (Ok done) = Ok tt
 ended_as (Err stop) = Err stop.outcome

@@ -38,7 +38,7 @@ pub enum FileType {
 }
 
 impl FileType {
-    /// A regular file, of which that is known, or something else.
+    /// A regular file, with what is known of it, or something else.
     pub fn of_regular(regular: Option<Regular>) -> FileType
         ensures { result ≡ type_by regular }
     {
