@@ -1,5 +1,5 @@
 //! Blocks as they are written.
-ghost use Rattle.std.specs.Prelude.{◌≡◌, ◌+◌, ◌≤◌, ◌++◌, length, IsTrue, is_err, IsOkUnless};
+ghost use Rattle.std.specs.Prelude.{◌≡◌, ◌+◌, ◌≤◌, ◌++◌, [], length, IsTrue, is_err, IsOkUnless};
 ghost use Rattle.std.specs.Int.{w64, cast_unsigned};
 ghost use Rattle.cap_bytes.specs.Device.{Puts, WriterKeeps, writer_of};
 ghost use Rattle.cap_blocks.specs.Grammar.{section_bytes, interface_bytes, interface_total, packet_bytes, packet_head};
@@ -143,22 +143,25 @@ pub fn put_packet<W: Sink>(
     ensures fault { IsOkUnless result Fault.Write }
 {
     if data.len() <= SMALL {
-        put_all(writer, packet_block(order, packet, data).bytes())
+        let mut block = BlockBuffer::new();
+        add_packet(&mut block, order, packet, data);
+        put_all(writer, block.bytes())
     } else {
         put_parts(writer, order, packet, data)
     }
 }
 
-// An enhanced packet block of few captured bytes.
-fn packet_block(order: Order, packet: PacketFields, data: &[u8]) -> BlockBuffer
-    requires { length «data».now ≤ 125 }
-    ensures { result ≡ packet_bytes order packet.interface packet.units packet.original «data».now }
+// Puts an enhanced packet block of few captured bytes into an empty buffer.
+#[inline(always)]
+fn add_packet(buffer: &mut BlockBuffer, order: Order, packet: PacketFields, data: &[u8])
+    requires empty { buffer.old ≡ [] }
+    requires captured { length «data».now ≤ 125 }
+    ensures { buffer.new ≡ packet_bytes order packet.interface packet.units packet.original «data».now }
 {
     let captured = data.len() as u32;
-    let mut buffer = packet_head(order, packet, captured);
+    add_head(buffer, order, packet, captured);
     buffer.add(data);
-    add_tail(&mut buffer, order, captured);
-    buffer
+    add_tail(buffer, order, captured);
 }
 
 // Writes an enhanced packet block in three parts, which spares a copy of the captured bytes.
@@ -181,13 +184,14 @@ fn put_parts<W: Sink>(
     put_all(writer, packet_tail(order, captured).bytes())
 }
 
-// What stands in front of the captured bytes.
-fn packet_head(order: Order, packet: PacketFields, captured: u32) -> BlockBuffer
-    requires { captured ≤ 262144 }
-    ensures size { length result ≡ 28 }
-    ensures bytes { result ≡ packet_head order packet.interface packet.units captured packet.original }
+// Puts what stands in front of the captured bytes into an empty buffer.
+#[inline(always)]
+fn add_head(buffer: &mut BlockBuffer, order: Order, packet: PacketFields, captured: u32)
+    requires empty { buffer.old ≡ [] }
+    requires captured { captured ≤ 262144 }
+    ensures size { length buffer.new ≡ 28 }
+    ensures bytes { buffer.new ≡ packet_head order packet.interface packet.units captured packet.original }
 {
-    let mut buffer = BlockBuffer::new();
     buffer.add_u32(order, ENHANCED_PACKET);
     buffer.add_u32(order, 32 + padded(captured));
     buffer.add_u32(order, packet.interface);
@@ -195,6 +199,16 @@ fn packet_head(order: Order, packet: PacketFields, captured: u32) -> BlockBuffer
     buffer.add_u32(order, (packet.units % 0x1_0000_0000) as u32);
     buffer.add_u32(order, captured);
     buffer.add_u32(order, packet.original);
+}
+
+// What stands in front of the captured bytes.
+fn packet_head(order: Order, packet: PacketFields, captured: u32) -> BlockBuffer
+    requires { captured ≤ 262144 }
+    ensures size { length result ≡ 28 }
+    ensures bytes { result ≡ packet_head order packet.interface packet.units captured packet.original }
+{
+    let mut buffer = BlockBuffer::new();
+    add_head(&mut buffer, order, packet, captured);
     buffer
 }
 

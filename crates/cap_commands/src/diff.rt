@@ -53,6 +53,7 @@ fn is_same_time(first: Option<Stamp>, second: Option<Stamp>) -> bool
 }
 
 // In what two packets with these captured bytes differ.
+#[inline(always)]
 fn differences_of(first: &Meta, frame: &[u8], second: &Meta, bytes: &[u8]) -> Differences
     ensures { result ≡ differences_of (record { meta = first.now; frame = frame.now })
         (record { meta = second.now; frame = bytes.now }) }

@@ -194,17 +194,17 @@ fn record_head(order: Order, time: RecordTime, captured: u32, original: u32) -> 
 // than a call of the writer.
 const SMALL: usize = 112;
 
-// A record of few captured bytes, which begins a text of 128 bytes.
-fn small_record(order: Order, time: RecordTime, original: u32, frame: &[u8]) -> [u8; 128]
+// Puts a record of few captured bytes at the front of some bytes.
+#[inline(always)]
+fn fill_record(bytes: &mut [u8; 128], order: Order, time: RecordTime, original: u32, frame: &[u8])
     requires { length frame.now ≤ 112 }
-    ensures { take (16 + length frame.now) result ≡ record_bytes order time.seconds time.fraction original frame.now }
+    ensures { take (16 + length frame.now) bytes.new
+        ≡ record_bytes order time.seconds time.fraction original frame.now }
 {
-    let mut bytes = [0; 128];
     let head = record_head(order, time, frame.len() as u32, original);
     let (front, rest) = bytes.split_at_mut(HEAD_SIZE);
     front.copy_from_slice(&head);
     rest.split_at_mut(frame.len()).0.copy_from_slice(frame);
-    bytes
 }
 
 /// Writes a record: 16 bytes and then `frame`, the bytes that were captured of a packet of the `original`
@@ -225,7 +225,8 @@ pub fn put_record<W: Sink>(
     ensures fault { IsOkUnless result Fault.Write }
 {
     if frame.len() <= SMALL {
-        let record = small_record(order, time, original, frame);
+        let mut record = [0; 128];
+        fill_record(&mut record, order, time, original, frame);
         return put_all(writer, record.split_at(HEAD_SIZE + frame.len()).0);
     }
     let head = record_head(order, time, frame.len() as u32, original);
