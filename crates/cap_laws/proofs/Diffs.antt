@@ -30,7 +30,7 @@ use Rattle.cap_laws.specs.Diffs.{SameAsConverted, SameExactly}
 use Rattle.cap_laws.specs.again.Laws.{IsSamePacket, PcapAgain, PcapngAgain, SamePackets}
 
 -- the test of two times is that of their order
-time-law : (a b : Option Stamp) → Decides (is_same_time a b) (clock_cmp a b ≡ Equal)
+pub time-law : (a b : Option Stamp) → Decides (is_same_time a b) (clock_cmp a b ≡ Equal)
 time-law None None = (λ e. refl, λ e. refl)
 time-law None (Some t) = (λ e. absurd (false≢true e), λ e. absurd (cc))
 time-law (Some s) None = (λ e. absurd (false≢true e), λ e. absurd (cc))
@@ -49,7 +49,7 @@ passed true true true true true h = record { first = refl; second = refl; third 
 passed a b c d e h = grind arith
 
 -- two packets do not differ if they are the same
-unlike : (m o : Meta) (f g : List ℕ) → IsSamePacket m o f g
+pub unlike : (m o : Meta) (f g : List ℕ) → IsSamePacket m o f g
     → do_differ (differences_of (record { meta = m; frame = f }) (record { meta = o; frame = g })) ≡ false
 unlike m o f g same =
     let link = (Decides-eqb m.interface.link o.interface.link).1 same.link in
@@ -60,7 +60,7 @@ unlike m o f g same =
     rw (link, time, captured, original, bytes) refl
 
 -- and are the same if they do not differ
-like : (m o : Meta) (f g : List ℕ)
+pub like : (m o : Meta) (f g : List ℕ)
     → do_differ (differences_of (record { meta = m; frame = f }) (record { meta = o; frame = g })) ≡ false
     → IsSamePacket m o f g
 like m o f g h =
@@ -74,7 +74,7 @@ like m o f g h =
       frame = (bytes_eq-Decides f g).0 p.fifth;
     }
 
-chosen_by : (b : Bool) (c d : Comparison) → b ≡ false → (if b then c else d) ≡ d
+pub chosen_by : (b : Bool) (c d : Comparison) → b ≡ false → (if b then c else d) ≡ d
 chosen_by b c d e = rw e refl
 
 -- lists of packets that are the same, one by one, are as many packets that are the same

@@ -1,7 +1,9 @@
 mod Alike
+mod CheckedPackets
 mod Diffs
 mod DigestLaws
 mod FileNumbers
+mod FirstDifferences
 mod InOrder
 mod JoinedByPlaces
 mod JoinedUnits

@@ -1,6 +1,8 @@
 pub mod again
+pub mod CheckedPackets
 pub mod Diffs
 pub mod Digests
+pub mod FirstDifferences
 pub mod Forms
 pub mod InOrder
 pub mod JoinedByPlaces

@@ -1,6 +1,8 @@
 //! Laws, each the contract of a function that does nothing.
 ghost use Rattle.std.specs.Prelude.{List};
+ghost use Rattle.cap_laws.specs.CheckedPackets.{CheckedByPlaces};
 ghost use Rattle.cap_laws.specs.Diffs.{SameAsConverted, SameExactly};
+ghost use Rattle.cap_laws.specs.FirstDifferences.{DifferencesNamed, FirstDifference};
 ghost use Rattle.cap_laws.specs.Forms.{BodyParts, PcapReport};
 ghost use Rattle.cap_laws.specs.InOrder.{ByPlaces, ReportByPlaces};
 ghost use Rattle.cap_laws.specs.JoinedByPlaces.{JoinedByPlaces};
@@ -85,6 +87,15 @@ pub fn diff_same()
     ensures { SameExactly }
 {}
 
+/// What `diff` says of two captures, by places. Both begin with n packets that are the same, one by one. If both end
+/// there, it says that they have the same n packets. If the next packets differ, or only one capture has a next packet,
+/// it says that packet n + 1 differs. If the first capture is refused there, or the second is and the first isn't, it
+/// returns that refusal. It says nothing else. Of two packets it names exactly the fields in which they differ.
+pub fn diff_first()
+    ensures said { FirstDifference }
+    ensures named { DifferencesNamed }
+{}
+
 /// `diff` says of a capture, of either format and whatever bytes it holds, and of what `convert` writes of it, in
 /// either format and byte order, that both have the same packets, as many as the capture has, if nothing is refused and
 /// at most 2^40 bytes are written.
@@ -94,6 +105,13 @@ pub fn diff_converted()
     pcap_again();
     pcapng_again();
 }
+
+/// `check` counts, of the packets of a capture before its end or its refusal, as many packets and truncated packets as
+/// `info`; as going backward each packet whose time is earlier than the time of a packet before it; and each packet
+/// without a time.
+pub fn check_counts()
+    ensures { CheckedByPlaces }
+{}
 
 /// Each packet has one class, and the seven counts add up to the number of packets.
 pub fn one_class()
