@@ -30,7 +30,7 @@ def of_units(code, units):
 SAID = [
     ("1 magic", "list", bytes(4), "this is no capture of pcap or pcapng"),
     ("2 version", "list", ETHERNET[:4] + b"\x02\0\x03\0" + ETHERNET[8:], "its version is neither pcap 2.4 nor pcapng 1.0 or 1.2"),
-    ("3 cut", "list", ETHERNET + bytes(3), "it is cut off: --allow-cut drops a last record or block, but not a file header"),
+    ("3 cut", "list", ETHERNET + bytes(3), "it is cut off: --allow-cut drops a last record or block"),
     ("4 packet-long", "list", ETHERNET + bytes.fromhex("00000000 00000000 01000400 01000400"), "more than 262,144 bytes of a packet were captured"),
     ("5 block-length", "list", HEADER + bytes.fromhex("05000000 1e000000 00000000"), "the length of a block is wrong"),
     ("6 block-trailer", "list", HEADER + bytes.fromhex("05000000 10000000 01020304 0c000000"), "the two lengths of a block differ"),
@@ -111,7 +111,7 @@ def main():
             with open(os.path.join(folder, name), "wb") as file:
                 file.write(capture)
         seen = rest_of(*begun(["info", "a", "b", " c"], folder, program))
-        wanted = "refused: file 3 offset 0 rule 3 cut\n   c: it is cut off: --allow-cut drops a last record or block, but not a file header\n"
+        wanted = "refused: file 3 offset 0 rule 3 cut\n   c: it is cut off inside its file header, which --allow-cut doesn't drop\n"
         count.check("the third of three files, with a space in front of its name", seen == (wanted, 1), seen)
         text, status = rest_of(*begun(["check", "--explain", "a", "none", " c", "."], folder, program))
         ends = re.findall(r"^check \d .* interfaces \d (.*)$", text, re.M)

@@ -203,7 +203,7 @@ explained() {
     check "$name" "${ends:-1}" '' "$want"
 }
 explained 'a cut file, explained' 'refused: file 2 offset 24 rule 3 cut
-  cut.pcap: it is cut off: --allow-cut drops a last record or block, but not a file header' info --explain one.pcap cut.pcap
+  cut.pcap: it is cut off: --allow-cut drops a last record or block' info --explain one.pcap cut.pcap
 explained 'a name that sets a title, explained' $'fault: open file 1\n  \\u{1b}]0;x\\u{7}: No such file or directory (os error 2)' list --explain $'\e]0;x\a'
 explained 'a name of two lines, explained' $'fault: open file 1\n  a\\u{a}b: No such file or directory (os error 2)' list $'a\nb' --explain
 explained 'a name with C1 and bidi controls, explained' $'fault: open file 1\n  \\u{9b}\\u{202e}\\u{7f}: No such file or directory (os error 2)' info --explain $'\xc2\x9b\xe2\x80\xae\x7f'
@@ -224,6 +224,19 @@ for kind in 'gzip zcat \x1f\x8b\x08\0' 'zstd zstdcat \x28\xb5\x2f\xfd' 'xz xzcat
     explained "$1, explained" "refused: file 1 offset 0 rule 1 magic
   packed: it is compressed by $1: $2 FILE | capt list -" report --explain packed
 done
+printf '\x34\xcd\xb2\xa1\x02\x00\x04\x00' > "$work/modified"
+explained 'a modified pcap file, explained' "refused: file 1 offset 0 rule 1 magic
+  modified: this is a modified pcap file, which capt doesn't read: editcap -F pcap FILE OUT converts it" info --explain modified
+: > "$work/nothing"
+explained 'an empty file, explained' 'refused: file 1 offset 0 rule 3 cut
+  nothing: it is empty' report --explain nothing
+explained 'an empty file with --allow-cut, explained' 'refused: file 1 offset 0 rule 3 cut
+  nothing: it is empty' report --allow-cut --explain nothing
+input=/dev/null; explained 'no byte of standard input, explained' "refused: file 1 offset 0 rule 3 cut
+  -: it is cut off inside its file header, which --allow-cut doesn't drop" list --explain -; input=
+head -c 23 "$one" > "$work/begun"
+explained 'a cut file header, explained' "refused: file 1 offset 0 rule 3 cut
+  begun: it is cut off inside its file header, which --allow-cut doesn't drop" list --explain begun
 explained 'a folder, explained' 'fault: read file 1 offset 0
   folder: it is a folder' list --explain folder
 head -c 24 "$one" > "$work/header.pcap"
@@ -232,7 +245,7 @@ explained 'no packet for a pcap file, explained' 'refused: file 1 offset 0 rule 
 ends=2
 # shellcheck disable=SC2046 # a word each
 explained 'too many files, explained' 'fault: files
-  a command reads at most 32 captures' info --explain $(yes one.pcap | head -n 33)
+  only capt check reads more than 32 captures: examples/rounds.sh merges them' info --explain $(yes one.pcap | head -n 33)
 explained 'standard input twice, explained' 'fault: input
   standard input, -, can be read once' report - --explain -
 explained 'OUT that is a FILE, explained' 'fault: output
@@ -361,7 +374,7 @@ counted 'nothing to tell' '' merge --explain -o "$work/new" "$one"
 counted 'blocks that no one asks for' '' merge -o "$work/new" "$many" "$back"
 run info --explain "$many"; check 'blocks that info counts' 0 '*' ''
 run merge --explain -o "$work/new" "$many" "$back" "$work/cut.pcap"; check 'blocks before a refusal' 1 '' "refused: file 3 offset 24 rule 3 cut
-  $work/cut.pcap: it is cut off: --allow-cut drops a last record or block, but not a file header"
+  $work/cut.pcap: it is cut off: --allow-cut drops a last record or block"
 counted 'blocks and a cut end' 'not carried on: 8 blocks' merge --explain --allow-cut -o "$work/new" "$many" "$work/cut.pcap"
 run merge --explain -o - "$many"; check 'blocks, on standard output' 0 '*' 'not carried on: 8 blocks'
 run merge --explain -o /dev/full "$many"; check 'blocks and a full disk' 1 '' 'fault: write
@@ -375,7 +388,7 @@ shown() {
 }
 if command -v script > /dev/null; then
     shown 'a cut file at a terminal' 'refused: file 2 offset 24 rule 3 cut
-  cut.pcap: it is cut off: --allow-cut drops a last record or block, but not a file header' info one.pcap cut.pcap
+  cut.pcap: it is cut off: --allow-cut drops a last record or block' info one.pcap cut.pcap
     shown 'a missing file at a terminal' 'fault: open file 1
   missing: No such file or directory (os error 2)' list missing
     shown 'a folder at a terminal' 'fault: read file 1 offset 0
@@ -394,7 +407,7 @@ if command -v script > /dev/null; then
     shown 'standard input twice at a terminal' 'fault: input
   standard input, -, can be read once' info - -
     shown '33 captures at a terminal' 'fault: files
-  a command reads at most 32 captures' info $(yes one.pcap | head -33)
+  only capt check reads more than 32 captures: examples/rounds.sh merges them' info $(yes one.pcap | head -33)
     # at a terminal the counts are told without --explain, also if what is written goes to a file or a pipe
     shown 'blocks and packets at a terminal' 'not carried on: 8 blocks
 ran back: 1 packet' merge -o new "$many" "$back"
@@ -432,7 +445,7 @@ ran back: 1 packet' merge -o new "$many" "$back"
     slowly 'progress beside a file' "$far" "$report" "$(printf '%q ' "$program" report slow) > written"
     slowly 'no progress beside a pipe' '' "$report" "$(printf '%q ' "$program" report slow) | cat > written"
     head -c 43 "$one" > "$work/half"; one=$work/half
-    slowly 'progress, then a fault' "$far"$'refused: file 1 offset 24 rule 3 cut\r  slow: it is cut off: --allow-cut drops a last record or block, but not a file header\r' '' \
+    slowly 'progress, then a fault' "$far"$'refused: file 1 offset 24 rule 3 cut\r  slow: it is cut off: --allow-cut drops a last record or block\r' '' \
         "$(printf '%q ' "$program" info slow)"
     one=$work/one.pcap
 fi

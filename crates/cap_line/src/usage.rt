@@ -1,29 +1,32 @@
 //! What the program says of itself where clap says nothing.
 
 /// The usage: the program's help.
-pub const USAGE: &str =
-    "Reads packet captures, pcap 2.4 and pcapng 1.0 and 1.2, reports on them, and
-converts, merges and joins them.
+pub const USAGE: &str = "Reads packet captures, pcap 2.4 and pcapng 1.0 and 1.2, reports on them,
+compares and checks them, and converts, merges and joins them.
 
-Usage: capt report [--allow-cut] FILE...
-       capt info [--allow-cut] FILE...
-       capt list [--allow-cut] FILE
-       capt blocks [--allow-cut] FILE
-       capt diff [--allow-cut] A B
-       capt digest [--allow-cut] FILE...
-       capt check [--allow-cut] FILE...
+Usage: capt report [--allow-cut] [--json] FILE...
+       capt info [--allow-cut] [--json] FILE...
+       capt list [--allow-cut] [--json [--data N]] FILE
+       capt blocks [--allow-cut] [--json] FILE
+       capt diff [--allow-cut] [--json] A B
+       capt digest [--allow-cut] [--json] FILE...
+       capt check [--allow-cut] [--json] FILE...
        capt convert [--allow-cut] [--order ORDER] --to FORMAT -o OUT FILE
        capt merge [--allow-cut] [--order ORDER] [--to FORMAT] -o OUT FILE...
        capt join [--allow-cut] [--order ORDER] [--to FORMAT] -o OUT FILE...
 
-Commands:
+Commands that look at captures:
   report   Prints the totals of captures, and a line for each conversation
   info     Prints a line for each capture
   list     Prints a line for each packet of a capture
   blocks   Prints a line for each block of a pcapng file
+
+Commands that compare and check captures:
   diff     Compares the packets of two captures
   digest   Prints the SHA-256 of the packets of each capture
   check    Tests each capture to its end
+
+Commands that write captures:
   convert  Writes the packets of a capture in either format
   merge    Writes the packets of captures as one, in the order of time
   join     Writes the whole IPv4 datagrams of captures, fragments joined

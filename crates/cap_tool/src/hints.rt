@@ -5,7 +5,8 @@ ghost use Rattle.cap_tool.specs.Hints.{IsHintLine, is_of_file, is_of_files, is_o
 use crate::causes::Cause;
 use crate::kinds::{Kind, kind_at};
 use crate::outcomes::{Outcome, Stop};
-use cap_bytes::{Fault, Rule};
+use crate::regular::{path_of, regular_at};
+use cap_bytes::{Fault, Refusal, Rule};
 use cap_line::{Job, LineFault, Task, escape};
 use std::alloc::Global;
 use std::fmt::Display;
@@ -22,6 +23,8 @@ fn magic_meaning(task: Task, kind: Kind) -> &'static str {
         Kind::Xz => "it is compressed by xz: xzcat FILE | capt list -",
         Kind::Lz4 => "it is compressed by lz4: lz4cat FILE | capt list -",
         Kind::Bzip2 => "it is compressed by bzip2: bzcat FILE | capt list -",
+        Kind::ModifiedPcap =>
+            "this is a modified pcap file, which capt doesn't read: editcap -F pcap FILE OUT converts it",
         Kind::Pcap if task == Task::Blocks =>
             "blocks are of pcapng files, and this is a pcap file: capt list shows its packets",
         Kind::Other if task == Task::Blocks => "this is no pcapng file, which has blocks",
@@ -38,8 +41,7 @@ fn meaning(rule: Rule) -> &'static str {
     match rule {
         Rule::Magic => "this is no capture of pcap or pcapng",
         Rule::Version => "its version is neither pcap 2.4 nor pcapng 1.0 or 1.2",
-        Rule::Cut =>
-            "it is cut off: --allow-cut drops a last record or block, but not a file header",
+        Rule::Cut => "it is cut off: --allow-cut drops a last record or block",
         Rule::PacketLong => "more than 262,144 bytes of a packet were captured",
         Rule::BlockLength => "the length of a block is wrong",
         Rule::BlockTrailer => "the two lengths of a block differ",
@@ -58,6 +60,17 @@ fn meaning(rule: Rule) -> &'static str {
         Rule::Inexact => "a time isn't whole in the unit of the pcap file",
         Rule::TimeRange => "a time doesn't fit in a pcap file",
         Rule::NoInterface => "it has no interface, which a pcap file needs",
+    }
+}
+
+// What is wrong with a file that ends inside a record or a block, or inside its file header, which begins at offset 0.
+fn cut_meaning<R: Files<File = File>>(files: &R, name: &str, offset: u64) -> &'static str {
+    if offset > 0 {
+        return meaning(Rule::Cut);
+    }
+    match regular_at(files, path_of(name)) {
+        Some(regular) if regular.size == 0 => "it is empty",
+        _ => "it is cut off inside its file header, which --allow-cut doesn't drop",
     }
 }
 
@@ -90,16 +103,16 @@ fn rule_line<R: Files<File = File>>(
     files: &R,
     alloc: Global,
     job: &Job<'_>,
-    file: u32,
-    rule: Rule,
+    refusal: Refusal,
 ) -> Option<String>
     ensures { IfSome result (λ line. IsHintLine (string_bytes line)) }
 {
-    let name = name_of(job, file)?;
-    match rule {
+    let name = name_of(job, refusal.file)?;
+    match refusal.rule {
+        Rule::Cut => line(alloc, name, &cut_meaning(files, name, refusal.offset)),
         Rule::Magic => line(alloc, name, &magic_meaning(job.task, kind_at(files, name))),
         Rule::NoInterface if job.task != Task::Convert => told(alloc, NOTHING_TO_WRITE),
-        _ => line(alloc, name, &meaning(rule)),
+        rule => line(alloc, name, &meaning(rule)),
     }
 }
 
@@ -168,7 +181,7 @@ fn fault_line<R: Files<File = File>>(
     ensures line { IfSome result (λ line. IsHintLine (string_bytes line)) }
 {
     match fault {
-        Fault::Refused(refusal) => rule_line(files, alloc, job, refusal.file, refusal.rule),
+        Fault::Refused(refusal) => rule_line(files, alloc, job, refusal),
         Fault::Read { file, .. } => read_line(alloc, job, file, cause),
         Fault::Write => cause_line(alloc, output_name(job), cause),
         Fault::Memory => None,
@@ -181,7 +194,8 @@ fn names_line(alloc: Global, fault: LineFault) -> Option<String>
     ensures line { IfSome result (λ line. IsHintLine (string_bytes line)) }
 {
     let why = match fault {
-        LineFault::Files => "a command reads at most 32 captures",
+        LineFault::Files =>
+            "only capt check reads more than 32 captures: examples/rounds.sh merges them",
         LineFault::Input => "standard input, -, can be read once",
         LineFault::Output => "the output is one of the captures that are read",
         _ => return None,

@@ -2,7 +2,7 @@
 ghost use Rattle.std.specs.Prelude.{◌≡◌};
 ghost use Rattle.cap_tool.specs.Kinds.{kind_by};
 
-use crate::regular::regular_at;
+use crate::regular::{path_of, regular_at};
 use std::fs::File;
 use std::io::Read;
 use std::rt::Files;
@@ -12,6 +12,8 @@ use std::rt::Files;
 pub enum Kind {
     /// A pcap file.
     Pcap,
+    /// A file of the modified pcap format, whose records have more fields: no draft describes it.
+    ModifiedPcap,
     /// A file that gzip compressed.
     Gzip,
     /// A file that Zstandard compressed.
@@ -32,6 +34,7 @@ pub fn kind_of(magic: u32) -> Kind
 {
     match magic {
         0xd4c3_b2a1 | 0xa1b2_c3d4 | 0x4d3c_b2a1 | 0xa1b2_3c4d => Kind::Pcap,
+        0x34cd_b2a1 | 0xa1b2_cd34 => Kind::ModifiedPcap,
         0x28b5_2ffd => Kind::Zstd,
         0xfd37_7a58 => Kind::Xz,
         0x0422_4d18 => Kind::Lz4,
@@ -59,8 +62,7 @@ fn magic_at<R: Files<File = File>>(files: &R, path: &str) -> Option<u32> {
 /// The kind of the file of that name, of which `-` is standard input. What isn't a regular file, or can't be read, is
 /// `Kind::Other`.
 pub fn kind_at<R: Files<File = File>>(files: &R, name: &str) -> Kind {
-    let path = if name == "-" { "/dev/stdin" } else { name };
-    match magic_at(files, path) {
+    match magic_at(files, path_of(name)) {
         Some(magic) => kind_of(magic),
         None => Kind::Other,
     }

@@ -88,6 +88,11 @@ pub fn regular_file(file: &File) -> Option<Regular> {
     regular_of(&file.metadata().ok()?)
 }
 
+/// The path of the file that is read under that name: `-` is standard input.
+pub fn path_of(name: &str) -> &str {
+    if name == "-" { "/dev/stdin" } else { name }
+}
+
 /// What is known of the file of that name, if it is a regular one and that can be found out.
 pub fn regular_at<R: Files<File = File>>(files: &R, name: &str) -> Option<Regular> {
     regular_of(&fs::metadata(files, name).ok()?)
@@ -108,8 +113,7 @@ pub fn standard_id<R: Files<File = File>>(files: &R) -> Option<FileId> {
 /// Whether a regular file is one of those of these names, of which `-` is standard input.
 pub fn is_any_input<R: Files<File = File>>(files: &R, id: Option<FileId>, names: &[&str]) -> bool {
     for name in names.iter() {
-        let path = if *name == "-" { "/dev/stdin" } else { name };
-        if is_input(id, &[id_of(regular_at(files, path))]) {
+        if is_input(id, &[id_of(regular_at(files, path_of(name)))]) {
             return true;
         }
     }
