@@ -18,7 +18,7 @@ use Rattle.cap_source.specs.Feed.{Item}
 use Rattle.cap_source.specs.Items.{Progress, fresh, behind, items_at_block, items_of_stop, items_of_blocks, pcap_items}
 use Rattle.cap_source.specs.Items.{interface_of}
 use Rattle.cap_source.specs.Items.{is_pcapng, items_from, file_items}
-use Rattle.cap_source.specs.declared.contents.Content.{Content}
+use Rattle.cap_source.specs.declared.contents.BlockContent.{BlockContent}
 use Rattle.cap_laws.specs.again.Rounds.{in_file}
 
 -- ---- pieces, of either format
@@ -95,7 +95,7 @@ block_items : (section : Option Order) (tail : Tail) (n m offset : ℕ) (bytes :
 unfolding pieces.piece_items
 block_items section tail n m offset bytes = search (items_by-in, stop_where-in)
 
-content_items : (n m : ℕ) (progress : Progress) (block : Block) (body : List ℕ) (content : Result Content Rule)
+content_items : (n m : ℕ) (progress : Progress) (block : Block) (body : List ℕ) (content : Result BlockContent Rule)
     (xs ys : List Item)
     → xs ≡ map (in_file n) ys → items_at_block n progress block body content xs
     ≡ map (in_file n) (items_at_block m progress block body content ys)

@@ -33,8 +33,8 @@ use Rattle.cap_source.specs.Contents.{content_in}
 use Rattle.cap_source.specs.Fed.{skipped_items}
 use Rattle.cap_source.specs.Feed.{Item, refused}
 use Rattle.cap_source.specs.Items.{Progress, after, behind, items_at_block, items_of_blocks, items_of_stop}
-use Rattle.cap_source.specs.declared.contents.Content.{Content}
-use Rattle.cap_source.specs.declared.contents.Content.TheVariants as contents
+use Rattle.cap_source.specs.declared.contents.BlockContent.{BlockContent}
+use Rattle.cap_source.specs.declared.contents.BlockContent.TheVariants as contents
 
 module _ (file : ℕ) (progress : Progress) (section : Option Order) (tail : Tail) (offset : ℕ) where
   -- what ends them
@@ -50,7 +50,7 @@ module _ (file : ℕ) (progress : Progress) (section : Option Order) (tail : Tai
   unfolding block_fault first_fault fields_fault
   block-some b rule is other = grind (arith, nat_tests)
 
-  said : (w : List ℕ) → Result Content Rule
+  said : (w : List ℕ) → Result BlockContent Rule
   said w = content_in progress.interfaces (block_at section offset w).kind (block_at section offset w).order
       (body_at section w)
 

@@ -31,8 +31,8 @@ use Rattle.cap_source.specs.Items.{items_of_blocks, meta_of, pcap_ending, pcap_e
 use Rattle.cap_source.specs.declared.feeds.FileEnd.{FileEnd}
 use Rattle.cap_bytes.specs.declared.formats.Format.{Format}
 use Rattle.cap_bytes.specs.declared.formats.Format.TheVariants.{Pcap, Pcapng}
-use Rattle.cap_source.specs.declared.readers.Next.{Next}
-use Rattle.cap_source.specs.declared.readers.Next.TheVariants as nexts
+use Rattle.cap_source.specs.declared.readers.Peeked.{Peeked}
+use Rattle.cap_source.specs.declared.readers.Peeked.TheVariants as peeks
 use Rattle.cap_source.specs.declared.readers.Reader.{Reader}
 use Rattle.cap_source.specs.declared.readers.Reader.TheVariants as readers
 use Rattle.cap_source.specs.inner.FileState.{header_or}
@@ -92,7 +92,7 @@ module _ (header : PcapHeader) (file : ℕ) (r : Record) (old new : ReaderState 
   begins = rw known-new refl
 
   -- a record is given, whose packet comes next
-  pub record-passed : FrontsPass (pcap_fronts old) (Some (nexts.Packet (meta_of file (interface_of header) r) 0))
+  pub record-passed : FrontsPass (pcap_fronts old) (Some (peeks.Packet (meta_of file (interface_of header) r) 0))
       (pcap_fronts new)
   record-passed = record {
     size = ap (λ (n : ℕ). n + length new.coming) g.gives.next
@@ -266,14 +266,14 @@ opening-fails w v tail p file offset b same none =
     }
 
 pub record-fault : (header : PcapHeader) (old new : ReaderState PcapHeader) (fault : Fault)
-    (next : Option Next) → GivesNextRecord header old (Err fault) new
+    (next : Option Peeked) → GivesNextRecord header old (Err fault) new
     → FrontsAnswer {A = ⊤} (pcap_fronts old) (Err fault) next (pcap_fronts new)
 record-fault header old new (Refused refusal) next g = tt
 record-fault header old new (Read file offset) next g = λ none. record-fails old new file offset g none
 record-fault header old new Write next g = tt
 record-fault header old new Memory next g = tt
 
-pub header-fault : (old new : ReaderState PcapHeader) (fault : Fault) (next : Option Next)
+pub header-fault : (old new : ReaderState PcapHeader) (fault : Fault) (next : Option Peeked)
     → GivesHeader old (Err fault) new → FrontsAnswer {A = ⊤} (pcap_fronts old) (Err fault) next (pcap_fronts new)
 header-fault old new (Refused refusal) next g = tt
 header-fault old new (Read file offset) next g = λ none. record-fails old new file offset g.0 none

@@ -25,7 +25,7 @@ use Rattle.cap_source.specs.Items.{Progress, interface_of, meta_of, pcap_items, 
 use Rattle.cap_source.specs.inner.FileState.{pcap_state, noted_by, header_or, first_in_pcap, lent_length, part_of}
 use Rattle.cap_source.specs.inner.FileState.{FileLearns, FileWaits}
 use Rattle.cap_source.specs.inner.FileState.{ReadsTo, FileTakes, FileKeeps}
-use Rattle.cap_source.specs.declared.readers.Next.TheVariants as nexts
+use Rattle.cap_source.specs.declared.readers.Peeked.TheVariants as peeks
 
 pub known_header : (h : Option PcapHeader) (header : PcapHeader) (bytes : List ℕ) → h ≡ Some header
     → header_or h bytes ≡ header
@@ -74,7 +74,7 @@ pub record_learned : (header : PcapHeader) (file : ℕ) (r : Record) (old new : 
     → file ≡ old.file → old.known ≡ Some header
     → GivesRecord header old r new → ReaderKeeps old new
     → (IsTrue old.told → IsSomeAnd new.lent (λ bytes. records_to_come old ≡ given r bytes ∷ records_to_come new))
-    → FileLearns (pcap_state old progress) (nexts.Packet (meta_of file (interface_of header) r) 0)
+    → FileLearns (pcap_state old progress) (peeks.Packet (meta_of file (interface_of header) r) 0)
     (pcap_state new progress)
 record_learned header file r old new progress named known g k taken =
     let known_new : new.known ≡ Some header = g.gives.known_is ∙ known in
@@ -138,7 +138,7 @@ pub end_learned : (header : PcapHeader) (cut : Bool) (stop : Stop) (old new : Re
     → IsEnd stop → GivesStop true (record_fault header.order old.offset old.coming) stop old new
     → IsTrue cut ↔ (new.stop ≡ Some stops.Cut) → ReaderKeeps old new
     → (IsTrue old.told → records_to_come new ≡ records_to_come old)
-    → FileLearns (pcap_state old progress) (nexts.End (pcap_ending_with cut)) (pcap_state new progress)
+    → FileLearns (pcap_state old progress) (peeks.End (pcap_ending_with cut)) (pcap_state new progress)
 end_learned header cut stop old new progress known free ends g was k same =
     let at = from_none old.stop _ free g.first in
     let which = cut_is cut stop (rw (g.stop_is) at was) in
@@ -161,7 +161,7 @@ pub refusal_learned : (header : PcapHeader) (refusal : Refusal) (old new : Reade
     → GivesStop true (record_fault header.order old.offset old.coming) (stops.Refused refusal) old new
     → ReaderKeeps old new
     → (IsTrue old.told → records_to_come old ≡ stopped (stops.Refused refusal) ∷ [])
-    → FileLearns (pcap_state old progress) (nexts.Refused refusal (pcap_ending_with false)) (pcap_state new progress)
+    → FileLearns (pcap_state old progress) (peeks.Refused refusal (pcap_ending_with false)) (pcap_state new progress)
 refusal_learned header refusal old new progress known free g k same =
     let at = from_none old.stop _ free g.first in
     record {
@@ -190,7 +190,7 @@ refused_first h stop offset bytes rule unknown free is = rw (unknown, free, is) 
 pub header_refused : (refusal : Refusal) (old new : ReaderState PcapHeader) (p : Progress) → old.stop ≡ None
     → GivesHeader old (Err (Refused refusal)) new → ReaderKeeps old new
     → (IsTrue old.told → records_to_come old ≡ stopped (stops.Refused refusal) ∷ [])
-    → FileLearns (pcap_state old p) (nexts.Refused refusal (pcap_ending_with false)) (pcap_state new p)
+    → FileLearns (pcap_state old p) (peeks.Refused refusal (pcap_ending_with false)) (pcap_state new p)
 header_refused refusal old new p free g k same =
     let at = from_none old.stop _ free g.0.first in
     record {

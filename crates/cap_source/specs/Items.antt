@@ -20,9 +20,9 @@ use Rattle.cap_blocks.specs.Split.{is_section}
 use Rattle.cap_blocks.specs.declared.blocks.Block.{Block}
 use Rattle.cap_source.specs.Contents.{content_in}
 use Rattle.cap_source.specs.Feed.{Item, packet, refused}
-use Rattle.cap_source.specs.declared.contents.Content.{Content}
-use Rattle.cap_source.specs.declared.contents.Content.TheVariants as contents
-use Rattle.cap_source.specs.declared.contents.Packet.{Packet}
+use Rattle.cap_source.specs.declared.contents.BlockContent.{BlockContent}
+use Rattle.cap_source.specs.declared.contents.BlockContent.TheVariants as contents
+use Rattle.cap_source.specs.declared.contents.BlockPacket.{BlockPacket}
 use Rattle.cap_source.specs.declared.feeds.FileEnd.{FileEnd}
 use Rattle.cap_bytes.specs.declared.formats.Format.TheVariants.{Pcap, Pcapng}
 use Rattle.cap_source.specs.declared.packets.Meta.{Meta}
@@ -46,7 +46,7 @@ first_or None interface = interface
 first_or (Some first) interface = first
 
 -- what a block adds that says this: a section header begins a section without interfaces
-abbrev pub after : Progress → Content → Progress
+abbrev pub after : Progress → BlockContent → Progress
 after progress contents.Section =
     record {
       interfaces = [];
@@ -74,7 +74,7 @@ after progress contents.Other =
     }
 
 -- what is known of a packet in that block, and its captured bytes in the block's body
-abbrev pub meta_in : ℕ → Progress → Block → Packet → Meta
+abbrev pub meta_in : ℕ → Progress → Block → BlockPacket → Meta
 meta_in file progress block p =
     record {
       file = file;
@@ -88,11 +88,11 @@ meta_in file progress block p =
       original = p.original;
     }
 
-abbrev pub frame_in : Packet → List ℕ → List ℕ
+abbrev pub frame_in : BlockPacket → List ℕ → List ℕ
 frame_in p body = take p.captured (drop p.place body)
 
 -- the items of a file from a block on that says this, before those after the block
-abbrev pub items_at_block : ℕ → Progress → Block → List ℕ → Result Content Rule → List Item → List Item
+abbrev pub items_at_block : ℕ → Progress → Block → List ℕ → Result BlockContent Rule → List Item → List Item
 items_at_block file progress block body (Ok contents.Section) rest = rest
 items_at_block file progress block body (Ok (contents.Interface described)) rest = rest
 items_at_block file progress block body (Ok (contents.Packet p)) rest =
@@ -102,7 +102,7 @@ items_at_block file progress block body (Err rule) rest =
     refused (record { file = file; offset = block.offset; rule = rule }) ∷ []
 
 -- how far a file was read after that block
-abbrev pub behind : Progress → Result Content Rule → Progress
+abbrev pub behind : Progress → Result BlockContent Rule → Progress
 behind progress (Ok content) = after progress content
 behind progress (Err rule) = progress
 
@@ -136,7 +136,7 @@ is_cut stops.Cut = true
 is_cut (stops.Refused refusal) = false
 
 -- one of two, by whether a block breaks a rule
-abbrev pub unless_faulty : {A : Type 0} → Result Content Rule → A → A → A
+abbrev pub unless_faulty : {A : Type 0} → Result BlockContent Rule → A → A → A
 unless_faulty (Ok content) here later = later
 unless_faulty (Err rule) here later = here
 
@@ -149,7 +149,7 @@ ending_in progress (pieces.given block body ∷ rest) =
     unless_faulty content (ending_with progress false) (ending_in (behind progress content) rest)
 
 -- one of two, by whether a block gives an item
-abbrev pub unless_item : {A : Type 0} → Result Content Rule → A → A → A
+abbrev pub unless_item : {A : Type 0} → Result BlockContent Rule → A → A → A
 unless_item (Ok contents.Section) here later = later
 unless_item (Ok (contents.Interface described)) here later = later
 unless_item (Ok (contents.Packet p)) here later = here

@@ -11,19 +11,19 @@ ghost use Rattle.cap_source.specs.inner.FileState.{FileAnswers, FileKeeps, FileT
 ghost use Rattle.cap_source.specs.inner.FileState.{ShowsNext, TakesShown};
 ghost use Rattle.cap_source.specs.inner.Fronts.{FrontsAnswer, FrontsFind, FrontsPass, unread_fronts};
 ghost use Rattle.cap_source.specs.inner.Laws.{captures_lawful};
-ghost use Rattle.cap_source.specs.inner.Reached.{progress_of};
+ghost use Rattle.cap_source.specs.inner.SectionState.{progress_of};
 ghost use Rattle.cap_source.specs.inner.Readers.{reader_file_state, is_there, reader_room};
 
 use crate::feeds::{Ending, FeedHeld, FileEnd, Head, PacketFeed};
-use crate::known::Known;
 use crate::opening::open;
 use crate::packets::Meta;
 use crate::pcap::{ending_of_pcap, next_of_pcap};
 use crate::pcapng::{ending_of_blocks, next_of_blocks};
-use crate::reached::{Reached, nothing_reached};
+use crate::peek_slots::PeekSlot;
 use crate::readers::{
-    Next, Reader, ending_of, failed_of, held_of, last_of, noted_of, number_of, part_of,
+    Peeked, Reader, ending_of, failed_of, held_of, last_of, noted_of, number_of, part_of,
 };
+use crate::section_states::{SectionState, nothing_reached};
 use crate::{pcap, pcapng};
 use cap_bytes::{Fault, Source, Tail, Window};
 use cap_time::Interface;
@@ -34,9 +34,9 @@ use std::alloc::Global;
 #[derive(Drop)]
 pub struct Capture<R: Source> {
     reader: Reader<R>,
-    reached: Reached,
+    reached: SectionState,
     // what comes next, once it was asked for
-    next: Known,
+    next: PeekSlot,
     ghost there: { IsTrue (is_there reader) },
     ghost room: { IsTrue (reader_room reader reached) },
     ghost sound: { IsSoundFile (reader_file_state reader (progress_of reached)) next } by { Prim.hlevel props },
@@ -69,7 +69,7 @@ impl<R: Source> Capture<R> {
         Capture {
             reader: Reader::Unread(Window::new(alloc, reader, file), tail),
             reached: nothing_reached(alloc),
-            next: Known::new(),
+            next: PeekSlot::new(),
         }
     }
 
@@ -210,9 +210,9 @@ impl<R: Source> PacketFeed for Capture<R> {
     {
         self.learn()?;
         match self.next.get() {
-            Some(Next::Packet(meta, _)) => Ok(Head::Packet(meta)),
-            Some(Next::Refused(refusal, _)) => Ok(Head::Refused(refusal)),
-            Some(Next::End(_)) => Ok(Head::End),
+            Some(Peeked::Packet(meta, _)) => Ok(Head::Packet(meta)),
+            Some(Peeked::Refused(refusal, _)) => Ok(Head::Refused(refusal)),
+            Some(Peeked::End(_)) => Ok(Head::End),
             None => unreachable!(),
         }
     }
@@ -230,9 +230,9 @@ impl<R: Source> PacketFeed for Capture<R> {
     {
         self.learn()?;
         match self.next.get() {
-            Some(Next::Packet(_, _)) => Ok(true),
-            Some(Next::Refused(refusal, _)) => Err(Fault::Refused(refusal)),
-            Some(Next::End(_)) => Ok(false),
+            Some(Peeked::Packet(_, _)) => Ok(true),
+            Some(Peeked::Refused(refusal, _)) => Err(Fault::Refused(refusal)),
+            Some(Peeked::End(_)) => Ok(false),
             None => unreachable!(),
         }
     }

@@ -7,7 +7,7 @@ ghost use Rattle.cap_source.specs.inner.FileState.{FileKeeps};
 ghost use Rattle.cap_source.specs.inner.Fronts.{FrontsAnswer, reader_fronts};
 ghost use Rattle.cap_source.specs.inner.Readers.{reader_file_state, is_there, IsReadyReader, is_stopped, OpensReader};
 ghost use Rattle.cap_source.specs.inner.Readers.{LooksAtWindow, reader_by, reader_room};
-ghost use Rattle.cap_source.specs.declared.reached.Reached.{Reached};
+ghost use Rattle.cap_source.specs.declared.section_states.SectionState.{SectionState};
 
 use crate::readers::Reader;
 use cap_blocks::{BlockReader, is_section};
@@ -61,7 +61,7 @@ pub fn open<R: Source>(reader: &mut Reader<R>) -> Result<(), Fault>
         → FileKeeps (reader_file_state reader.old progress) (reader_file_state reader.new progress) }
     ensures fronts { (progress : Progress) → IsTrue (reader_fronts reader.old progress).told
         → FrontsAnswer (reader_fronts reader.old progress) result None (reader_fronts reader.new progress) }
-    ensures room { (reached : Reached) → IsTrue (reader_room reader.old reached)
+    ensures room { (reached : SectionState) → IsTrue (reader_room reader.old reached)
         → IsTrue (reader_room reader.new reached) }
 {
     match reader {

@@ -6,8 +6,8 @@ ghost use Rattle.cap_source.specs.inner.FileState.{pcap_state};
 ghost use Rattle.cap_source.specs.inner.Fronts.{FrontsAnswer, FrontsPass, pcap_fronts};
 
 use crate::feeds::{Ending, FileEnd};
-use crate::known::Known;
 use crate::packets::Meta;
+use crate::peek_slots::PeekSlot;
 use cap_bytes::{Fault, Format, Source};
 use cap_pcap::{PcapHeader, PcapReader, Record};
 use cap_time::{Interface, Resolution, Unit};
@@ -80,7 +80,7 @@ pub fn noted_of_pcap<R: Source>(reader: &PcapReader<R>) -> Option<Interface>
 /// Puts the packet that comes next of a pcap file into `known`, if the window shows its record already, as it does most
 /// of them. Returns whether it did: if not, nothing has changed.
 #[inline(always)]
-pub fn take_shown<R: Source>(reader: &mut PcapReader<R>, known: &mut Known) -> bool
+pub fn take_shown<R: Source>(reader: &mut PcapReader<R>, known: &mut PeekSlot) -> bool
     requires unknown { known.old ≡ None }
     ensures answer { (progress : Progress) → TakesShown (pcap_state reader.old progress) result known.new
         (pcap_state reader.new progress) }
@@ -110,7 +110,7 @@ pub fn take_shown<R: Source>(reader: &mut PcapReader<R>, known: &mut Known) -> b
 fn next_record_of<R: Source>(
     reader: &mut PcapReader<R>,
     header: PcapHeader,
-    known: &mut Known,
+    known: &mut PeekSlot,
 ) -> Result<(), Fault>
     requires unknown { known.old ≡ None }
     requires header { reader.old.known ≡ Some header }
@@ -143,7 +143,10 @@ fn next_record_of<R: Source>(
 }
 
 /// Puts into `known` what comes next of a pcap file.
-pub fn next_of_pcap<R: Source>(reader: &mut PcapReader<R>, known: &mut Known) -> Result<(), Fault>
+pub fn next_of_pcap<R: Source>(
+    reader: &mut PcapReader<R>,
+    known: &mut PeekSlot,
+) -> Result<(), Fault>
     requires unknown { known.old ≡ None }
     requires free { reader.old.stop ≡ None }
     ensures answer { (progress : Progress) → FileAnswers (pcap_state reader.old progress) result known.new

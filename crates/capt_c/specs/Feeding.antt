@@ -21,7 +21,7 @@ OpensFed tail status (Some (helds.Text text)) = ⊥
 OpensFed tail status (Some (helds.Table t)) = ⊥
 OpensFed tail status (Some (helds.Capture c)) = ⊥
 OpensFed tail status (Some (helds.Fed f)) =
-    (status ≡ 0) × ((bytes : List ℕ) → fed_items f bytes ≡ file_items tail 1 bytes) × (f.course.ended ≡ false)
+    (status ≡ 0) × ((bytes : List ℕ) → fed_items f bytes ≡ file_items tail 1 bytes) × (f.state.ended ≡ false)
     × (f.frame ≡ [])
 
 -- The next bytes were fed, or no memory was found for them; either lets go the packet that came last. None are taken
@@ -37,7 +37,7 @@ FeedsHeld None bytes status new = (status ≡ 6) × (new ≡ None)
 FeedsHeld (Some (helds.Text text)) bytes status new = (status ≡ 6) × (new ≡ Some (helds.Text text))
 FeedsHeld (Some (helds.Table t)) bytes status new = (status ≡ 6) × (new ≡ Some (helds.Table t))
 FeedsHeld (Some (helds.Capture c)) bytes status new = (status ≡ 6) × (new ≡ Some (helds.Capture c))
-FeedsHeld (Some (helds.Fed f)) bytes status new = FeedsIf f.course.ended f bytes status new
+FeedsHeld (Some (helds.Fed f)) bytes status new = FeedsIf f.state.ended f bytes status new
 
 -- It is known that no more bytes come.
 abbrev pub EndsHeld : Option Held → ℕ → Option Held → Type 0
@@ -46,7 +46,7 @@ EndsHeld (Some (helds.Text text)) status new = (status ≡ 6) × (new ≡ Some (
 EndsHeld (Some (helds.Table t)) status new = (status ≡ 6) × (new ≡ Some (helds.Table t))
 EndsHeld (Some (helds.Capture c)) status new = (status ≡ 6) × (new ≡ Some (helds.Capture c))
 EndsHeld (Some (helds.Fed f)) status new =
-    (status ≡ 0) × (new ≡ Some (helds.Fed (record f { course = record f.course { ended = true } })))
+    (status ≡ 0) × (new ≡ Some (helds.Fed (record f { state = record f.state { ended = true } })))
 
 -- the status of what comes next
 abbrev pub status_of_fed : Fed → ℕ

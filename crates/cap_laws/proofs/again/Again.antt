@@ -23,8 +23,8 @@ use Rattle.cap_source.specs.Feed.{packet}
 use Rattle.cap_source.specs.Items.{Progress, after, behind, items_at_block, items_of_blocks, meta_in, first_or}
 use Rattle.cap_source.specs.Items.{unless_item}
 use Rattle.cap_source.specs.Items.{first_in}
-use Rattle.cap_source.specs.declared.contents.Content.{Content}
-use Rattle.cap_source.specs.declared.contents.Content.TheVariants as contents
+use Rattle.cap_source.specs.declared.contents.BlockContent.{BlockContent}
+use Rattle.cap_source.specs.declared.contents.BlockContent.TheVariants as contents
 use Rattle.cap_time.specs.declared.resolutions.Interface.{Interface}
 use Rattle.cap_write.specs.Numbering.{Numbered}
 use Rattle.cap_write.specs.Texts.{packet_part, packets_bytes}
@@ -35,7 +35,7 @@ use Rattle.cap_laws.specs.again.Laws.{AreNumbered}
 -- the items of a file at a block that says this
 pub items_in-given : (file : ℕ) (progress : Progress) (block : Block) (body : List ℕ)
     (rest : List (pieces.PieceItem Block))
-    (content : Result Content Rule)
+    (content : Result BlockContent Rule)
     → content_in progress.interfaces block.kind block.order body ≡ content
     → items_of_blocks file progress (pieces.given block body ∷ rest)
     ≡ items_at_block file progress block body content (items_of_blocks file (behind progress content) rest)
@@ -43,7 +43,7 @@ unfolding items_of_blocks
 items_in-given file progress block body rest content is = rw is refl
 
 pub first_in-given : (progress : Progress) (block : Block) (body : List ℕ) (rest : List (pieces.PieceItem Block))
-    (content : Result Content Rule)
+    (content : Result BlockContent Rule)
     → content_in progress.interfaces block.kind block.order body ≡ content
     → first_in progress (pieces.given block body ∷ rest)
     ≡ unless_item content progress.first (first_in (behind progress content) rest)

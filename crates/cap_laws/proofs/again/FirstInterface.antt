@@ -22,8 +22,8 @@ use Rattle.cap_source.specs.Items.{Progress, fresh, behind, first_or, first_in, 
 use Rattle.cap_source.specs.Items.{items_at_block, items_of_blocks, items_from, is_pcapng, pcap_items, interface_of}
 use Rattle.cap_source.specs.Items.{file_items}
 use Rattle.cap_source.specs.Items.{file_first}
-use Rattle.cap_source.specs.declared.contents.Content.{Content}
-use Rattle.cap_source.specs.declared.contents.Packet.{Packet}
+use Rattle.cap_source.specs.declared.contents.BlockContent.{BlockContent}
+use Rattle.cap_source.specs.declared.contents.BlockPacket.{BlockPacket}
 use Rattle.cap_time.specs.declared.resolutions.Interface.{Interface}
 use Rattle.cap_write.specs.Numbering.{numbered}
 use Rattle.cap_laws.proofs.again.Instances.{HasNumber, IsAny, content-of}
@@ -50,7 +50,7 @@ interface_comes : (interfaces : List Interface) (first : Option Interface) (j : 
 interface_comes [] first j is = ap (λ f. Some (first_or f j)) is
 interface_comes (k ∷ interfaces) first j is = ap (λ f. Some (first_or f j)) is
 
-knows-behind : (progress : Progress) (content : Result Content Rule) → KnowsFirst progress
+knows-behind : (progress : Progress) (content : Result BlockContent Rule) → KnowsFirst progress
     → KnowsFirst (behind progress content)
 knows-behind progress content knows = grind (arith, common_steps, nat_tests, section_ends, interface_comes)
 
@@ -58,13 +58,13 @@ same_interface : (i j : Interface) → Some i ≡ Some j → i ≡ j
 same_interface i j e = cc
 
 -- the packet of a block, if the first interface was read before
-own_interface : (progress : Progress) (p : Packet) (i : Interface) → HasNumber progress.interfaces p
+own_interface : (progress : Progress) (p : BlockPacket) (i : Interface) → HasNumber progress.interfaces p
     → KnowsFirst progress → progress.first ≡ Some i
     → progress.base + p.number ≡ 0 → p.interface ≡ i
 own_interface progress p i of knows is zero = grind arith
 
 block-known : (file : ℕ) (i : Interface) (progress : Progress) (block : Block) (body : List ℕ)
-    (content : Result Content Rule) (items : List Item)
+    (content : Result BlockContent Rule) (items : List Item)
     → IfOk content (OfContent IsAny (HasNumber progress.interfaces)) → KnowsFirst progress → progress.first ≡ Some i
     → (KnowsFirst (behind progress content) → (behind progress content).first ≡ Some i
     → AllByRecursion (IsFirst i) items)
@@ -85,7 +85,7 @@ blocks-known file i progress (pieces.given block body ∷ rest) knows is =
 blocks-known file i progress items knows is = grind arith
 
 block-first : (file : ℕ) (i : Interface) (progress : Progress) (block : Block) (body : List ℕ)
-    (content : Result Content Rule) (first : Option Interface) (items : List Item)
+    (content : Result BlockContent Rule) (first : Option Interface) (items : List Item)
     → IfOk content (OfContent IsAny (HasNumber progress.interfaces)) → KnowsFirst progress
     → unless_item content progress.first first ≡ Some i
     → (KnowsFirst (behind progress content) → first ≡ Some i → AllByRecursion (IsFirst i) items)
@@ -119,7 +119,7 @@ records-first file i items = grind arith
 
 -- ---- its fields
 
-block-first_fits : (progress : Progress) (content : Result Content Rule) (first : Option Interface)
+block-first_fits : (progress : Progress) (content : Result BlockContent Rule) (first : Option Interface)
     → IfOk content (OfContent FitsInterface FitsPacket)
     → AllByRecursion FitsInterface progress.interfaces → IfSome progress.first FitsInterface
     → (AllByRecursion FitsInterface (behind progress content).interfaces
@@ -187,14 +187,14 @@ none-before progress (pieces.given block body ∷ rest) none =
     let content = content_in progress.interfaces block.kind block.order body in
     by content none (λ later. none-before (behind progress content) rest later)
   where
-    by : (content : Result Content Rule) → unless_item content progress.first
+    by : (content : Result BlockContent Rule) → unless_item content progress.first
         (first_in (behind progress content) rest) ≡ None
         → (first_in (behind progress content) rest ≡ None → (behind progress content).first ≡ None)
         → progress.first ≡ None
     by content none before = grind arith
 none-before progress items none = cc
 
-block-unwritten : (file : ℕ) (progress : Progress) (block : Block) (body : List ℕ) (content : Result Content Rule)
+block-unwritten : (file : ℕ) (progress : Progress) (block : Block) (body : List ℕ) (content : Result BlockContent Rule)
     (first : Option Interface) (items : List Item)
     → IfOk content (OfContent IsAny (HasNumber progress.interfaces)) → progress.interfaces ≡ []
     → unless_item content progress.first first ≡ None

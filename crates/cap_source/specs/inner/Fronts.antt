@@ -18,7 +18,7 @@ use Rattle.cap_source.specs.declared.feeds.FileEnd.{FileEnd}
 use Rattle.cap_source.specs.declared.feeds.Head.{Head}
 use Rattle.cap_source.specs.declared.feeds.Head.TheVariants as heads
 use Rattle.cap_source.specs.declared.packets.Meta.{Meta}
-use Rattle.cap_source.specs.declared.readers.Next.{Next}
+use Rattle.cap_source.specs.declared.readers.Peeked.{Peeked}
 use Rattle.cap_source.specs.declared.readers.Reader.{Reader}
 use Rattle.cap_source.specs.declared.readers.Reader.TheVariants as readers
 use Rattle.cap_source.specs.inner.FileState.{IfTaken, header_or, items_from_next, next_frame}
@@ -124,7 +124,7 @@ abbrev pub MayEnd : Fronts → ℕ → Type 0
 MayEnd fronts end = (fronts.offset ≤ end) × (IsTrue fronts.begun ⊎ (fronts.offset + 4 ≤ end))
 
 -- Its header, records or blocks were read, and so that comes next, if anything does. It has the same bytes.
-pub record FrontsPass (old : Fronts) (next : Option Next) (new : Fronts) : Type 0 where
+pub record FrontsPass (old : Fronts) (next : Option Peeked) (new : Fronts) : Type 0 where
   pub size : new.size ≡ old.size
   pub broken : new.broken ≡ old.broken
   pub begun : IsTrue (is_some next) → IsTrue new.begun
@@ -145,7 +145,7 @@ pub record FrontsFail (old : Fronts) (offset : ℕ) (new : Fronts) : Type 0 wher
   pub whole : IsTrue new.begun → (old.ending offset).ending.was_cut ≡ false
 
 -- what a look at what comes next makes of them
-abbrev pub FrontsAnswer : {A : Type 0} → Fronts → Result A Fault → Option Next → Fronts → Type 0
+abbrev pub FrontsAnswer : {A : Type 0} → Fronts → Result A Fault → Option Peeked → Fronts → Type 0
 FrontsAnswer old (Ok x) next new = IfTaken next (FrontsPass old next new)
 FrontsAnswer old (Err (Refused refusal)) next new = ⊤
 FrontsAnswer old (Err (Read file offset)) next new = old.broken ≡ None → FrontsFail old offset new

@@ -10,8 +10,8 @@ use Rattle.cap_bytes.specs.declared.formats.Format.{Format}
 use Rattle.cap_bytes.specs.declared.formats.Format.TheVariants.{Pcap, Pcapng}
 use Rattle.cap_source.specs.Items.{Progress, ending_with}
 use Rattle.cap_source.specs.inner.FileState.{FileState, FileFails, FileWaits, unread_state, pcap_state, pcapng_state}
-use Rattle.cap_source.specs.inner.Reached.{has_room}
-use Rattle.cap_source.specs.declared.reached.Reached.{Reached}
+use Rattle.cap_source.specs.inner.SectionState.{has_room}
+use Rattle.cap_source.specs.declared.section_states.SectionState.{SectionState}
 use Rattle.cap_source.specs.declared.readers.Reader.{Reader}
 use Rattle.cap_source.specs.declared.readers.Reader.TheVariants as readers
 
@@ -80,7 +80,7 @@ is_stopped (readers.Pcapng reader) = is_some reader.stop
 is_stopped readers.Moved = false
 
 -- whether there is room for an interface in a pcapng file of which a read has failed
-abbrev pub reader_room : {R : Type 0} → Reader R → Reached → Bool
+abbrev pub reader_room : {R : Type 0} → Reader R → SectionState → Bool
 reader_room (readers.Unread window tail) reached = true
 reader_room (readers.Pcap reader) reached = true
 reader_room (readers.Pcapng reader) reached = has_room reader.broken reached

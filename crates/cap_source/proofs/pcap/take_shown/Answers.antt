@@ -1,5 +1,5 @@
 use Rattle.std.proofs.Common.{◌∙◌, sym}
-use Rattle.cap_source.specs.declared.readers.Next.TheVariants as nexts
+use Rattle.cap_source.specs.declared.readers.Peeked.TheVariants as peeks
 use Rattle.cap_source.proofs.PcapFronts.{record-passed}
 use Rattle.cap_source.proofs.Pcaps.{record_learned, record_taken}
 use Rattle.cap_source.proofs.pcap.take_shown.Goals as goal
@@ -7,7 +7,7 @@ use Rattle.cap_source.proofs.pcap.take_shown.Goals as goal
 pub returns-in-Some-take_shown-clause-answer : goal.returns-in-Some-take_shown-clause-answer
 returns-in-Some-take_shown-clause-answer g c = λ progress.
     let e = c.in-Some-take_shown.ensures in (
-      nexts.Packet c.meta_of_record-meta.result 0,
+      peeks.Packet c.meta_of_record-meta.result 0,
       c.set_packet.ensures,
       rw c.meta_of_record-meta.ensures
           (record_learned c.in-Some.header c.file-file.result c.in-Some-take_shown.record c.args.reader.now

@@ -1,8 +1,8 @@
 use Rattle.std.proofs.Common.{◌∙◌, length}
 use Rattle.cap_bytes.proofs.Parsing.{from_some}
 use Rattle.cap_source.specs.Contents.{of_body}
-use Rattle.cap_source.specs.inner.Reached.{progress_of}
-use Rattle.cap_source.specs.declared.contents.Content.TheVariants as contents
+use Rattle.cap_source.specs.inner.SectionState.{progress_of}
+use Rattle.cap_source.specs.declared.contents.BlockContent.TheVariants as contents
 use Rattle.cap_source.proofs.Blocks.{behind-packet, block_taken, block_stepped, block_kept, content_lent, enhanced_size}
 use Rattle.cap_source.proofs.Blocks.{packet_shown}
 use Rattle.cap_source.proofs.Fronts.{block-passed}

@@ -1,7 +1,7 @@
 use Rattle.std.proofs.Common.{ap, refl}
 use Rattle.cap_source.proofs.Going.{IsSound-taken}
 use Rattle.cap_source.specs.inner.FileState.{pcap_state}
-use Rattle.cap_source.specs.inner.Reached.{progress_of}
+use Rattle.cap_source.specs.inner.SectionState.{progress_of}
 use Rattle.cap_source.proofs.captures.Capture.take_shown.Goals as goal
 
 pub returns-in-Pcap-clause-answer : goal.returns-in-Pcap-clause-answer

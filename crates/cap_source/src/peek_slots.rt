@@ -3,47 +3,47 @@ ghost use Rattle.std.specs.Prelude.{◌≡◌, Some, None, is_some};
 ghost use Rattle.cap_source.specs.Feed.{IsPacket};
 ghost use Rattle.cap_source.specs.declared.feeds.Head.TheVariants as heads;
 ghost use Rattle.cap_source.specs.inner.FileState.{next_head, is_packet, start_of};
-ghost use Rattle.cap_source.specs.declared.readers.Next.TheVariants.{Packet, Refused, End};
+ghost use Rattle.cap_source.specs.declared.readers.Peeked.TheVariants.{Packet, Refused, End};
 
 use crate::feeds::FileEnd;
 use crate::packets::Meta;
-use crate::readers::Next;
+use crate::readers::Peeked;
 use cap_bytes::{Format, Refusal};
 use cap_time::{Interface, Resolution};
 use std::marker::Model;
 
-/// What comes next of a file, if that is known, as it is kept: an `Option<Next>` in which a packet has fields of its
-/// own. So it is forgotten by one mark, where an `Option<Next>` would be set to zero as a whole.
+/// What comes next of a file, if that is known, as it is kept: an `Option<Peeked>` in which a packet has fields of its
+/// own. So it is forgotten by one mark, where an `Option<Peeked>` would be set to zero as a whole.
 #[derive(Drop)]
-pub struct Known {
+pub struct PeekSlot {
     // whether a packet comes next, if anything is known
     is_packet: Option<bool>,
     place: u32,
     meta: Meta,
     // else the refusal or the end that comes next
-    last: Option<Next>,
+    last: Option<Peeked>,
 }
 
-impl Model for Known {
+impl Model for PeekSlot {
     ghost use Rattle.std.specs.Prelude.{Option};
-    ghost use Rattle.cap_source.specs.declared.readers.Next.{Next};
+    ghost use Rattle.cap_source.specs.declared.readers.Peeked.{Peeked};
 
-    ghost Value = { Option Next };
+    ghost Value = { Option Peeked };
 
-    ghost use Rattle.cap_source.specs.inner.KnownView.{known_by, IsKeptNext};
+    ghost use Rattle.cap_source.specs.inner.PeekSlotView.{peeked_by, IsKeptPeek};
 
-    ghost view = { λ k. known_by k.is_packet k.place k.meta k.last };
+    ghost view = { λ k. peeked_by k.is_packet k.place k.meta k.last };
 
-    ghost invariant = { λ k. IsKeptNext k.is_packet k.last };
+    ghost invariant = { λ k. IsKeptPeek k.is_packet k.last };
 }
 
-impl Known {
+impl PeekSlot {
     /// Nothing is known.
-    pub fn new() -> Known
+    pub fn new() -> PeekSlot
         ensures { result ≡ None }
     {
         // the packet isn't read before it was put
-        Known {
+        PeekSlot {
             is_packet: None,
             place: 0,
             meta: Meta {
@@ -101,12 +101,12 @@ impl Known {
     }
 
     /// What comes next.
-    pub fn get(&self) -> Option<Next>
+    pub fn get(&self) -> Option<Peeked>
         ensures { result ≡ self.now }
     {
         match self.is_packet {
             None => None,
-            Some(true) => Some(Next::Packet(self.meta, self.place)),
+            Some(true) => Some(Peeked::Packet(self.meta, self.place)),
             Some(false) => self.last,
         }
     }
@@ -126,7 +126,7 @@ impl Known {
         ensures { self.new ≡ Some (Refused refusal ending) }
     {
         self.is_packet = Some(false);
-        self.last = Some(Next::Refused(refusal, ending));
+        self.last = Some(Peeked::Refused(refusal, ending));
     }
 
     /// The end comes next.
@@ -134,7 +134,7 @@ impl Known {
         ensures { self.new ≡ Some (End ending) }
     {
         self.is_packet = Some(false);
-        self.last = Some(Next::End(ending));
+        self.last = Some(Peeked::End(ending));
     }
 
     /// What came next is passed: nothing is known.

@@ -1,15 +1,15 @@
 //! How far a pcapng file was read, and what a block adds to that.
 ghost use Rattle.std.specs.Prelude.{◌≡◌, ◌<◌, ◌+◌, ◌^◌, vec_len, vec_capacity};
 ghost use Rattle.cap_source.specs.Items.{after, fresh};
-ghost use Rattle.cap_source.specs.inner.Reached.{progress_of, counted_blocks};
+ghost use Rattle.cap_source.specs.inner.SectionState.{progress_of, counted_blocks};
 
-use crate::contents::{Content, Described};
+use crate::contents::{BlockContent, InterfaceDescription};
 use cap_time::Interface;
 use std::alloc::Global;
 
 /// How far a pcapng file was read.
 #[derive(Drop)]
-pub struct Reached {
+pub struct SectionState {
     /// The interfaces of the section that is being read, in order.
     pub interfaces: Vec<Interface>,
     /// How many interface blocks of the file stand before the section.
@@ -23,10 +23,10 @@ pub struct Reached {
 }
 
 /// Nothing was read yet.
-pub fn nothing_reached(alloc: Global) -> Reached
+pub fn nothing_reached(alloc: Global) -> SectionState
     ensures { progress_of result ≡ fresh }
 {
-    Reached {
+    SectionState {
         interfaces: Vec::new(alloc),
         base: 0,
         skipped: 0,
@@ -36,19 +36,19 @@ pub fn nothing_reached(alloc: Global) -> Reached
 }
 
 // After a section header.
-fn begin_section(reached: &mut Reached)
+fn begin_section(reached: &mut SectionState)
     requires { counted_blocks (progress_of reached.old) < 2 ^ 40 }
-    ensures { progress_of reached.new ≡ after (progress_of reached.old) Content.Section }
+    ensures { progress_of reached.new ≡ after (progress_of reached.old) BlockContent.Section }
 {
     reached.base += reached.interfaces.len() as u64;
     reached.interfaces.clear();
 }
 
 // After an interface block.
-fn add_interface(reached: &mut Reached, described: Described)
+fn add_interface(reached: &mut SectionState, described: InterfaceDescription)
     requires room { vec_len reached.old.interfaces < vec_capacity reached.old.interfaces }
     requires limit { counted_blocks (progress_of reached.old) < 2 ^ 40 }
-    ensures { progress_of reached.new ≡ after (progress_of reached.old) (Content.Interface described) }
+    ensures { progress_of reached.new ≡ after (progress_of reached.old) (BlockContent.Interface described) }
 {
     reached.first = Some(reached.first.unwrap_or(described.interface));
     if described.is_named {
@@ -58,15 +58,15 @@ fn add_interface(reached: &mut Reached, described: Described)
 }
 
 /// Goes on after a block that says this. There is room for an interface.
-pub fn go_on(reached: &mut Reached, content: Content)
+pub fn go_on(reached: &mut SectionState, content: BlockContent)
     requires room { vec_len reached.old.interfaces < vec_capacity reached.old.interfaces }
     requires limit { counted_blocks (progress_of reached.old) < 2 ^ 40 }
     ensures { progress_of reached.new ≡ after (progress_of reached.old) content }
 {
     match content {
-        Content::Section => begin_section(reached),
-        Content::Interface(described) => add_interface(reached, described),
-        Content::Packet(_) => {}
-        Content::Other => reached.skipped += 1,
+        BlockContent::Section => begin_section(reached),
+        BlockContent::Interface(described) => add_interface(reached, described),
+        BlockContent::Packet(_) => {}
+        BlockContent::Other => reached.skipped += 1,
     }
 }
