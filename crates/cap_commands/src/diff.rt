@@ -90,7 +90,7 @@ fn look<F: PacketFeed>(feed: &mut F) -> Result<bool, Fault>
         → ShowsItem (F.feed feed.old) (given result (F.feed feed.new).known) (F.feed feed.new) }
     ensures found { IfOk result (λ found. found ≡ is_some (known_packet (F.feed feed.new).known)) }
 {
-    feed.has_packet()
+    feed.peek()
 }
 
 // The packet that comes next, if one does.

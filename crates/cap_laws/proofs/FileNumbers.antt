@@ -54,7 +54,7 @@ item_or-in : {P : Type 0} (n : ℕ) (o p : Option Stop) (x : P) (f : List ℕ) (
 unfolding item_in
 item_or-in n o p x f xs ys e h = grind arith
 
-items_by-in : {K P : Type 0} (format : pieces.Format K P)
+items_by-in : {K P : Type 0} (format : pieces.PieceFormat K P)
     → ((known : K) (tail : Tail) (n m offset : ℕ) (bytes : List ℕ)
     → format.stop known tail n offset bytes ≡ option_map (stop_in n) (format.stop known tail m offset bytes))
     → (fuel : ℕ) (known : K) (tail : Tail) (n m offset : ℕ) (bytes : List ℕ)

@@ -29,7 +29,7 @@ pub first_kept : (old new : FileState) (known after : Option Peeked) (n : Peeked
     → SameItems (file_feed old known) (file_feed new after) × (first_by after new ≡ first_by known old)
 first_kept old new known after n is h t = grind arith
 
--- each clause of `head` and of `has_packet`, by what `learn` answered: what comes next is known
+-- each clause of `head` and of `peek`, by what `learn` answered: what comes next is known
 pub head_told : (old new : FileState) (known after : Option Peeked) (n : Peeked) (head : Head)
     → IsTrue (is_unbroken known old.broken)
     → LearnsNext {A = ⊤} old known (Ok tt) new after → Some n ≡ after → head_of n ≡ head

@@ -130,7 +130,7 @@ impl<R: Source> Capture<R> {
         if self.next.is_some() {
             return Ok(());
         }
-        if self.take_shown() {
+        if self.try_next_buffered() {
             return Ok(());
         }
         self.find()
@@ -139,20 +139,20 @@ impl<R: Source> Capture<R> {
     // Learns which packet comes next, unless that is known, if the window shows it already. Returns whether a packet
     // is known then.
     #[inline(always)]
-    fn shows(&mut self) -> bool
+    fn try_peek(&mut self) -> bool
         ensures answer { ShowsNext (capture_file self.old) self.old.next result (capture_file self.new) self.new.next }
         ensures keeps { FileKeeps (capture_file self.old) (capture_file self.new) }
     {
         if self.next.is_some() {
             return self.next.is_packet();
         }
-        self.take_shown() && self.next.is_packet()
+        self.try_next_buffered() && self.next.is_packet()
     }
 
     // Learns which packet comes next, if the window shows it already. Returns whether it did: if not, nothing has
     // changed.
     #[inline(always)]
-    fn take_shown(&mut self) -> bool
+    fn try_next_buffered(&mut self) -> bool
         requires { self.old.next ≡ None }
         ensures answer { TakesShown (capture_file self.old) result self.new.next (capture_file self.new) }
         ensures reaches { IsTrue result → FileTakes (capture_file self.old) (capture_file self.new) }
@@ -164,10 +164,14 @@ impl<R: Source> Capture<R> {
     {
         // the commonest format is asked for first, in place of a jump by a table
         if let Reader::Pcap(reader) = &mut self.reader {
-            return pcap::take_shown(reader, &mut self.next);
+            return pcap::try_next_buffered(reader, &mut self.next);
         }
         match &mut self.reader {
-            Reader::Pcapng(reader) => pcapng::take_shown(reader, &self.reached, &mut self.next),
+            Reader::Pcapng(reader) => pcapng::try_next_buffered(
+                reader,
+                &self.reached,
+                &mut self.next,
+            ),
             _ => false,
         }
     }
@@ -218,7 +222,7 @@ impl<R: Source> PacketFeed for Capture<R> {
     }
 
     #[inline(always)]
-    fn has_packet(&mut self) -> Result<bool, Fault>
+    fn peek(&mut self) -> Result<bool, Fault>
         ensures answer { FindsPacket (capture_feed self.old) result (capture_feed self.new) }
         ensures keeps { FeedKeeps (capture_feed self.old) (capture_feed self.new) }
         ensures items { IsTrue (capture_feed self.old).told
@@ -238,8 +242,8 @@ impl<R: Source> PacketFeed for Capture<R> {
     }
 
     #[inline(always)]
-    fn shows_packet(&mut self) -> bool {
-        self.shows()
+    fn try_peek_buffered(&mut self) -> bool {
+        self.try_peek()
     }
 
     #[inline(always)]

@@ -80,7 +80,7 @@ pub fn noted_of_pcap<R: Source>(reader: &PcapReader<R>) -> Option<Interface>
 /// Puts the packet that comes next of a pcap file into `known`, if the window shows its record already, as it does most
 /// of them. Returns whether it did: if not, nothing has changed.
 #[inline(always)]
-pub fn take_shown<R: Source>(reader: &mut PcapReader<R>, known: &mut PeekSlot) -> bool
+pub fn try_next_buffered<R: Source>(reader: &mut PcapReader<R>, known: &mut PeekSlot) -> bool
     requires unknown { known.old ≡ None }
     ensures answer { (progress : Progress) → TakesShown (pcap_state reader.old progress) result known.new
         (pcap_state reader.new progress) }
@@ -96,7 +96,7 @@ pub fn take_shown<R: Source>(reader: &mut PcapReader<R>, known: &mut PeekSlot) -
         return false;
     };
     let file = reader.window().file();
-    match reader.take_shown(header) {
+    match reader.try_next_buffered(header) {
         Some(record) => {
             let meta = meta_of_record(file, header, record);
             known.set_packet(meta, 0);

@@ -103,7 +103,7 @@ fn take_content(
 /// Puts what comes next of a pcapng file into `known`, if it is a packet in an enhanced packet block that the window
 /// shows already, as most are. Returns whether it did: if not, nothing has changed.
 #[inline(always)]
-pub fn take_shown<R: Source>(
+pub fn try_next_buffered<R: Source>(
     reader: &mut BlockReader<R>,
     reached: &SectionState,
     known: &mut PeekSlot,

@@ -150,7 +150,7 @@ fn always_memory_files_are_converted_with_a_count(rt: HostRuntime) {
 
 // A packet is passed, and then so many have run backward.
 fn passes(rt: &impl Abort, feed: &mut Merged<Capture<Pieces>>, backward: u64) {
-    same!(rt; feed.has_packet(), Ok(true));
+    same!(rt; feed.peek(), Ok(true));
     feed.pass();
     same!(rt; feed.backward(), backward);
 }

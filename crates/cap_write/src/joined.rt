@@ -116,7 +116,7 @@ fn put_joined<F: PacketFeed, W: Sink>(
     };
     // 32 files at most, of fewer than 2^40 packets each: so the place stays below 2^63
     let _ = merged.files();
-    while merged.has_packet()? {
+    while merged.peek()? {
         put_completed(form, &mut joining, order, merged.next_packet(), writer)?;
         merged.pass();
         joining.place += 1;

@@ -17,7 +17,7 @@ fn more<F: PacketFeed>(feed: &mut F, packets: &mut [Packet]) -> usize
     ensures keeps { FeedKeeps (F.feed feed.old) (F.feed feed.new) }
 {
     let mut count = 0;
-    while count < packets.len() && feed.shows_packet() {
+    while count < packets.len() && feed.try_peek_buffered() {
         packets[count] = packet_of(feed.packet(), feed.frame());
         feed.pass();
         count += 1;

@@ -107,7 +107,7 @@ impl<F: PacketFeed> Table<F> {
         ensures keeps { StepKeeps (table_of self.old) (table_of self.new) }
         ensures again { AnswersAgain (merged_feed (table_of self.old).parts).known result }
     {
-        if !self.merged.has_packet()? {
+        if !self.merged.peek()? {
             self.done = true;
             return Ok(Step::Done);
         }

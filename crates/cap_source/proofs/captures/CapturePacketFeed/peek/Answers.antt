@@ -4,7 +4,7 @@ use Rattle.cap_source.specs.inner.FileState.{head_of}
 use Rattle.cap_source.proofs.Fronts.{Fronts-fault, Fronts-given, none-next}
 use Rattle.cap_source.specs.inner.Captures.{capture_fronts}
 use Rattle.cap_source.proofs.Firsts.{head_told, items_told, fault_found, fault_item, keeps_told}
-use Rattle.cap_source.proofs.captures.CapturePacketFeed.has_packet.Goals as goal
+use Rattle.cap_source.proofs.captures.CapturePacketFeed.peek.Goals as goal
 
 pub returns-in_err-learn-clause-answer : goal.returns-in_err-learn-clause-answer
 returns-in_err-learn-clause-answer g c =

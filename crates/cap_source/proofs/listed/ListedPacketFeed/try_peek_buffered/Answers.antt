@@ -1,6 +1,6 @@
 use Rattle.std.proofs.Common.{arith}
-use Rattle.cap_source.proofs.listed.ListedPacketFeed.shows_packet.Goals as goal
-use Rattle.cap_source.proofs.listed.ListedPacketFeed.shows_packet.Goals.{in-Some, in-None}
+use Rattle.cap_source.proofs.listed.ListedPacketFeed.try_peek_buffered.Goals as goal
+use Rattle.cap_source.proofs.listed.ListedPacketFeed.try_peek_buffered.Goals.{in-Some, in-None}
 
 pub returns-in-Packet-clause-answer : goal.returns-in-Packet-clause-answer
 returns-in-Packet-clause-answer c = (

@@ -2,7 +2,7 @@ use Rattle.std.proofs.Common.{Ok, true, ◌∙◌}
 use Rattle.cap_merge.specs.inner.Sound.{lawful-each, numbered-from}
 use Rattle.cap_merge.specs.inner.View.{parts_of}
 use Rattle.cap_merge.proofs.Peeking.{finds-all}
-use Rattle.cap_merge.proofs.merging.MergedPacketFeed.has_packet.Goals as goal
+use Rattle.cap_merge.proofs.merging.MergedPacketFeed.peek.Goals as goal
 
 pub returns-then-shows_first : goal.returns-then-shows_first
 returns-then-shows_first g c =

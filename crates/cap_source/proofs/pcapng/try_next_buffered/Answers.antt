@@ -6,7 +6,7 @@ use Rattle.cap_source.specs.declared.contents.BlockContent.TheVariants as conten
 use Rattle.cap_source.proofs.Blocks.{behind-packet, block_taken, block_stepped, block_kept, content_lent, enhanced_size}
 use Rattle.cap_source.proofs.Blocks.{packet_shown}
 use Rattle.cap_source.proofs.Fronts.{block-passed}
-use Rattle.cap_source.proofs.pcapng.take_shown.Goals as goal
+use Rattle.cap_source.proofs.pcapng.try_next_buffered.Goals as goal
 
 pub enhanced_packet-said-requires : goal.enhanced_packet-said-requires
 enhanced_packet-said-requires g c =
