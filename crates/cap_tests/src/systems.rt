@@ -6,7 +6,7 @@ use crate::files::bytes_of;
 use cap_bytes::{Fault, Refusal, Rule, Tracked};
 use cap_line::{Job, LineFault};
 use cap_tool::{
-    Buffered, Cause, FileId, FileType, Left, Opener, Outcome, Stop, System, Told, run_words,
+    Buffered, Cause, DroppedInfo, FileId, FileType, Opener, Outcome, Stop, System, Told, run_words,
 };
 use std::alloc::Global;
 use std::cell::RefCell;
@@ -107,7 +107,7 @@ impl<'a> System for Desk<'a> {
 
     ghost makes = { λ d job ids result. Unit {0} };
 
-    ghost settles = { λ d name answer result. result ≡ answer };
+    ghost commits = { λ d name answer result. result ≡ answer };
 
     fn has_no_input(&self) -> bool {
         false
@@ -132,7 +132,7 @@ impl<'a> System for Desk<'a> {
         Ok((Buffered::new(self.alloc, 64, sheet)?, ()))
     }
 
-    fn settle(&self, _name: (), answer: Result<Left, Stop>) -> Result<Left, Stop> {
+    fn commit(&self, _name: (), answer: Result<DroppedInfo, Stop>) -> Result<DroppedInfo, Stop> {
         answer
     }
 

@@ -5,26 +5,26 @@ use std::io::Write;
 
 /// A writer that does what `inner` does, and keeps the number of its last error, if the system gave one.
 #[derive(Drop)]
-pub struct Remembered<W> {
+pub struct ErrnoWriter<W> {
     inner: W,
     error: Option<i32>,
 }
 
-impl<W> Remembered<W> {
+impl<W> ErrnoWriter<W> {
     ghost use Rattle.std.specs.Prelude.{◌≡◌, None};
-    ghost use Rattle.cap_tool.specs.Remembered.{error_of, remembered_inner};
+    ghost use Rattle.cap_tool.specs.ErrnoWriter.{error_of, errno_inner};
 
     /// A writer that does what `inner` does, and had no error.
-    pub fn new(inner: W) -> Remembered<W>
-        ensures inner { remembered_inner result ≡ inner }
+    pub fn new(inner: W) -> ErrnoWriter<W>
+        ensures inner { errno_inner result ≡ inner }
         ensures error { error_of result ≡ None }
     {
-        Remembered { inner, error: None }
+        ErrnoWriter { inner, error: None }
     }
 
     /// What it writes to.
     pub fn get_ref(&self) -> &W
-        ensures { result.now ≡ remembered_inner self.now }
+        ensures { result.now ≡ errno_inner self.now }
     {
         &self.inner
     }
@@ -37,10 +37,10 @@ impl<W> Remembered<W> {
     }
 }
 
-impl<W: Write> Write for Remembered<W> {
-    ghost use Rattle.cap_tool.specs.Remembered.{remembered_inner};
+impl<W: Write> Write for ErrnoWriter<W> {
+    ghost use Rattle.cap_tool.specs.ErrnoWriter.{errno_inner};
 
-    ghost contents = { λ r. W.contents (remembered_inner r) };
+    ghost contents = { λ r. W.contents (errno_inner r) };
 
     fn write(&mut self, bytes: &[u8]) -> io::Result<usize> {
         let answer = self.inner.write(bytes);

@@ -15,7 +15,7 @@ const NOT_OPEN: i32 = 9;
 /// What stands for the standard streams that were closed, so that no file that is opened takes the number of one: each
 /// read and write of it fails, as of a closed one.
 #[derive(Drop)]
-pub struct Closed {
+pub struct ReservedStdio {
     input: Option<File>,
     output: Option<File>,
     faults: Option<File>,
@@ -38,14 +38,14 @@ fn unusable<R: Files<File = File>>(files: &R, reads: bool) -> Option<File> {
         .ok()
 }
 
-impl Closed {
+impl ReservedStdio {
     /// Looks which of the standard streams are closed, in the order of their numbers, before any file is opened.
     pub fn find<R: Files<File = File>>(
         files: &R,
         input: Stdin,
         output: Stdout,
         faults: Stderr,
-    ) -> Closed {
+    ) -> ReservedStdio {
         let input = if is_closed(&input) {
             unusable(files, false)
         } else {
@@ -61,7 +61,7 @@ impl Closed {
         } else {
             None
         };
-        Closed {
+        ReservedStdio {
             input,
             output,
             faults,
