@@ -11,7 +11,7 @@ use Rattle.cap_time.specs.inner.Orderings.{both_by}
 use Rattle.cap_talks.proofs.Talking.{same_end-self, and_true}
 use Rattle.cap_talks.specs.inner.table.Keys.{same_end-is, and_left, and_right}
 use Rattle.cap_talks.specs.inner.table.Laws.{KeyLaw}
-use Rattle.cap_talks.specs.table.Talks.{is_forward, same_end, same_talk}
+use Rattle.cap_talks.specs.table.Conversations.{is_forward, same_end, same_talk}
 use Rattle.cap_talks.specs.table.Units.{end_cmp}
 use Rattle.cap_talks.specs.declared.table.units.End.{End}
 

@@ -19,7 +19,7 @@ use Rattle.cap_talks.specs.inner.table.Packed.{IsNarrowEnd, is_end_number, is_pa
 use Rattle.cap_talks.specs.inner.table.Packed.{unpacked_talks}
 use Rattle.cap_talks.specs.inner.table.Packed.{are_packed}
 use Rattle.cap_talks.specs.table.Rows.{is_refused, talk_limit, with_unit, with_talk, or_empty, row_at, row_in}
-use Rattle.cap_talks.specs.table.Talks.{talk_key, row_of, same_talk}
+use Rattle.cap_talks.specs.table.Conversations.{talk_key, row_of, same_talk}
 use Rattle.cap_talks.specs.declared.table.keys.PackedKey.{PackedKey}
 use Rattle.cap_talks.specs.declared.table.rows.TalkKey.{TalkKey}
 use Rattle.cap_talks.specs.declared.table.rows.TalkRow.{TalkRow}

@@ -3,13 +3,13 @@
 
 mod adding;
 mod classes;
+mod conversations;
 mod keys;
 mod laws;
 mod report_lines;
 mod rows;
 mod tables;
 mod talk_lines;
-mod talks;
 mod tallies;
 mod totals;
 mod units;

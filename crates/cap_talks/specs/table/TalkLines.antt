@@ -6,7 +6,7 @@ use Rattle.cap_print.specs.Facts.{Facts, Fact, Field, one, group, number, coded,
 use Rattle.cap_print.specs.declared.forms.Form.{Form}
 use Rattle.cap_print.specs.declared.forms.Form.TheVariants.{Text}
 use Rattle.cap_time.specs.Stamp.{printed_of}
-use Rattle.cap_talks.specs.table.Talks.{Talk}
+use Rattle.cap_talks.specs.table.Conversations.{Conversation}
 use Rattle.cap_talks.specs.declared.table.rows.TalkKey.{TalkKey}
 use Rattle.cap_talks.specs.declared.table.rows.TalkRow.{TalkRow}
 use Rattle.cap_talks.specs.declared.table.units.End.{End}
@@ -62,16 +62,16 @@ talk_facts key row =
     }
 
 -- the lines of all of them, in a form, by the place of the first unit of each
-abbrev pub talk_texts_in : Form → List Talk → List ℕ
+abbrev pub talk_texts_in : Form → List Conversation → List ℕ
 talk_texts_in form [] = []
 talk_texts_in form (talk ∷ talks) = line_in form (talk_facts talk.0 talk.1) ++ talk_texts_in form talks
 
 -- the same in text
-abbrev pub talk_texts : List Talk → List ℕ
+abbrev pub talk_texts : List Conversation → List ℕ
 talk_texts talks = talk_texts_in Text talks
 
 -- the line of that at a place, in a form
-abbrev pub line_at_in : Form → List Talk → ℕ → List ℕ
+abbrev pub line_at_in : Form → List Conversation → ℕ → List ℕ
 line_at_in form talks place = option_map_or (λ talk. line_in form (talk_facts talk.0 talk.1)) (slice_get talks place) []
 
 -- the line that says how many they are

@@ -3,7 +3,7 @@ ghost use Rattle.std.specs.Prelude.{◌≡◌, ◌+◌, ◌<◌, ◌^◌, true, 
 ghost use Rattle.std.proofs.Common.{rules};
 ghost use Rattle.std.specs.Cmp.Rules.{hashing};
 ghost use Rattle.std.specs.Hash as fed;
-ghost use Rattle.cap_talks.specs.table.Talks.{talk_key, is_forward};
+ghost use Rattle.cap_talks.specs.table.Conversations.{talk_key, is_forward};
 ghost use Rattle.cap_talks.specs.inner.table.Packed.{both_numbers, port_number, port_of, end_number, end_at_number};
 ghost use Rattle.cap_talks.specs.inner.table.Packed.{packed};
 ghost use Rattle.cap_talks.specs.inner.table.Packed.{unpacked, IsNarrow, IsNarrowEnd, is_end_number, is_packed};

@@ -6,7 +6,7 @@ use Rattle.cap_talks.specs.declared.table.keys.PackedKey.{PackedKey}
 use Rattle.cap_talks.specs.declared.table.rows.TalkKey.{TalkKey}
 use Rattle.cap_talks.specs.declared.table.rows.TalkRow.{TalkRow}
 use Rattle.cap_talks.specs.declared.table.units.End.{End}
-use Rattle.cap_talks.specs.table.Talks.{Talk}
+use Rattle.cap_talks.specs.table.Conversations.{Conversation}
 
 -- a port as a number: 0 is none
 abbrev pub port_number : Option ℕ → ℕ
@@ -63,10 +63,10 @@ abbrev pub same_packed : PackedKey → PackedKey → Bool
 same_packed a b = (a.lesser == b.lesser) && (a.greater == b.greater)
 
 -- the conversations of a table, whose keys are packed
-abbrev pub unpacked_talk : PackedKey × TalkRow → Talk
+abbrev pub unpacked_talk : PackedKey × TalkRow → Conversation
 unpacked_talk entry = (unpacked entry.0, entry.1)
 
-abbrev pub unpacked_talks : List (PackedKey × TalkRow) → List Talk
+abbrev pub unpacked_talks : List (PackedKey × TalkRow) → List Conversation
 unpacked_talks entries = map unpacked_talk entries
 
 abbrev pub are_packed : List (PackedKey × TalkRow) → Bool

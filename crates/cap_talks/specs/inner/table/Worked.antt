@@ -6,7 +6,7 @@ use Rattle.cap_talks.specs.declared.table.units.TimedFrame.{TimedFrame}
 use Rattle.cap_time.specs.declared.stamps.Stamp.{Stamp}
 use Rattle.cap_talks.specs.table.Rows.{is_refused}
 use Rattle.cap_talks.specs.table.TalkLines.{talk_texts, talk_texts_in}
-use Rattle.cap_talks.specs.table.Talks.{talk_key, rows_of}
+use Rattle.cap_talks.specs.table.Conversations.{talk_key, rows_of}
 use Rattle.cap_talks.specs.table.Units.{end_at}
 use Rattle.cap_talks.specs.declared.table.units.CountedUnit.{CountedUnit}
 use Rattle.cap_talks.specs.declared.table.units.End.{End}

@@ -1,5 +1,5 @@
 -- What the fields of a table of conversations say.
-use Rattle.cap_talks.specs.declared.table.talks.Talks.TheInside.{Inside}
+use Rattle.cap_talks.specs.declared.table.conversations.Conversations.TheInside.{Inside}
 use Rattle.std.specs.Prelude.{◌≡◌, ◌≤◌, true, length}
 use Rattle.cap_talks.specs.inner.table.Packed.{unpacked_talks, are_packed}
 use Rattle.cap_talks.specs.table.Rows.{TalksState, talk_limit, are_all_in_order}

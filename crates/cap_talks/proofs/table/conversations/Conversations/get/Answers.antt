@@ -1,6 +1,6 @@
 use Rattle.std.proofs.Common.{rules, arith}
 use Rattle.cap_talks.proofs.Packing.{get-packed, key-packed}
-use Rattle.cap_talks.proofs.table.talks.Talks.get.Goals as goal
+use Rattle.cap_talks.proofs.table.conversations.Conversations.get.Goals as goal
 
 pub unpacked-requires : goal.unpacked-requires
 unpacked-requires c =

@@ -4,14 +4,14 @@ ghost use Rattle.std.specs.Prelude.{OnOk, OnErr};
 ghost use Rattle.indexmap.specs.IndexMap.{insert_entry};
 ghost use Rattle.indexmap.specs.Layout.{set_value_at};
 ghost use Rattle.cap_talks.specs.inner.table.Packed.{unpacked, IsNarrow, unpacked_talks, are_packed};
-ghost use Rattle.cap_talks.specs.table.Talks.{talk_key, row_of, same_talk};
+ghost use Rattle.cap_talks.specs.table.Conversations.{talk_key, row_of, same_talk};
 ghost use Rattle.cap_talks.specs.table.Rows.{TalksStandFor, is_refused, is_limit, talk_limit, frames_in, bytes_in};
-ghost use Rattle.cap_talks.specs.table.Rows.{frames_of_row, bytes_of_row, row_in, with_share, with_talk, IsUnitInOrder};
+ghost use Rattle.cap_talks.specs.table.Rows.{frames_of_row, bytes_of_row, row_in, with_delta, with_talk, IsUnitInOrder};
 ghost use Rattle.cap_talks.specs.table.Rows.{is_in_order, are_all_in_order};
 ghost use Rattle.cap_talks.specs.declared.table.units.CountedUnit.{CountedUnit};
 
 use crate::table::keys::PackedKey;
-use crate::table::rows::{Share, TalkKey, TalkRow};
+use crate::table::rows::{RowDelta, TalkKey, TalkRow};
 use crate::table::units::CountedUnit;
 use indexmap::IndexMap;
 use std::alloc::Global;
@@ -22,7 +22,7 @@ const TALK_LIMIT: usize = 1_048_576;
 
 /// Why a unit, or the packet that completes it, wasn't counted. The table is as it was.
 #[derive(Clone, Copy)]
-pub enum TalksFault {
+pub enum ConversationsFault {
     /// The unit's conversation is a new one, and there are 1,048,576 already.
     Limit,
     /// A growth was refused.
@@ -34,29 +34,29 @@ pub enum TalksFault {
 ///
 /// What a table holds is stated by the units that it stands for.
 #[derive(Drop)]
-pub struct Talks {
+pub struct Conversations {
     rows: IndexMap<PackedKey, TalkRow>,
 }
 
-impl Model for Talks {
+impl Model for Conversations {
     ghost use Rattle.cap_talks.specs.table.Rows.{TalksState};
 
     ghost Value = { TalksState };
 
-    ghost use Rattle.cap_talks.specs.inner.table.TalksView.{talks_view, IsSoundTalksInside};
+    ghost use Rattle.cap_talks.specs.inner.table.ConversationsView.{talks_view, IsSoundTalksInside};
 
     ghost view = { talks_view };
 
     ghost invariant = { IsSoundTalksInside };
 }
 
-impl Talks {
+impl Conversations {
     /// The table of no unit.
-    pub fn new(alloc: Global) -> Talks
+    pub fn new(alloc: Global) -> Conversations
         ensures stands { TalksStandFor result [] }
         ensures empty { result.rows ≡ [] }
     {
-        Talks {
+        Conversations {
             rows: IndexMap::new(alloc),
         }
     }
@@ -68,7 +68,7 @@ impl Talks {
     /// Returns `Limit` exactly if the unit's conversation is a new one and there are 1,048,576 already, `Memory`
     /// if a growth was refused. Both leave the table as it was.
     #[inline(always)]
-    pub fn add(&mut self, unit: &CountedUnit) -> Result<(), TalksFault>
+    pub fn add(&mut self, unit: &CountedUnit) -> Result<(), ConversationsFault>
         requires frames { frames_in self.old.rows + unit.now.frames < 2 ^ 64 }
         requires bytes { bytes_in self.old.rows + unit.now.bytes < 2 ^ 128 }
         requires unit { IsUnitInOrder unit.now }
@@ -104,19 +104,19 @@ impl Talks {
 
 // Counts one unit more in the row at a place.
 #[inline(always)]
-fn add_at(rows: &mut IndexMap<PackedKey, TalkRow>, place: usize, share: Share)
+fn add_at(rows: &mut IndexMap<PackedKey, TalkRow>, place: usize, delta: RowDelta)
     requires place { place < length rows.old.entries }
-    requires frames { frames_of_row (row_in rows.old.entries place) + share.frames < 2 ^ 64 }
-    requires bytes { bytes_of_row (row_in rows.old.entries place) + share.bytes < 2 ^ 128 }
+    requires frames { frames_of_row (row_in rows.old.entries place) + delta.frames < 2 ^ 64 }
+    requires bytes { bytes_of_row (row_in rows.old.entries place) + delta.bytes < 2 ^ 128 }
     requires order { is_in_order (row_in rows.old.entries place) ≡ true }
-    requires one { share.frames ≡ 1 → share.first ≡ share.last }
+    requires one { delta.frames ≡ 1 → delta.first ≡ delta.last }
     ensures { rows.new.entries ≡ set_value_at rows.old.entries place
-        (with_share (row_in rows.old.entries place) share) }
+        (with_delta (row_in rows.old.entries place) delta) }
 {
     let Some(row) = rows.get_index_mut(place) else {
         unreachable!();
     };
-    row.take(share);
+    row.take(delta);
 }
 
 // Adds the row of a new conversation, of one unit.
@@ -124,33 +124,36 @@ fn add_at(rows: &mut IndexMap<PackedKey, TalkRow>, place: usize, share: Share)
 fn add_row(
     rows: &mut IndexMap<PackedKey, TalkRow>,
     key: PackedKey,
-    share: Share,
-) -> Result<(), TalksFault>
+    delta: RowDelta,
+) -> Result<(), ConversationsFault>
     requires key { IsNarrow (unpacked key) }
     requires keys { are_packed rows.old.entries ≡ true }
-    requires frames { share.frames < 2 ^ 64 }
-    requires bytes { share.bytes < 2 ^ 128 }
-    requires one { share.frames ≡ 1 → share.first ≡ share.last }
+    requires frames { delta.frames < 2 ^ 64 }
+    requires bytes { delta.bytes < 2 ^ 128 }
+    requires one { delta.frames ≡ 1 → delta.first ≡ delta.last }
     ensures entries { OnOk result (unpacked_talks rows.new.entries
-        ≡ insert_entry same_talk (unpacked_talks rows.old.entries) (unpacked key) (with_share (row_of []) share)) }
+        ≡ insert_entry same_talk (unpacked_talks rows.old.entries) (unpacked key) (with_delta (row_of []) delta)) }
     ensures keys { are_packed rows.new.entries ≡ true }
     ensures limit { is_limit result ≡ not (nat_lt (length rows.old.entries) talk_limit) }
     ensures err { OnErr result (rows.new.entries ≡ rows.old.entries) }
 {
     if rows.len() >= TALK_LIMIT {
-        return Err(TalksFault::Limit);
+        return Err(ConversationsFault::Limit);
     }
     let mut row = TalkRow::new();
-    row.take(share);
+    row.take(delta);
     match rows.insert(key, row) {
         Ok(_) => Ok(()),
-        Err(_) => Err(TalksFault::Memory),
+        Err(_) => Err(ConversationsFault::Memory),
     }
 }
 
 // Counts one unit more in the rows.
 #[inline(always)]
-fn add_unit(rows: &mut IndexMap<PackedKey, TalkRow>, unit: &CountedUnit) -> Result<(), TalksFault>
+fn add_unit(
+    rows: &mut IndexMap<PackedKey, TalkRow>,
+    unit: &CountedUnit,
+) -> Result<(), ConversationsFault>
     requires keys { are_packed rows.old.entries ≡ true }
     requires frames { frames_in (unpacked_talks rows.old.entries) + unit.now.frames < 2 ^ 64 }
     requires bytes { bytes_in (unpacked_talks rows.old.entries) + unit.now.bytes < 2 ^ 128 }
@@ -165,9 +168,9 @@ fn add_unit(rows: &mut IndexMap<PackedKey, TalkRow>, unit: &CountedUnit) -> Resu
     let (key, forward) = PackedKey::of(unit);
     match rows.get_index_of(&key) {
         Some(place) => {
-            add_at(rows, place, Share::of(unit, forward));
+            add_at(rows, place, RowDelta::of(unit, forward));
             Ok(())
         }
-        None => add_row(rows, key, Share::of(unit, forward)),
+        None => add_row(rows, key, RowDelta::of(unit, forward)),
     }
 }

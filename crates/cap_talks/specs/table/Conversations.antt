@@ -110,9 +110,9 @@ keys_of [] = []
 keys_of (unit ∷ units) = talk_key unit ∷ filter (λ key. not (same_talk (talk_key unit) key)) (keys_of units)
 
 -- a conversation, with what is counted of it
-abbrev pub Talk : Type 0
-Talk = TalkKey × TalkRow
+abbrev pub Conversation : Type 0
+Conversation = TalkKey × TalkRow
 
 -- the rows of the conversations of some units: each made from the units of its own key
-unfoldable pub rows_of : List CountedUnit → List Talk
+unfoldable pub rows_of : List CountedUnit → List Conversation
 rows_of units = map (λ key. (key, row_of (units_of_talk key units))) (keys_of units)

@@ -3,7 +3,7 @@ use Rattle.cap_talks.specs.table.Rows.{frames_in}
 use Rattle.cap_talks.proofs.RowSums.{on_ok, few-kept, frames_in-more, bytes_in-more}
 use Rattle.cap_talks.proofs.RowOrder.{order-kept}
 use Rattle.cap_talks.proofs.Talking.{rows-more}
-use Rattle.cap_talks.proofs.table.talks.Talks.add.Goals as goal
+use Rattle.cap_talks.proofs.table.conversations.Conversations.add.Goals as goal
 
 pub invariant_of-self : goal.invariant_of-self
 invariant_of-self c = record {

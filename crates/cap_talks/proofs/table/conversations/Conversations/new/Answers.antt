@@ -1,7 +1,7 @@
 use Rattle.std.proofs.Common.{ap}
 use Rattle.cap_talks.specs.inner.table.Packed.{unpacked_talks}
-use Rattle.cap_talks.specs.table.Talks.{rows_of}
-use Rattle.cap_talks.proofs.table.talks.Talks.new.Goals as goal
+use Rattle.cap_talks.specs.table.Conversations.{rows_of}
+use Rattle.cap_talks.proofs.table.conversations.Conversations.new.Goals as goal
 
 pub returns-clause-stands : goal.returns-clause-stands
 unfolding rows_of

@@ -1,7 +1,7 @@
 //! What a captured frame is by itself.
 ghost use Rattle.std.specs.Prelude.{◌≡◌, ℕ, Option};
-ghost use Rattle.cap_class.specs.Taken.{look, look_in, stamped_of, taken};
-ghost use Rattle.cap_class.specs.inner.Looking.{IsAll, look_of};
+ghost use Rattle.cap_class.specs.Taken.{classify, classify_in, stamped_of, taken};
+ghost use Rattle.cap_class.specs.inner.Classifying.{IsAll, classification_of};
 ghost use Rattle.cap_ip.specs.Read.{read_of};
 ghost use Rattle.cap_join.specs.declared.datagrams.Stamped.{Stamped};
 ghost use Rattle.cap_source.specs.Times.{meta_time};
@@ -16,7 +16,7 @@ use cap_time::Stamp;
 
 /// What a captured frame is by itself (RFC 791, 3.1 and 3.2).
 #[derive(Clone, Copy)]
-pub enum Seen<'a> {
+pub enum Classified<'a> {
     /// Neither a datagram nor a fragment of one: a frame of the class `OtherLink`, `NotIpv4`, `Short`, `Cut` or `Bad`.
     Plain(Class),
     /// A whole datagram, with the captured part of its data.
@@ -27,18 +27,19 @@ pub enum Seen<'a> {
 
 // What the bytes of an IPv4 packet are.
 #[inline(always)]
-fn look_into(bytes: &[u8], whole: bool) -> Seen<'_>
-    ensures value { (stamped : Stamped) → look_of result stamped ≡ look_in (read_of bytes.now whole) stamped }
+fn classify_ipv4(bytes: &[u8], whole: bool) -> Classified<'_>
+    ensures value { (stamped : Stamped) → classification_of result stamped
+        ≡ classify_in (read_of bytes.now whole) stamped }
     ensures all { IsAll result }
 {
     match Header::read(bytes, whole) {
-        HeaderOr::Bad => Seen::Plain(Class::Bad),
-        HeaderOr::Cut => Seen::Plain(Class::Cut),
+        HeaderOr::Bad => Classified::Plain(Class::Bad),
+        HeaderOr::Cut => Classified::Plain(Class::Cut),
         HeaderOr::Header(header, captured) => {
             if header.fragment().is_none() {
-                Seen::Datagram(header, captured)
+                Classified::Datagram(header, captured)
             } else {
-                Seen::Fragment(header, captured)
+                Classified::Fragment(header, captured)
             }
         }
     }
@@ -46,20 +47,20 @@ fn look_into(bytes: &[u8], whole: bool) -> Seen<'_>
 
 /// What a packet's captured bytes are by themselves: a whole datagram, a fragment, or neither. `meta` is what is known
 /// of the packet beside them: its link type and how many bytes it had.
-#[tactic(auto, unfolding(crate::specs::Taken::look))]
+#[tactic(auto, unfolding(crate::specs::Taken::classify))]
 #[inline(always)]
-pub fn look<'a>(meta: &Meta, frame: &'a [u8]) -> Seen<'a>
+pub fn classify<'a>(meta: &Meta, frame: &'a [u8]) -> Classified<'a>
     ensures value { (clock : Option Stamp) (place : ℕ)
-        → look_of result (stamped_of place meta.now) ≡ look place (taken clock meta.now frame.entry.now) }
+        → classification_of result (stamped_of place meta.now) ≡ classify place (taken clock meta.now frame.entry.now) }
     ensures all { IsAll result }
 {
     let whole = frame.len() >= meta.original as usize;
     match network(meta.interface.link, frame, meta.original) {
-        Network::Ipv4(bytes) => look_into(bytes, whole),
-        Network::OtherLink => Seen::Plain(Class::OtherLink),
-        Network::NotIpv4 => Seen::Plain(Class::NotIpv4),
-        Network::Short => Seen::Plain(Class::Short),
-        Network::Cut => Seen::Plain(Class::Cut),
+        Network::Ipv4(bytes) => classify_ipv4(bytes, whole),
+        Network::OtherLink => Classified::Plain(Class::OtherLink),
+        Network::NotIpv4 => Classified::Plain(Class::NotIpv4),
+        Network::Short => Classified::Plain(Class::Short),
+        Network::Cut => Classified::Plain(Class::Cut),
     }
 }
 
