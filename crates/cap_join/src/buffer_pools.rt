@@ -1,6 +1,6 @@
 //! The buffers of closed groups, kept for later ones.
 ghost use Rattle.std.specs.Prelude.{◌≡◌, [], ◌*◌, ◌^◌, ◌<◌, ◌≤◌, length, map, sum};
-ghost use Rattle.cap_join.specs.inner.Spares.{with_spare, spare_limit};
+ghost use Rattle.cap_join.specs.inner.BufferPool.{with_spare, spare_limit};
 
 use crate::groups::Group;
 use std::alloc::{AllocError, Global};
@@ -12,16 +12,16 @@ const SPARE_LIMIT: usize = 1024;
 /// Spare buffers. A new group takes one without clearing it, since it sets each byte before it reads it. So each byte
 /// of a buffer is cleared once, not once a group.
 #[derive(Drop)]
-pub(crate) struct Spares {
+pub(crate) struct BufferPool {
     buffers: Vec<Vec<u8>>,
 }
 
-impl Model for Spares {
-    ghost use Rattle.cap_join.specs.inner.Spares.{SpareState};
+impl Model for BufferPool {
+    ghost use Rattle.cap_join.specs.inner.BufferPool.{SpareState};
 
     ghost Value = { SpareState };
 
-    ghost use Rattle.cap_join.specs.inner.SparesView.{spares_view, IsSoundSpares};
+    ghost use Rattle.cap_join.specs.inner.BufferPoolView.{spares_view, IsSoundSpares};
 
     ghost view = { spares_view };
 
@@ -36,12 +36,12 @@ fn bytes_of(buffers: &Vec<Vec<u8>>) -> usize
     buffers.iter().map(|buffer| buffer.len()).sum()
 }
 
-impl Spares {
+impl BufferPool {
     /// No buffer, and no place for one yet.
-    pub(crate) fn new(alloc: Global) -> Spares
+    pub(crate) fn new(alloc: Global) -> BufferPool
         ensures { result.lengths ≡ [] }
     {
-        Spares {
+        BufferPool {
             buffers: Vec::new(alloc),
         }
     }
@@ -87,7 +87,7 @@ impl Spares {
 }
 
 /// Gives a closed group's buffer back.
-pub(crate) fn keep_buffer(spares: &mut Spares, group: Option<Group>) {
+pub(crate) fn keep_buffer(spares: &mut BufferPool, group: Option<Group>) {
     if let Some(group) = group {
         spares.give_back(group.into_buffer());
     }

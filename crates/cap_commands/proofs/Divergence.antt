@@ -16,7 +16,7 @@ use Rattle.cap_print.specs.declared.forms.Form.{Form}
 use Rattle.cap_commands.specs.DiffText.{TellsDiff, compared, diff_text_in}
 use Rattle.cap_commands.specs.DiffText.{other_packet, same_packets}
 use Rattle.cap_commands.specs.inner.DiffWalk.{FailsOne, Parts, are_alike, compared_of, parted}
-use Rattle.cap_commands.specs.declared.diff.Parting.{Parting}
+use Rattle.cap_commands.specs.declared.diff.Divergence.{Divergence}
 
 -- Of two feeds so many packets were passed, which are the same.
 pub record Matched (a b c d : Feed) (n : ℕ) : Type 0 where
@@ -139,11 +139,11 @@ Parts-second a b c d shown seen n one fault f g i shows sees t u =
 
 -- a failed read of the first, and of the second
 pub Fails-first : (a b c d shown : Feed) (n : ℕ) (fault : Fault) → Matched a b c d n → GivesPacket c (Err fault) shown
-    → FailsOne {A = Parting} a b (Err fault)
+    → FailsOne {A = Divergence} a b (Err fault)
 Fails-first a b c d shown n fault i gives = grind arith
 
 pub Fails-second : (a b c d seen : Feed) (n : ℕ) (fault : Fault) → Matched a b c d n → GivesPacket d (Err fault) seen
-    → FailsOne {A = Parting} a b (Err fault)
+    → FailsOne {A = Divergence} a b (Err fault)
 Fails-second a b c d seen n fault i gives = grind arith
 
 -- What `put_all` writes is printed: it answers no other fault than `Write`.

@@ -1,7 +1,7 @@
 -- What the fields of the spare buffers say.
 use Rattle.std.specs.Prelude.{◌<◌, ◌≤◌, All, length, map, min, vec_capacity}
-use Rattle.cap_join.specs.declared.spares.Spares.TheInside.{Inside}
-use Rattle.cap_join.specs.inner.Spares.{SpareState, spare_limit}
+use Rattle.cap_join.specs.declared.buffer_pools.BufferPool.TheInside.{Inside}
+use Rattle.cap_join.specs.inner.BufferPool.{SpareState, spare_limit}
 
 abbrev pub spares_view : Inside → SpareState
 spares_view s = record {

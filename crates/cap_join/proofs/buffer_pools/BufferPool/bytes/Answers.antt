@@ -1,8 +1,8 @@
 use Rattle.std.proofs.Common.{arith, ℕ, Vec, Global, length}
 use Rattle.std.proofs.lemmas.List.{length-map}
-use Rattle.cap_join.specs.inner.SparesView.{spares_view}
+use Rattle.cap_join.specs.inner.BufferPoolView.{spares_view}
 use Rattle.cap_join.proofs.Sparing.{sum-short}
-use Rattle.cap_join.proofs.spares.Spares.bytes.Goals as goal
+use Rattle.cap_join.proofs.buffer_pools.BufferPool.bytes.Goals as goal
 
 pub bytes_of-requires : goal.bytes_of-requires
 bytes_of-requires c =
