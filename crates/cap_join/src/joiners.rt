@@ -10,7 +10,7 @@ ghost use Rattle.cap_join.specs.declared.datagrams.JoinFault.TheVariants.{Memory
 
 use crate::buffer_pools::BufferPool;
 use crate::datagrams::{Incoming, JoinFault, Put, Stamped};
-use crate::tables::{Table, drop_group, put_fragment};
+use crate::tables::{GroupTable, drop_group, put_fragment};
 use cap_ip::{Header, Key};
 use cap_time::Stamp;
 use std::alloc::Global;
@@ -30,7 +30,7 @@ use std::marker::Model;
 #[derive(Drop)]
 pub struct Joiner {
     // `None` until the first fragment is put.
-    table: Option<Table>,
+    table: Option<GroupTable>,
     spares: BufferPool,
     next: u64,
     given_up: u64,

@@ -32,7 +32,7 @@ const OPEN_LIMIT: usize = 1024;
 
 /// The open groups, and a bound of their ages.
 #[derive(Drop)]
-pub(crate) struct Table {
+pub(crate) struct GroupTable {
     groups: Queue,
     // No group is too old until this is past.
     deadline: Option<Stamp>,
@@ -43,7 +43,7 @@ pub(crate) struct Table {
     in_order: bool,
 }
 
-impl Model for Table {
+impl Model for GroupTable {
     ghost use Rattle.std.specs.Prelude.{List};
     ghost use Rattle.cap_ip.specs.declared.headers.Key.{Key as TableKey};
     ghost use Rattle.cap_join.specs.inner.Groups.{GroupState};
@@ -57,12 +57,12 @@ impl Model for Table {
     ghost invariant = { IsSoundTable };
 }
 
-impl Table {
+impl GroupTable {
     /// A table without a group.
-    pub(crate) fn new(alloc: Global) -> Result<Table, AllocError>
+    pub(crate) fn new(alloc: Global) -> Result<GroupTable, AllocError>
         ensures { IfOk result (λ table. table ≡ []) }
     {
-        Ok(Table {
+        Ok(GroupTable {
             groups: Queue::new(alloc)?,
             deadline: None,
             latest: None,
@@ -177,7 +177,7 @@ fn finish(spares: &mut BufferPool, alloc: Global, group: Group) -> Datagram
 
 // Puts a fragment into the group of its key, which isn't too old, and drops the groups that are.
 fn extend(
-    groups: &mut Table,
+    groups: &mut GroupTable,
     spares: &mut BufferPool,
     alloc: Global,
     clock: Option<Stamp>,
@@ -236,7 +236,7 @@ fn begin(
 // Adds a group to the others, in the place of one of its key, whose buffer is kept. An `Err` leaves the groups as
 // they were, and gives the new group's buffer back, as long as it was when it was taken.
 fn settle(
-    groups: &mut Table,
+    groups: &mut GroupTable,
     spares: &mut BufferPool,
     key: &Key,
     group: Group,
@@ -268,7 +268,7 @@ fn settle(
 // are. If as many are open as may be, the oldest is given up; returns whether it was. The group is
 // added before any is dropped, so that no memory is asked for after.
 fn open(
-    groups: &mut Table,
+    groups: &mut GroupTable,
     spares: &mut BufferPool,
     alloc: Global,
     clock: Option<Stamp>,
@@ -300,7 +300,7 @@ fn open(
 // Groups that are too old are dropped, and the oldest is given up if a new one would be too many:
 // returns whether it was. An `Err` leaves the groups as they were.
 fn put_into(
-    groups: &mut Table,
+    groups: &mut GroupTable,
     spares: &mut BufferPool,
     alloc: Global,
     clock: Option<Stamp>,
@@ -326,7 +326,7 @@ fn put_into(
 
 // Makes a table and places for spare buffers, if there is no table. An `Err` changes nothing.
 fn make_table(
-    table: &mut Option<Table>,
+    table: &mut Option<GroupTable>,
     spares: &mut BufferPool,
     alloc: Global,
 ) -> Result<(), AllocError>
@@ -336,7 +336,7 @@ fn make_table(
 {
     if table.is_none() {
         spares.reserve()?;
-        *table = Some(Table::new(alloc)?);
+        *table = Some(GroupTable::new(alloc)?);
     }
     Ok(())
 }
@@ -345,7 +345,7 @@ fn make_table(
 /// Groups that are too old are dropped, and the oldest is given up if a new one would be too many:
 /// returns whether it was. An `Err` leaves the groups as they were.
 pub(crate) fn put_fragment(
-    table: &mut Option<Table>,
+    table: &mut Option<GroupTable>,
     spares: &mut BufferPool,
     alloc: Global,
     clock: Option<Stamp>,
@@ -371,7 +371,7 @@ pub(crate) fn put_fragment(
 /// Drops the group of a key, whose buffer is kept. The key is copied where it is looked for, so that before the first
 /// fragment it need not be in memory.
 #[inline(always)]
-pub(crate) fn drop_group(table: &mut Option<Table>, spares: &mut BufferPool, key: Key)
+pub(crate) fn drop_group(table: &mut Option<GroupTable>, spares: &mut BufferPool, key: Key)
     ensures entries { entries_of table.new ≡ remove_entry (same_key key) (entries_of table.old) }
     ensures unique { IsDistinct same_key (keys_of (entries_of table.old))
         → IsDistinct same_key (keys_of (entries_of table.new)) }

@@ -16,11 +16,11 @@ use Rattle.cap_time.specs.declared.stamps.Stamp.{Stamp}
 use Rattle.cap_talks.specs.table.CountedUnits.{first_unit, group_unit, unit_at, unit_by, unit_of, timed_frame}
 use Rattle.cap_class.specs.Taken.{Classification, plain, datagram, fragment, classify, events_of, stamped_of}
 use Rattle.cap_talks.specs.table.Units.{ends_of}
-use Rattle.cap_talks.specs.declared.table.units.End.{End}
+use Rattle.cap_talks.specs.declared.table.units.Endpoint.{Endpoint}
 use Rattle.cap_write.specs.Joined.{complete_of, completed, datagram_of, events_after, group_after, has_form, joined_of}
 use Rattle.cap_laws.specs.JoinedUnits.{has_all_data, JoinedUnits}
 
-form-ends : {A : Type 0} (f : End × End → A) (a b : ℕ) (t : Transport)
+form-ends : {A : Type 0} (f : Endpoint × Endpoint → A) (a b : ℕ) (t : Transport)
     → is_some (option_map f (ends_of a b t)) ≡ has_form t
 form-ends f a b (transports.Ports x y) = refl
 form-ends f a b transports.NoPorts = refl

@@ -25,7 +25,7 @@ use Rattle.cap_talks.specs.table.Conversations.{units_of_talk}
 use Rattle.cap_talks.specs.table.Units.{ends_of}
 use Rattle.cap_talks.specs.declared.table.rows.TalkKey.{TalkKey}
 use Rattle.cap_talks.specs.declared.table.units.CountedUnit.{CountedUnit}
-use Rattle.cap_talks.specs.declared.table.units.End.{End}
+use Rattle.cap_talks.specs.declared.table.units.Endpoint.{Endpoint}
 use Rattle.cap_talks.specs.declared.table.units.TimedFrame.{TimedFrame}
 use Rattle.cap_laws.proofs.LikePieces.{Like, LikeFrames, data-like, frames-like, header-like, original-like}
 use Rattle.cap_laws.specs.Forms.{IsSameTalk}
@@ -59,7 +59,7 @@ LikeUnit None (Some v) = ⊥
 LikeUnit (Some u) None = ⊥
 LikeUnit (Some u) (Some v) = IsLikeUnit u v
 
-between : (ends : Option (End × End)) (protocol frames frames_again bytes bytes_again : ℕ)
+between : (ends : Option (Endpoint × Endpoint)) (protocol frames frames_again bytes bytes_again : ℕ)
     (first first_again last last_again : Option TimedFrame)
     → frames ≡ frames_again → bytes ≡ bytes_again → LikeTimed first first_again → LikeTimed last last_again
     → LikeUnit (option_map (unit_of protocol frames bytes first last) ends)

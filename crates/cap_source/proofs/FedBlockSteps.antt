@@ -32,7 +32,7 @@ use Rattle.cap_source.proofs.FedStops.{broken, broken-by, stop_by-short, stopped
 use Rattle.cap_source.specs.Contents.{content_in}
 use Rattle.cap_source.specs.Fed.{PushView, items_after, items_at_stage, skipped_items}
 use Rattle.cap_source.specs.Feed.{Item, packet, refused}
-use Rattle.cap_source.specs.Items.{Progress, after, behind, frame_in, is_pcapng, items_at_block, items_from}
+use Rattle.cap_source.specs.Items.{SectionProgress, after, behind, frame_in, is_pcapng, items_at_block, items_from}
 use Rattle.cap_source.specs.Items.{items_of_blocks, items_of_stop}
 use Rattle.cap_source.specs.declared.contents.BlockContent.{BlockContent}
 use Rattle.cap_source.specs.declared.contents.BlockContent.TheVariants as contents
@@ -59,7 +59,8 @@ frame-at p total b within =
     ∙ ap (take p.captured) (drop-drop p.place 8 b)))
 
 -- a block that gives no packet
-no-packet : (file : ℕ) (progress : Progress) (block : Block) (body : List ℕ) (content : BlockContent) (rest : List Item)
+no-packet : (file : ℕ) (progress : SectionProgress) (block : Block) (body : List ℕ) (content : BlockContent)
+    (rest : List Item)
     → IsNoPacket content → items_at_block file progress block body (Ok content) rest ≡ rest
 no-packet file progress block body contents.Section rest h = refl
 no-packet file progress block body (contents.Interface described) rest h = refl
@@ -111,7 +112,7 @@ module _ (old : PushView) (section : Option Order) (b : List ℕ) (at : old.stag
           (drop block.total b ++ later)))) is
 
       -- and goes on behind it
-      goes-on : (progress : Progress) (new : PushView) (size : ℕ) (later : List ℕ) → size ≡ block.total
+      goes-on : (progress : SectionProgress) (new : PushView) (size : ℕ) (later : List ℕ) → size ≡ block.total
           → new ≡ behind_block old block progress
           → items_of_blocks old.file progress
           (block_items_from (Some block.order) old.tail old.file (old.offset + block.total)
@@ -283,7 +284,7 @@ module _ (old : PushView) (block : Block) (left : ℕ) (b : List ℕ) (at : old.
 
 -- ---- the first block
 
-from-blocks : (tail : Tail) (file : ℕ) (progress : Progress) (offset : ℕ) (w : List ℕ) → is_pcapng w ≡ true
+from-blocks : (tail : Tail) (file : ℕ) (progress : SectionProgress) (offset : ℕ) (w : List ℕ) → is_pcapng w ≡ true
     → items_from tail file progress offset w
     ≡ items_of_blocks file progress (block_items_from None tail file offset w)
 unfolding items_from

@@ -11,7 +11,7 @@ use Rattle.cap_source.proofs.Blocks.{IsFit}
 use Rattle.cap_source.specs.declared.contents.BlockContent.{BlockContent}
 use Rattle.cap_source.specs.declared.contents.BlockContent.TheVariants as contents
 use Rattle.cap_source.specs.Fed.{PushView}
-use Rattle.cap_source.specs.Items.{Progress}
+use Rattle.cap_source.specs.Items.{SectionProgress}
 use Rattle.cap_source.specs.declared.fed.Stage.TheVariants.{Blocks}
 use Rattle.cap_source.specs.inner.FedSteps.{SaysWithin, behind_block}
 
@@ -36,7 +36,7 @@ says-within few block body (Ok contents.Other) size fit = tt
 says-within few block body (Err rule) size fit = tt
 
 -- it goes on behind a block
-pub behind-is : (old : PushView) (block : Block) (progress : Progress) (n o : ℕ) → block.offset ≡ o
+pub behind-is : (old : PushView) (block : Block) (progress : SectionProgress) (n o : ℕ) → block.offset ≡ o
     → n ≡ block.total
     → record {
       file = old.file;

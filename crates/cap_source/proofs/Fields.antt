@@ -32,7 +32,7 @@ use Rattle.cap_source.specs.TimeBases.{interface_in, interface_or, interface_at,
 use Rattle.cap_source.specs.Contents.{content_in}
 use Rattle.cap_source.specs.Feed.{Item}
 use Rattle.cap_source.specs.inner.Fields.{FitsInterface, ItemFits, FieldsFit}
-use Rattle.cap_source.specs.Items.{Progress, behind, items_at_block, items_of_blocks, items_of_stop, items_from}
+use Rattle.cap_source.specs.Items.{SectionProgress, behind, items_at_block, items_of_blocks, items_of_stop, items_from}
 use Rattle.cap_source.specs.Items.{pcap_items}
 use Rattle.cap_source.specs.Items.{interface_of}
 use Rattle.cap_source.specs.declared.contents.BlockContent.{BlockContent}
@@ -144,7 +144,8 @@ blocks-bytes zero section tail file offset bytes are = tt
 blocks-bytes (suc fuel) section tail file offset bytes are =
     search (blocks-bytes fuel, of_item, drop, AreBytes-take, AreBytes-drop)
 
-block-fits : (file few : ℕ) (progress : Progress) (block : Block) (body : List ℕ) (content : Result BlockContent Rule)
+block-fits : (file few : ℕ) (progress : SectionProgress) (block : Block) (body : List ℕ)
+    (content : Result BlockContent Rule)
     (items : List Item)
     → IfOk content (OfContent FitsInterface FitsPacket) → IsFit few body content
     → AllByRecursion FitsInterface progress.interfaces
@@ -156,7 +157,7 @@ block-fits file few progress block body content items fits within all rest =
 stop-fits : (stop : Stop) → AllByRecursion ItemFits (items_of_stop stop)
 stop-fits stop = grind arith
 
-blocks-fit : (file : ℕ) (progress : Progress) (items : List (pieces.PieceItem Block))
+blocks-fit : (file : ℕ) (progress : SectionProgress) (items : List (pieces.PieceItem Block))
     → AllByRecursion FitsInterface progress.interfaces
     → AllByRecursion IsOfBytes items → AllByRecursion ItemFits (items_of_blocks file progress items)
 unfolding items_of_blocks

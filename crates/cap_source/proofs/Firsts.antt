@@ -4,7 +4,7 @@ use Rattle.std.specs.Bool.{⊤}
 use Rattle.cap_bytes.specs.declared.faults.Fault.{Fault}
 use Rattle.cap_source.specs.Feed.{Knows, SameItems, FeedKeeps, GivesHead, KeepsItems, FindsPacket, FindsItem}
 use Rattle.cap_source.specs.declared.feeds.Head.{Head}
-use Rattle.cap_source.specs.Items.{Progress}
+use Rattle.cap_source.specs.Items.{SectionProgress}
 use Rattle.cap_source.specs.inner.FileState.{FileState, FileKeeps, file_feed, head_of, first_by, is_unbroken, LearnsOr}
 use Rattle.cap_source.specs.inner.FileState.{LearnsNext}
 use Rattle.cap_source.specs.inner.Readers.{reader_file_state, is_there}
@@ -17,7 +17,7 @@ pub knows : (old new : FileState) (known after : Option Peeked) (n : Peeked) →
 knows old new known after n whole is h = grind arith
 
 -- the first interface that was read is that of the file
-pub first_told : {R : Type 0} (old : FileState) (reader : Reader R) (p : Progress) (known after : Option Peeked)
+pub first_told : {R : Type 0} (old : FileState) (reader : Reader R) (p : SectionProgress) (known after : Option Peeked)
     (n : Peeked) → IsTrue (is_there reader)
     → after ≡ Some n → LearnsOr old known n (reader_file_state reader p) → IsTrue old.told
     → (reader_file_state reader p).noted ≡ first_by known old

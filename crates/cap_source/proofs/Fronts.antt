@@ -19,7 +19,7 @@ use Rattle.cap_blocks.proofs.Items.{items_from-none}
 use Rattle.cap_source.proofs.BlockFronts as blocks
 use Rattle.cap_source.proofs.Blocks.{content_same, ending_behind, frame_same, items_behind, packet_lent}
 use Rattle.cap_source.specs.Contents.{content_in}
-use Rattle.cap_source.specs.Items.{Progress, behind, ending_in, ending_with, items_at_block, items_of_blocks}
+use Rattle.cap_source.specs.Items.{SectionProgress, behind, ending_in, ending_with, items_at_block, items_of_blocks}
 use Rattle.cap_source.specs.Items.{meta_in, unless_faulty}
 use Rattle.cap_source.specs.Feed as feeds
 use Rattle.cap_source.specs.declared.contents.BlockContent.{BlockContent}
@@ -103,7 +103,7 @@ abbrev blocks_before : ReaderState Order → ℕ → List (PieceItem Block)
 blocks_before reader end = block_items_from reader.known reader.tail reader.file reader.offset
     (bytes_before end reader.offset reader.coming)
 
-module _ (file : ℕ) (old new : ReaderState Order) (p : Progress) (block : Block) (named : file ≡ old.file)
+module _ (file : ℕ) (old new : ReaderState Order) (p : SectionProgress) (block : Block) (named : file ≡ old.file)
     (g : GivesBlock old block new) (k : ReaderKeeps old new) (t : IsTrue old.told) where
   begins : IsTrue (is_some new.known)
   begins = rw g.gives.known_is refl
@@ -120,7 +120,7 @@ module _ (file : ℕ) (old new : ReaderState Order) (p : Progress) (block : Bloc
       ∙ blocks.size-given old.known old.tail old.file old.offset old.coming new.coming block (g.none t) (g.block_is t)
       (g.gives.coming_next t)
 
-  block-pass : (next : Option Peeked) (q : Progress)
+  block-pass : (next : Option Peeked) (q : SectionProgress)
       → ((end : ℕ) → new.offset ≤ end → items_of_blocks old.file p (blocks_before old end)
       ≡ items_from_next next (next_frame next new.lent) (items_of_blocks new.file q (blocks_before new end)))
       → ((end : ℕ) → new.offset ≤ end → ending_in p (blocks_before old end) ≡ ending_in q (blocks_before new end))
@@ -158,7 +158,7 @@ module _ (file : ℕ) (old new : ReaderState Order) (p : Progress) (block : Bloc
   by-content (Err rule) is items ending = tt
 
   -- after a block the file goes on, or a packet comes next
-  pub block-passed : (content : Result BlockContent Rule) (next : Option Peeked) (q : Progress)
+  pub block-passed : (content : Result BlockContent Rule) (next : Option Peeked) (q : SectionProgress)
       → content ≡ content_in p.interfaces block.kind block.order (unwrap_or new.lent [])
       → next ≡ next_at file p block content → q ≡ behind p content
       → IfTaken next (FrontsPass (pcapng_fronts old p) next (pcapng_fronts new q))
@@ -175,12 +175,12 @@ module _ (file : ℕ) (old new : ReaderState Order) (p : Progress) (block : Bloc
 pub none-before : (offset : ℕ) (bytes : List ℕ) → bytes_before offset offset bytes ≡ []
 none-before offset bytes = let none : offset - offset ≡ 0 = omega arith in ap (λ (n : ℕ). take n bytes) none
 
-ended-items : (file : ℕ) (p : Progress) (items : List (PieceItem Block)) → items ≡ stopped stops.End ∷ []
+ended-items : (file : ℕ) (p : SectionProgress) (items : List (PieceItem Block)) → items ≡ stopped stops.End ∷ []
     → (items_of_blocks file p items ≡ []) × (ending_in p items ≡ ending_with p false)
 unfolding items_of_blocks ending_in
 ended-items file p items is = rw is (refl, refl)
 
-no-blocks : (known : Option Order) (tail : Tail) (file offset : ℕ) (bytes : List ℕ) (p : Progress)
+no-blocks : (known : Option Order) (tail : Tail) (file offset : ℕ) (bytes : List ℕ) (p : SectionProgress)
     → IsTrue (is_some known)
     → (items_of_blocks file p (block_items_from known tail file offset (bytes_before offset offset bytes)) ≡ [])
     × (ending_in p (block_items_from known tail file offset (bytes_before offset offset bytes)) ≡ ending_with p false)
@@ -190,7 +190,8 @@ no-blocks (Some order) tail file offset bytes p is =
     ∙ items_from-none (Some order) tail file offset refl)
 
 -- a read fails in a block
-pub block-fails : (old new : ReaderState Order) (p : Progress) (file offset : ℕ) → ReaderBreaks old file offset new
+pub block-fails : (old new : ReaderState Order) (p : SectionProgress) (file offset : ℕ)
+    → ReaderBreaks old file offset new
     → old.broken ≡ None → FrontsFail (pcapng_fronts old p) offset (pcapng_fronts new p)
 block-fails old new p file offset b none =
     let at : offset ≡ old.offset = from_none old.broken (offset ≡ old.offset) none b.first in
@@ -207,7 +208,7 @@ block-fails old new p file offset b none =
       whole = λ n. ap (λ (e : FileEnd). e.ending.was_cut) (ends n).1;
     })
 
-pub block-fault : (old new : ReaderState Order) (p : Progress) (fault : Fault) (next : Option Peeked)
+pub block-fault : (old new : ReaderState Order) (p : SectionProgress) (fault : Fault) (next : Option Peeked)
     → GivesNextBlock old (Err fault) new
     → FrontsAnswer {A = ⊤} (pcapng_fronts old p) (Err fault) next (pcapng_fronts new p)
 block-fault old new p (Refused refusal) next g = tt

@@ -9,7 +9,7 @@ use Rattle.cap_source.specs.inner.FileState.{FileState, IfTaken, ReadsTo, FileTa
 use Rattle.cap_source.specs.inner.FileState.{StepsTo}
 use Rattle.cap_source.specs.inner.FileState.{FileAnswers}
 use Rattle.cap_source.specs.inner.FileState.{TakesShown, LearnsNext, IsSoundFile}
-use Rattle.cap_source.specs.Items.{Progress}
+use Rattle.cap_source.specs.Items.{SectionProgress}
 use Rattle.cap_source.specs.inner.Readers.{reader_file_state, is_stopped}
 use Rattle.cap_source.specs.declared.readers.Peeked.{Peeked}
 use Rattle.cap_source.specs.declared.readers.Peeked.TheVariants as peeks
@@ -51,7 +51,7 @@ IsSound-taken old new known after false i not k h same =
     (λ j. (sym (same refl).0 j, (not ∙ sym (same refl).1) j)) i
 
 -- a reader of which nothing is known has not come to an end
-pub free_of : {R : Type 0} (reader : Reader R) (p : Progress) (known : Option Peeked) → is_some known ≡ false
+pub free_of : {R : Type 0} (reader : Reader R) (p : SectionProgress) (known : Option Peeked) → is_some known ≡ false
     → IsSoundFile (reader_file_state reader p) known → is_stopped reader ≡ false
 free_of reader p (Some next) not i = grind arith
 free_of (readers.Unread window tail) p None not i = refl

@@ -16,7 +16,7 @@ use Rattle.cap_blocks.specs.Grammar.{obsolete_kind, simple_kind, enhanced_kind}
 use Rattle.cap_blocks.specs.OptionList.{options_of}
 use Rattle.cap_blocks.specs.declared.blocks.Block.{Block}
 use Rattle.cap_source.specs.Contents.{of_body, timed_in, simple_in, described, content_in}
-use Rattle.cap_source.specs.Items.{Progress, fresh, first_or, after, behind, items_at_block, items_of_blocks}
+use Rattle.cap_source.specs.Items.{SectionProgress, fresh, first_or, after, behind, items_at_block, items_of_blocks}
 use Rattle.cap_source.specs.Items.{ending_with, ending_in}
 use Rattle.cap_source.specs.Items.{unless_faulty, unless_item, first_in}
 use Rattle.cap_source.specs.inner.Places.{Standing, is_header, is_interface, is_other, is_named_interface, told}
@@ -173,7 +173,8 @@ counted-one : (n m : ℕ) (b : Bool) → n ≡ m + cond b 1 0 → b ≡ true →
 counted-one n m b is one = sym (subst (λ b. n ≡ m + cond b 1 0) one is)
 
 -- two are the same if each of the five is
-same : {p q : Progress} → p.interfaces ≡ q.interfaces → p.base ≡ q.base → p.skipped ≡ q.skipped → p.named ≡ q.named
+same : {p q : SectionProgress} → p.interfaces ≡ q.interfaces → p.base ≡ q.base → p.skipped ≡ q.skipped
+    → p.named ≡ q.named
     → p.first ≡ q.first → p ≡ q
 same a b c d e = λ i. record { interfaces = a i; base = b i; skipped = c i; named = d i; first = e i }
 
@@ -233,10 +234,11 @@ step before b content t =
 -- ---- the laws, from any blocks on
 
 -- what comes of a block and of those behind it, in a way that needs these only if the block breaks no rule
-module _ {A : Type 0} (at : Progress → Result BlockContent Rule → A → A)
-    (at-faulty : (p : Progress) (rule : Rule) (x y : A)
+module _ {A : Type 0} (at : SectionProgress → Result BlockContent Rule → A → A)
+    (at-faulty : (p : SectionProgress) (rule : Rule) (x y : A)
     → at p (Err rule) x ≡ at p (Err rule) y) where
-  one : (before : List Standing) (b : Standing) (content : Result BlockContent Rule) (later : Progress → A) (there : A)
+  one : (before : List Standing) (b : Standing) (content : Result BlockContent Rule) (later : SectionProgress → A)
+      (there : A)
       → IfOk content (TellsOf b) → later (known_behind (before ++ b ∷ [])) ≡ there
       → at (known_behind before) content (later (behind (known_behind before) content))
       ≡ at (known_behind before) content there

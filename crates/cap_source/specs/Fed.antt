@@ -9,7 +9,7 @@ use Rattle.cap_bytes.specs.declared.faults.Rule.TheVariants.{BlockTrailer, Cut}
 use Rattle.cap_bytes.specs.declared.faults.Tail.{Tail}
 use Rattle.cap_pcap.specs.Split.{record_items_from}
 use Rattle.cap_source.specs.Feed.{Item, refused}
-use Rattle.cap_source.specs.Items.{Progress, after, interface_of, items_from, items_of_blocks, items_of_stop}
+use Rattle.cap_source.specs.Items.{SectionProgress, after, interface_of, items_from, items_of_blocks, items_of_stop}
 use Rattle.cap_source.specs.Items.{pcap_items}
 use Rattle.cap_source.specs.declared.contents.BlockContent.TheVariants as contents
 use Rattle.cap_source.specs.declared.fed.Stage.{Stage}
@@ -24,10 +24,10 @@ pub record PushView : Type 0 where
   pub ended : Bool
   pub offset : ℕ
   pub stage : Stage
-  pub progress : Progress
+  pub progress : SectionProgress
 
 -- the items of a pcapng file from within a block on that is skipped, whose trailer comes after `left` of these bytes
-unfoldable pub skipped_items : ℕ → Tail → Progress → Block → ℕ → List ℕ → List Item
+unfoldable pub skipped_items : ℕ → Tail → SectionProgress → Block → ℕ → List ℕ → List Item
 skipped_items file tail progress block left bytes =
     if nat_lt (length bytes) (left + 4) then items_of_stop (stop_by true tail file block.offset Cut) else
     if number block.order 4 (drop left bytes) == block.total

@@ -1,6 +1,6 @@
 //! What comes next of a pcap file.
 ghost use Rattle.std.specs.Prelude.{◌≡◌, IsTrue, IfOk, None, Some, false};
-ghost use Rattle.cap_source.specs.Items.{Progress, resolution_of_unit, interface_of, pcap_ending_with, meta_of};
+ghost use Rattle.cap_source.specs.Items.{SectionProgress, resolution_of_unit, interface_of, pcap_ending_with, meta_of};
 ghost use Rattle.cap_source.specs.inner.FileState.{FileAnswers, TakesShown, FileKeeps, IfTaken, FileTakes, noted_by};
 ghost use Rattle.cap_source.specs.inner.FileState.{pcap_state};
 ghost use Rattle.cap_source.specs.inner.Fronts.{FrontsAnswer, FrontsPass, pcap_fronts};
@@ -82,11 +82,11 @@ pub fn noted_of_pcap<R: Source>(reader: &PcapReader<R>) -> Option<Interface>
 #[inline(always)]
 pub fn try_next_buffered<R: Source>(reader: &mut PcapReader<R>, known: &mut PeekSlot) -> bool
     requires unknown { known.old ≡ None }
-    ensures answer { (progress : Progress) → TakesShown (pcap_state reader.old progress) result known.new
+    ensures answer { (progress : SectionProgress) → TakesShown (pcap_state reader.old progress) result known.new
         (pcap_state reader.new progress) }
-    ensures reaches { (progress : Progress) → IsTrue result
+    ensures reaches { (progress : SectionProgress) → IsTrue result
         → FileTakes (pcap_state reader.old progress) (pcap_state reader.new progress) }
-    ensures keeps { (progress : Progress) → FileKeeps (pcap_state reader.old progress)
+    ensures keeps { (progress : SectionProgress) → FileKeeps (pcap_state reader.old progress)
         (pcap_state reader.new progress) }
     ensures fronts { IsTrue reader.old.told → IsTrue result
         → IfTaken known.new (FrontsPass (pcap_fronts reader.old) known.new (pcap_fronts reader.new)) }
@@ -115,11 +115,11 @@ fn next_record_of<R: Source>(
     requires unknown { known.old ≡ None }
     requires header { reader.old.known ≡ Some header }
     requires free { reader.old.stop ≡ None }
-    ensures answer { (progress : Progress) → FileAnswers (pcap_state reader.old progress) result known.new
+    ensures answer { (progress : SectionProgress) → FileAnswers (pcap_state reader.old progress) result known.new
         (pcap_state reader.new progress) }
-    ensures reaches { (progress : Progress) → IfOk result
+    ensures reaches { (progress : SectionProgress) → IfOk result
         (λ _. IfTaken known.new (FileTakes (pcap_state reader.old progress) (pcap_state reader.new progress))) }
-    ensures keeps { (progress : Progress) → FileKeeps (pcap_state reader.old progress)
+    ensures keeps { (progress : SectionProgress) → FileKeeps (pcap_state reader.old progress)
         (pcap_state reader.new progress) }
     ensures fronts { IsTrue reader.old.told
         → FrontsAnswer (pcap_fronts reader.old) result known.new (pcap_fronts reader.new) }
@@ -149,11 +149,11 @@ pub fn next_of_pcap<R: Source>(
 ) -> Result<(), Fault>
     requires unknown { known.old ≡ None }
     requires free { reader.old.stop ≡ None }
-    ensures answer { (progress : Progress) → FileAnswers (pcap_state reader.old progress) result known.new
+    ensures answer { (progress : SectionProgress) → FileAnswers (pcap_state reader.old progress) result known.new
         (pcap_state reader.new progress) }
-    ensures reaches { (progress : Progress) → IfOk result
+    ensures reaches { (progress : SectionProgress) → IfOk result
         (λ _. IfTaken known.new (FileTakes (pcap_state reader.old progress) (pcap_state reader.new progress))) }
-    ensures keeps { (progress : Progress) → FileKeeps (pcap_state reader.old progress)
+    ensures keeps { (progress : SectionProgress) → FileKeeps (pcap_state reader.old progress)
         (pcap_state reader.new progress) }
     ensures fronts { IsTrue reader.old.told
         → FrontsAnswer (pcap_fronts reader.old) result known.new (pcap_fronts reader.new) }

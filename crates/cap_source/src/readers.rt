@@ -1,7 +1,7 @@
 //! What a reader of a file of either format is, and what it lends.
 ghost use Rattle.std.specs.Prelude.{◌≡◌, ◌≤◌, IsTrue, IsSome, Some};
 ghost use Rattle.cap_source.specs.Feed.{IsLast, IsPacket};
-ghost use Rattle.cap_source.specs.Items.{Progress};
+ghost use Rattle.cap_source.specs.Items.{SectionProgress};
 ghost use Rattle.cap_source.specs.inner.FileState.{next_head, lent_end, lent_length, next_frame, ending_by};
 ghost use Rattle.cap_source.specs.inner.SectionState.{progress_of};
 ghost use Rattle.cap_source.specs.inner.Readers.{reader_file_state, is_there, lent_of};
@@ -91,7 +91,7 @@ pub fn last_of(next: Option<Peeked>) -> FileEnd
 /// The number of a file.
 pub fn number_of<R: Source>(reader: &Reader<R>) -> u32
     requires { IsTrue (is_there reader.now) }
-    ensures { (progress : Progress) → result ≡ (reader_file_state reader.now progress).file }
+    ensures { (progress : SectionProgress) → result ≡ (reader_file_state reader.now progress).file }
 {
     match reader {
         Reader::Unread(window, _) => window.file(),
@@ -117,7 +117,7 @@ pub fn noted_of<R: Source>(reader: &Reader<R>, reached: &SectionState) -> Option
 /// How many bytes are kept of a file.
 pub fn held_of<R: Source>(reader: &Reader<R>) -> u64
     requires { IsTrue (is_there reader.now) }
-    ensures { (progress : Progress) → result ≡ (reader_file_state reader.now progress).held }
+    ensures { (progress : SectionProgress) → result ≡ (reader_file_state reader.now progress).held }
 {
     match reader {
         Reader::Unread(window, _) => window.held(),
@@ -130,7 +130,7 @@ pub fn held_of<R: Source>(reader: &Reader<R>) -> u64
 /// Whether a file's device has failed.
 pub fn failed_of<R: Source>(reader: &Reader<R>) -> bool
     requires { IsTrue (is_there reader.now) }
-    ensures { (progress : Progress) → result ≡ (reader_file_state reader.now progress).failed }
+    ensures { (progress : SectionProgress) → result ≡ (reader_file_state reader.now progress).failed }
 {
     match reader {
         Reader::Unread(window, _) => window.failed(),

@@ -18,12 +18,12 @@ use Rattle.cap_talks.specs.declared.table.rows.TalkKey.{TalkKey}
 use Rattle.cap_talks.specs.declared.table.rows.TalkRow.{TalkRow}
 use Rattle.cap_talks.specs.declared.table.units.TimedFrame.{TimedFrame}
 use Rattle.cap_talks.specs.declared.table.units.CountedUnit.{CountedUnit}
-use Rattle.cap_talks.specs.declared.table.units.End.{End}
+use Rattle.cap_talks.specs.declared.table.units.Endpoint.{Endpoint}
 
 pub and_true : (x y : Bool) → x ≡ true → y ≡ true → (x && y) ≡ true
 and_true x y h k = ap (λ b. b && y) h ∙ k
 
-pub same_end-self : (a : End) → same_end a a ≡ true
+pub same_end-self : (a : Endpoint) → same_end a a ≡ true
 same_end-self a = grind (arith, and_true, eq-eqb)
 
 pub same_talk-self : (a : TalkKey) → same_talk a a ≡ true

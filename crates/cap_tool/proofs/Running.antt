@@ -9,14 +9,14 @@ use Rattle.cap_tool.specs.Outlets.{Outgoing}
 use Rattle.cap_tool.specs.Outcomes.{ends_by}
 use Rattle.cap_tool.specs.Runs.{Runs, RunsJob, RunsWhich, StopsFirst, ended_as, is_check}
 use Rattle.cap_tool.specs.declared.outcomes.Outcome.TheVariants as outcomes
-use Rattle.cap_tool.specs.declared.outcomes.Stop.{Stop}
+use Rattle.cap_tool.specs.declared.outcomes.RunStop.{RunStop}
 use Rattle.cap_tool.specs.declared.regular.FileId.{FileId}
 
 -- what was run is what its task says
 pub runs-which : {R W N : Type 0} (gives : List ℕ → Option R → Type 0) (known : R → Opened)
-    (makes : List (Option FileId) → Result (W × N) Stop → Type 0) (sent : W → Outgoing)
-    (commits : N → Result DroppedInfo Stop → Result DroppedInfo Stop → Type 0) (lacks_input : Bool) (job : Job)
-    (result : Result DroppedInfo Stop) (answer which : Bool)
+    (makes : List (Option FileId) → Result (W × N) RunStop → Type 0) (sent : W → Outgoing)
+    (commits : N → Result DroppedInfo RunStop → Result DroppedInfo RunStop → Type 0) (lacks_input : Bool) (job : Job)
+    (result : Result DroppedInfo RunStop) (answer which : Bool)
     → answer ≡ is_check job.task → answer ≡ which
     → StopsFirst gives makes lacks_input job result ⊎ RunsWhich which gives known makes sent commits job result
     → Runs gives known makes sent commits lacks_input job result
@@ -26,7 +26,7 @@ runs-which gives known makes sent commits lacks_input job result answer which is
 
 -- A job was done, and why its run stopped is known better.
 pub RunsJob-as : (job : Job) (fails : List Bool) (files : List (List ℕ)) (old : List ℕ)
-    (ended known : Result DroppedInfo Stop)
+    (ended known : Result DroppedInfo RunStop)
     (new waiting : List ℕ) → ended_as known ≡ ended_as ended
     → RunsJob job fails files old ended new waiting → RunsJob job fails files old known new waiting
 RunsJob-as job fails files old ended known new waiting same ran = record {

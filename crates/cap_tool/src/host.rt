@@ -9,7 +9,7 @@ use crate::hints::hint;
 use crate::left::{Told, left_lines};
 use crate::objects::tell_in;
 use crate::openers::Opener;
-use crate::outcomes::{Outcome, Stop, status_of, tell};
+use crate::outcomes::{Outcome, RunStop, status_of, tell};
 use crate::outlets::Buffered;
 use crate::progress::Progress;
 use crate::progress_devices::ProgressDevice;
@@ -125,7 +125,7 @@ fn tell_job(
 fn explain<R: Files<File = File> + AllocGlobal>(
     rt: &R,
     job: Option<&Job<'_>>,
-    stop: &Stop,
+    stop: &RunStop,
     told: &Told,
     faults: &mut Tracked<Stderr>,
 ) {
@@ -171,7 +171,7 @@ impl<'a, R: Files<File = File> + Clock + AllocGlobal> System for Host<'a, R> {
             ProgressDevice<'a, OutputHandle<'a>, R>,
             Option<AtomicOutput>,
         ),
-        Stop,
+        RunStop,
     > {
         let alloc = self.rt.alloc();
         let (output, beside) = create_for(self.rt, alloc, job, self.streams.output, inputs)?;
@@ -183,7 +183,7 @@ impl<'a, R: Files<File = File> + Clock + AllocGlobal> System for Host<'a, R> {
                 if let Some(beside) = beside {
                     beside.remove(self.rt);
                 }
-                return Err(Stop::from(outcome));
+                return Err(RunStop::from(outcome));
             }
         }
         self.progress.begin(screen, is_terminal, size);
@@ -196,8 +196,8 @@ impl<'a, R: Files<File = File> + Clock + AllocGlobal> System for Host<'a, R> {
     fn commit(
         &self,
         name: Option<AtomicOutput>,
-        answer: Result<DroppedInfo, Stop>,
-    ) -> Result<DroppedInfo, Stop> {
+        answer: Result<DroppedInfo, RunStop>,
+    ) -> Result<DroppedInfo, RunStop> {
         self.progress.wipe();
         match name {
             Some(beside) => beside.commit(self.rt, answer),
@@ -205,12 +205,12 @@ impl<'a, R: Files<File = File> + Clock + AllocGlobal> System for Host<'a, R> {
         }
     }
 
-    fn tell(&self, stop: Stop, job: Option<&Job<'_>>, said: &[u8], told: &Told) -> Outcome {
+    fn tell(&self, stop: RunStop, job: Option<&Job<'_>>, said: &[u8], told: &Told) -> Outcome {
         let mut faults = Tracked::new(self.streams.faults);
         let mut output = Tracked::new(self.streams.output);
         let outcome = tell_job(stop.outcome, said, job, &mut output, &mut faults);
         if told.counts {
-            let stop = Stop {
+            let stop = RunStop {
                 outcome,
                 cause: stop.cause,
             };

@@ -34,7 +34,7 @@ pub use crate::kinds::{Kind, kind_at, kind_of};
 pub use crate::left::{Told, left_lines};
 pub use crate::objects::{outcome_object, tell_in};
 pub use crate::openers::Opener;
-pub use crate::outcomes::{Outcome, Stop, end_of, outcome_line, status_of, tell};
+pub use crate::outcomes::{Outcome, RunStop, end_of, outcome_line, status_of, tell};
 pub use crate::outlets::{Buffered, Outlet};
 pub use crate::progress::{Progress, progress_line};
 pub use crate::progress_devices::ProgressDevice;

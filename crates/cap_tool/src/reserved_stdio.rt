@@ -3,7 +3,7 @@ ghost use Rattle.std.specs.Prelude.{◌≡◌, ◌≤◌, Ok, IfErr, IsFalse, le
 ghost use Rattle.cap_tool.specs.Streams.{StopsAtDash};
 
 use crate::causes::Cause;
-use crate::outcomes::{Outcome, Stop};
+use crate::outcomes::{Outcome, RunStop};
 use std::fs::{File, OpenOptions};
 use std::io::{Stderr, Stdin, Stdout};
 use std::os::fd::AsFd;
@@ -76,7 +76,7 @@ impl ReservedStdio {
 
 /// Refuses to read standard input, `-`, if it was closed: returns `Outcome::Open` with the number, from 1, of the
 /// file that is so named.
-pub fn check_input(has_no_input: bool, names: &[&str]) -> Result<(), Stop>
+pub fn check_input(has_no_input: bool, names: &[&str]) -> Result<(), RunStop>
     requires most { length names.now ≤ 4294967295 }
     ensures open { IsFalse has_no_input → result ≡ Ok tt }
     ensures stops { IfErr result (λ stop. StopsAtDash (map (λ n. n.now) names.now) stop.outcome) }
@@ -87,7 +87,7 @@ pub fn check_input(has_no_input: bool, names: &[&str]) -> Result<(), Stop>
     }
     for (place, name) in names.iter().enumerate() {
         if *name == "-" {
-            return Err(Stop {
+            return Err(RunStop {
                 outcome: Outcome::Open(place as u32 + 1),
                 cause: Cause::Closed,
             });

@@ -13,12 +13,12 @@ ghost use Rattle.cap_commands.specs.Jobs.{finding_in};
 ghost use Rattle.cap_tool.specs.Outcomes.{is_help};
 ghost use Rattle.cap_tool.specs.Runs.{EndsBy, Runs, RunsChecks, RunsFiles, RunsJob, StopsFirst};
 ghost use Rattle.cap_tool.specs.Runs.{ended_as, is_check, names_of, outcome_after};
-ghost use Rattle.cap_tool.specs.declared.outcomes.Stop.{Stop};
+ghost use Rattle.cap_tool.specs.declared.outcomes.RunStop.{RunStop};
 
 use crate::causes::Cause;
 use crate::checks::check_named;
 use crate::left::Told;
-use crate::outcomes::{Outcome, Stop, end_of};
+use crate::outcomes::{Outcome, RunStop, end_of};
 use crate::outlets::Outlet;
 use crate::reserved_stdio::check_input;
 use crate::streams::{Inputs, open_all};
@@ -34,7 +34,7 @@ fn end_in<W: Outlet>(
     answer: Result<Finding, Fault>,
     left: DroppedInfo,
     writer: &mut W,
-) -> Result<DroppedInfo, Stop>
+) -> Result<DroppedInfo, RunStop>
     ensures ends { IsTrue (W.tells_held writer.old) → EndsBy answer (W.waiting writer.new) result }
     ensures held { IsTrue (W.tells_held writer.old) → W.held writer.new ≡ W.held writer.old }
     ensures help { IsFalse (is_help (outcome_after result)) }
@@ -43,7 +43,7 @@ fn end_in<W: Outlet>(
 {
     match end_of(answer, writer.flush()) {
         Ok(()) => Ok(left),
-        Err(outcome) => Err(Stop {
+        Err(outcome) => Err(RunStop {
             outcome,
             cause: Cause::of_error(writer.error()),
         }),
@@ -70,7 +70,7 @@ pub fn run_job<R: Source, W: Outlet>(
     sources: Vec<R>,
     counts: bool,
     writer: &mut W,
-) -> Result<DroppedInfo, Stop>
+) -> Result<DroppedInfo, RunStop>
     requires whole { IsWholeJob job.now }
     requires sources { vec_len sources ≡ vec_len job.now.files }
     ensures runs { IsTrue (list_all R.tells_coming sources.items) → IsTrue (W.tells_held writer.old)
@@ -90,7 +90,7 @@ fn open_inputs<S: System>(
     system: &S,
     alloc: Global,
     job: &Job<'_>,
-) -> Result<Inputs<S::Reader>, Stop>
+) -> Result<Inputs<S::Reader>, RunStop>
     requires { IsWholeJob job.now }
     ensures opened { IfOk result (λ inputs. AreGiven (S.gives system.now) (names_of job.now)
         (map Some inputs.sources.items)) }
@@ -112,14 +112,17 @@ fn is_folder(folders: &[bool], file: u32) -> bool {
 }
 
 // How a run ended, with the cause of a read that failed: the file is a folder.
-fn with_read_cause(ended: Result<DroppedInfo, Stop>, folders: &[bool]) -> Result<DroppedInfo, Stop>
+fn with_read_cause(
+    ended: Result<DroppedInfo, RunStop>,
+    folders: &[bool],
+) -> Result<DroppedInfo, RunStop>
     ensures ended { ended_as result ≡ ended_as ended }
     ensures left { IfOk ended (λ left. result ≡ Ok left) }
 {
     match ended {
         Ok(left) => Ok(left),
         Err(stop) => match stop.outcome {
-            Outcome::Fault(Fault::Read { file, .. }) if is_folder(folders, file) => Err(Stop {
+            Outcome::Fault(Fault::Read { file, .. }) if is_folder(folders, file) => Err(RunStop {
                 outcome: stop.outcome,
                 cause: Cause::Folder,
             }),
@@ -134,7 +137,7 @@ fn run_files<S: System>(
     alloc: Global,
     job: &Job<'_>,
     counts: bool,
-) -> Result<DroppedInfo, Stop>
+) -> Result<DroppedInfo, RunStop>
     requires { IsWholeJob job.now }
     ensures runs { StopsFirst (S.gives system.now) (S.makes system.now job.now) (S.lacks_input system.now) job.now
         result
@@ -156,7 +159,7 @@ fn run_files<S: System>(
 }
 
 // Does `check`, whose files are opened one after another once its output is created.
-fn run_checks<S: System>(system: &S, alloc: Global, job: &Job<'_>) -> Result<DroppedInfo, Stop>
+fn run_checks<S: System>(system: &S, alloc: Global, job: &Job<'_>) -> Result<DroppedInfo, RunStop>
     requires { IsWholeJob job.now }
     ensures runs { StopsFirst (S.gives system.now) (S.makes system.now job.now) (S.lacks_input system.now) job.now
         result
@@ -193,7 +196,7 @@ fn run_task<S: System>(
     alloc: Global,
     job: &Job<'_>,
     counts: bool,
-) -> Result<DroppedInfo, Stop>
+) -> Result<DroppedInfo, RunStop>
     requires { IsWholeJob job.now }
     ensures runs { Runs (S.gives system.now) (λ s. record {
       told = S.Reader.tells_coming s;
@@ -214,12 +217,12 @@ fn run_task<S: System>(
 }
 
 // How a run ended, and what it left out: nothing if it isn't done.
-fn end_of_run(answer: Result<DroppedInfo, Stop>) -> (Stop, DroppedInfo)
+fn end_of_run(answer: Result<DroppedInfo, RunStop>) -> (RunStop, DroppedInfo)
     ensures outcome { result.0.outcome ≡ outcome_after answer }
     ensures left { IfOk answer (λ left. result.1 ≡ left) }
 {
     match answer {
-        Ok(left) => (Stop::from(Outcome::Done), left),
+        Ok(left) => (RunStop::from(Outcome::Done), left),
         Err(stop) => (stop, NOTHING_LEFT),
     }
 }
@@ -227,7 +230,7 @@ fn end_of_run(answer: Result<DroppedInfo, Stop>) -> (Stop, DroppedInfo)
 /// Does a job over a system, and tells how it ended: it returns that outcome.
 pub fn do_job<S: System>(system: &S, alloc: Global, job: &Job<'_>) -> Outcome
     requires { IsWholeJob job.now }
-    ensures { (ended : Result DroppedInfo Stop) × Runs (S.gives system.now) (λ s. record {
+    ensures { (ended : Result DroppedInfo RunStop) × Runs (S.gives system.now) (λ s. record {
       told = S.Reader.tells_coming s;
       bytes = S.Reader.coming s;
       can_fail = S.Reader.can_fail s;
@@ -265,7 +268,7 @@ fn tell_fault<S: System, T: AsStr>(
         counts: asks(words) || system.explains(),
         left: NOTHING_LEFT,
     };
-    let stop = Stop::from(Outcome::Line(fault));
+    let stop = RunStop::from(Outcome::Line(fault));
     match message(alloc, words) {
         Some(text) => system.tell(stop, None, text.as_bytes(), &told),
         None => system.tell(stop, None, USAGE.as_bytes(), &told),
@@ -276,7 +279,7 @@ fn tell_fault<S: System, T: AsStr>(
 /// no job end as `parse` answers, unless help could not be written.
 pub fn run_words<S: System, T: AsStr>(system: &S, alloc: Global, words: &[T]) -> Outcome
     ensures { (parsed : Result Job LineFault) × Parses (map T.text words.now) parsed
-        × MatchResult parsed (λ job. (ended : Result DroppedInfo Stop) × Runs (S.gives system.now) (λ s. record {
+        × MatchResult parsed (λ job. (ended : Result DroppedInfo RunStop) × Runs (S.gives system.now) (λ s. record {
           told = S.Reader.tells_coming s;
           bytes = S.Reader.coming s;
           can_fail = S.Reader.can_fail s;
@@ -297,7 +300,7 @@ pub fn run_words<S: System, T: AsStr>(system: &S, alloc: Global, words: &[T]) ->
 pub fn tell_unread<S: System>(system: &S, fault: LineFault) -> Outcome
     ensures { IsFalse (is_help (Outcome.Line fault)) → result ≡ Outcome.Line fault }
 {
-    let stop = Stop::from(Outcome::Line(fault));
+    let stop = RunStop::from(Outcome::Line(fault));
     let told = Told {
         counts: false,
         left: NOTHING_LEFT,

@@ -3,12 +3,12 @@ ghost use Rattle.std.specs.Prelude.{◌≡◌, ◌⊎◌, Bool, List, Option, Re
 ghost use Rattle.cap_commands.specs.declared.left.DroppedInfo.{DroppedInfo};
 ghost use Rattle.cap_line.specs.declared.jobs.Job.{Job};
 ghost use Rattle.cap_tool.specs.Outcomes.{is_help};
-ghost use Rattle.cap_tool.specs.declared.outcomes.Stop.{Stop};
+ghost use Rattle.cap_tool.specs.declared.outcomes.RunStop.{RunStop};
 ghost use Rattle.cap_tool.specs.declared.regular.FileId.{FileId};
 
 use crate::left::Told;
 use crate::openers::Opener;
-use crate::outcomes::{Outcome, Stop};
+use crate::outcomes::{Outcome, RunStop};
 use crate::outlets::Outlet;
 use crate::regular::FileId;
 use cap_bytes::Fault;
@@ -27,10 +27,10 @@ pub trait System: Opener {
     ghost lacks_input: { Self → Bool };
 
     /// What the creation of a job's output may give, of a job that reads those regular files.
-    ghost makes: { Self → Job → List (Option FileId) → Result (Self.Writer × Self.Name) Stop → Type 0 };
+    ghost makes: { Self → Job → List (Option FileId) → Result (Self.Writer × Self.Name) RunStop → Type 0 };
 
     /// How a run may end whose job ended so, once its output is committed.
-    ghost commits: { Self → Self.Name → Result DroppedInfo Stop → Result DroppedInfo Stop → Type 0 };
+    ghost commits: { Self → Self.Name → Result DroppedInfo RunStop → Result DroppedInfo RunStop → Type 0 };
 
     /// Whether standard input is closed.
     fn has_no_input(&self) -> bool
@@ -46,7 +46,7 @@ pub trait System: Opener {
         job: &Job<'_>,
         inputs: &[Option<FileId>],
         size: Option<u64>,
-    ) -> Result<(Self::Writer, Self::Name), Stop>
+    ) -> Result<(Self::Writer, Self::Name), RunStop>
         ensures makes { makes self.now job.now inputs.now result }
         ensures stops { IfErr result (λ stop. (stop.outcome ≡ Outcome.Create)
             ⊎ (stop.outcome ≡ Outcome.Fault Fault.Memory)) };
@@ -56,8 +56,8 @@ pub trait System: Opener {
     fn commit(
         &self,
         name: Self::Name,
-        answer: Result<DroppedInfo, Stop>,
-    ) -> Result<DroppedInfo, Stop>
+        answer: Result<DroppedInfo, RunStop>,
+    ) -> Result<DroppedInfo, RunStop>
         ensures commits { commits self.now name answer result }
         ensures stopped { IsErr answer → result ≡ answer }
         ensures left { IfOk answer (λ left. IfOk result (λ committed. committed ≡ left)) }
@@ -65,6 +65,6 @@ pub trait System: Opener {
 
     /// Tells how a run ended, and more of it if that is asked for: `said` is what is printed of words that give no job.
     /// Returns how the program ends: as the run did, unless help could not be written.
-    fn tell(&self, stop: Stop, job: Option<&Job<'_>>, said: &[u8], told: &Told) -> Outcome
+    fn tell(&self, stop: RunStop, job: Option<&Job<'_>>, said: &[u8], told: &Told) -> Outcome
         ensures { IsFalse (is_help stop.outcome) → result ≡ stop.outcome };
 }

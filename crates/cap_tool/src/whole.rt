@@ -4,7 +4,7 @@ ghost use Rattle.cap_bytes.specs.declared.faults.Fault.TheVariants.{Write};
 ghost use Rattle.cap_tool.specs.Streams.{IsOutFile, StopsCreating};
 
 use crate::causes::Cause;
-use crate::outcomes::{Outcome, Stop};
+use crate::outcomes::{Outcome, RunStop};
 use crate::regular::{FileId, id_of, is_input, regular_of};
 use crate::streams::Output;
 use cap_bytes::Fault;
@@ -144,13 +144,13 @@ pub fn create_beside<R: Files<File = File>>(
     alloc: Global,
     name: &str,
     inputs: &[Option<FileId>],
-) -> Result<(Output, AtomicOutput), Stop>
+) -> Result<(Output, AtomicOutput), RunStop>
     ensures file { IfOk result (λ made. IsOutFile made.0) }
     ensures stops { IfErr result StopsCreating }
 {
     match open_beside(files, alloc, name, inputs) {
         Ok((file, beside)) => Ok((Output::File(file), beside)),
-        Err(cause) => Err(Stop::create(cause)),
+        Err(cause) => Err(RunStop::create(cause)),
     }
 }
 
@@ -171,8 +171,8 @@ impl AtomicOutput {
     pub fn commit<R: Files<File = File>>(
         &self,
         files: &R,
-        answer: Result<DroppedInfo, Stop>,
-    ) -> Result<DroppedInfo, Stop>
+        answer: Result<DroppedInfo, RunStop>,
+    ) -> Result<DroppedInfo, RunStop>
         ensures stopped { IsErr answer → result ≡ answer }
         ensures left { IfOk answer (λ left. IfOk result (λ committed. committed ≡ left)) }
         ensures done { IsOk answer → IfErr result (λ stop. stop.outcome ≡ Outcome.Fault Write) }
@@ -180,7 +180,7 @@ impl AtomicOutput {
         let stop = match answer {
             Ok(left) => match self.rename(files) {
                 Ok(()) => return Ok(left),
-                Err(error) => Stop {
+                Err(error) => RunStop {
                     outcome: Outcome::Fault(Fault::Write),
                     cause: Cause::from(error),
                 },

@@ -13,7 +13,7 @@ use Rattle.cap_bytes.specs.declared.stops.Stop.TheVariants as stops
 use Rattle.cap_source.specs.Fed.{PushView, MayBeFed, items_after}
 use Rattle.cap_source.specs.Feed.{Item, packet, refused}
 use Rattle.cap_source.specs.Contents.{content_in}
-use Rattle.cap_source.specs.Items.{Progress, after, meta_in}
+use Rattle.cap_source.specs.Items.{SectionProgress, after, meta_in}
 use Rattle.cap_source.specs.declared.contents.BlockContent.{BlockContent}
 use Rattle.cap_source.specs.declared.contents.BlockContent.TheVariants as contents
 use Rattle.cap_source.specs.declared.contents.BlockPacket.{BlockPacket}
@@ -79,7 +79,7 @@ BreaksOff old inside bytes rule result new =
     × BreaksBy old rule stop result new
 
 -- it goes on after a block of that order
-abbrev pub behind_block : PushView → Block → Progress → PushView
+abbrev pub behind_block : PushView → Block → SectionProgress → PushView
 behind_block c block progress =
     record {
       file = c.file;

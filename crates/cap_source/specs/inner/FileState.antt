@@ -21,7 +21,8 @@ use Rattle.cap_blocks.specs.declared.blocks.Block.{Block}
 use Rattle.cap_source.specs.declared.contents.BlockContent.{BlockContent}
 use Rattle.cap_source.specs.declared.packets.Meta.{Meta}
 use Rattle.cap_source.specs.declared.contents.BlockContent.TheVariants as contents
-use Rattle.cap_source.specs.Items.{Progress, meta_in, ending_with, items_of_blocks, ending_in, first_in, interface_of}
+use Rattle.cap_source.specs.Items.{SectionProgress, meta_in, ending_with, items_of_blocks, ending_in, first_in}
+use Rattle.cap_source.specs.Items.{interface_of}
 use Rattle.cap_source.specs.Items.{pcap_items, pcap_ending, unless_refused, items_from, ending_from, first_from}
 use Rattle.cap_source.specs.inner.SectionState.{counted_blocks}
 use Rattle.cap_source.specs.declared.feeds.FileEnd.{FileEnd}
@@ -56,7 +57,7 @@ pub record FileState : Type 0 where
   pub counted : ℕ
 
 -- a file of which nothing was read
-abbrev pub unread_state : WindowState → Tail → Progress → FileState
+abbrev pub unread_state : WindowState → Tail → SectionProgress → FileState
 unread_state window tail progress =
     record {
       file = window.file;
@@ -99,7 +100,7 @@ noted_by None = None
 noted_by (Some header) = Some (interface_of header)
 
 -- a pcap file
-abbrev pub pcap_state : ReaderState PcapHeader → Progress → FileState
+abbrev pub pcap_state : ReaderState PcapHeader → SectionProgress → FileState
 pcap_state reader progress =
     record {
       file = reader.file;
@@ -123,7 +124,7 @@ pcap_state reader progress =
     }
 
 -- a pcapng file
-abbrev pub pcapng_state : ReaderState Order → Progress → FileState
+abbrev pub pcapng_state : ReaderState Order → SectionProgress → FileState
 pcapng_state reader progress =
     record {
       file = reader.file;
@@ -380,7 +381,7 @@ FileSteps old (Err Write) after new = ⊥
 FileSteps old (Err Memory) after new = (after ≡ None) × FileWaits old new × (old.broken ≡ None)
 
 -- what comes next if a block says that, if anything does
-abbrev pub next_at : ℕ → Progress → Block → Result BlockContent Rule → Option Peeked
+abbrev pub next_at : ℕ → SectionProgress → Block → Result BlockContent Rule → Option Peeked
 next_at file progress block (Ok contents.Section) = None
 next_at file progress block (Ok (contents.Interface described)) = None
 next_at file progress block (Ok (contents.Packet p)) = Some (peeks.Packet (meta_in file progress block p) p.place)

@@ -12,7 +12,7 @@ use Rattle.cap_blocks.specs.Split.{block_items_from}
 use Rattle.cap_pcap.specs.inner.Reader.{record_items_at}
 use Rattle.cap_pcap.specs.declared.headers.PcapHeader.{PcapHeader}
 use Rattle.cap_source.specs.Feed.{Item, packet}
-use Rattle.cap_source.specs.Items.{Progress, ending_from, ending_in, ending_with, interface_of, items_from}
+use Rattle.cap_source.specs.Items.{SectionProgress, ending_from, ending_in, ending_with, interface_of, items_from}
 use Rattle.cap_source.specs.Items.{items_of_blocks, pcap_ending, pcap_ending_with, pcap_items}
 use Rattle.cap_source.specs.declared.feeds.FileEnd.{FileEnd}
 use Rattle.cap_source.specs.declared.feeds.Head.{Head}
@@ -43,7 +43,7 @@ abbrev pub bytes_before : ℕ → ℕ → List ℕ → List ℕ
 bytes_before end offset bytes = take (end - offset) bytes
 
 -- a file of which nothing was read
-abbrev pub unread_fronts : WindowState → Tail → Progress → Fronts
+abbrev pub unread_fronts : WindowState → Tail → SectionProgress → Fronts
 unread_fronts window tail progress =
     record {
       told = window.told;
@@ -82,7 +82,7 @@ pcap_fronts reader =
     }
 
 -- a pcapng file
-abbrev pub pcapng_fronts : ReaderState Order → Progress → Fronts
+abbrev pub pcapng_fronts : ReaderState Order → SectionProgress → Fronts
 pcapng_fronts reader progress =
     record {
       told = reader.told;
@@ -99,7 +99,7 @@ pcapng_fronts reader progress =
     }
 
 -- the reader that is on its way
-abbrev pub moved_fronts : Progress → Fronts
+abbrev pub moved_fronts : SectionProgress → Fronts
 moved_fronts progress =
     record {
       told = true;
@@ -113,7 +113,7 @@ moved_fronts progress =
       ending = λ end. ending_with progress false;
     }
 
-abbrev pub reader_fronts : {R : Type 0} → Reader R → Progress → Fronts
+abbrev pub reader_fronts : {R : Type 0} → Reader R → SectionProgress → Fronts
 reader_fronts (readers.Unread window tail) progress = unread_fronts window tail progress
 reader_fronts (readers.Pcap reader) progress = pcap_fronts reader
 reader_fronts (readers.Pcapng reader) progress = pcapng_fronts reader progress

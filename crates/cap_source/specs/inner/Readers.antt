@@ -8,7 +8,7 @@ use Rattle.cap_bytes.specs.inner.Reader.{opened_reader}
 use Rattle.cap_source.specs.Items.{is_pcapng}
 use Rattle.cap_bytes.specs.declared.formats.Format.{Format}
 use Rattle.cap_bytes.specs.declared.formats.Format.TheVariants.{Pcap, Pcapng}
-use Rattle.cap_source.specs.Items.{Progress, ending_with}
+use Rattle.cap_source.specs.Items.{SectionProgress, ending_with}
 use Rattle.cap_source.specs.inner.FileState.{FileState, FileFails, FileWaits, unread_state, pcap_state, pcapng_state}
 use Rattle.cap_source.specs.inner.SectionState.{has_room}
 use Rattle.cap_source.specs.declared.section_states.SectionState.{SectionState}
@@ -16,7 +16,7 @@ use Rattle.cap_source.specs.declared.readers.Reader.{Reader}
 use Rattle.cap_source.specs.declared.readers.Reader.TheVariants as readers
 
 -- the reader that is on its way has nothing to come
-abbrev pub moved_state : Progress → FileState
+abbrev pub moved_state : SectionProgress → FileState
 moved_state progress =
     record {
       file = 0;
@@ -38,7 +38,7 @@ moved_state progress =
       counted = 0;
     }
 
-abbrev pub reader_file_state : {R : Type 0} → Reader R → Progress → FileState
+abbrev pub reader_file_state : {R : Type 0} → Reader R → SectionProgress → FileState
 reader_file_state (readers.Unread window tail) progress = unread_state window tail progress
 reader_file_state (readers.Pcap reader) progress = pcap_state reader progress
 reader_file_state (readers.Pcapng reader) progress = pcapng_state reader progress

@@ -10,7 +10,7 @@ use Rattle.cap_talks.specs.table.Units.{end_cmp}
 use Rattle.cap_talks.specs.declared.table.rows.TalkKey.{TalkKey}
 use Rattle.cap_talks.specs.declared.table.rows.TalkRow.{TalkRow}
 use Rattle.cap_talks.specs.declared.table.units.CountedUnit.{CountedUnit}
-use Rattle.cap_talks.specs.declared.table.units.End.{End}
+use Rattle.cap_talks.specs.declared.table.units.Endpoint.{Endpoint}
 use Rattle.cap_talks.specs.declared.table.units.TimedFrame.{TimedFrame}
 use Rattle.cap_time.specs.declared.stamps.Stamp.{Stamp}
 
@@ -94,7 +94,7 @@ row_of units =
     }
 
 -- two keys name the same conversation
-abbrev pub same_end : End → End → Bool
+abbrev pub same_end : Endpoint → Endpoint → Bool
 same_end a b = (a.address == b.address) && (option_eq nat_eq a.port b.port)
 
 abbrev pub same_talk : TalkKey → TalkKey → Bool

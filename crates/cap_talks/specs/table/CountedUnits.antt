@@ -18,7 +18,7 @@ use Rattle.cap_talks.specs.table.Rows.{is_refused, talk_limit}
 use Rattle.cap_talks.specs.table.Conversations.{talk_key, rows_of}
 use Rattle.cap_talks.specs.table.Units.{ends_of}
 use Rattle.cap_talks.specs.declared.table.units.CountedUnit.{CountedUnit}
-use Rattle.cap_talks.specs.declared.table.units.End.{End}
+use Rattle.cap_talks.specs.declared.table.units.Endpoint.{Endpoint}
 use Rattle.cap_talks.specs.declared.table.units.TimedFrame.{TimedFrame}
 use Rattle.cap_time.specs.declared.stamps.Stamp.{Stamp}
 use Rattle.cap_talks.specs.table.Classes.{group_class, groups_of, is_class}
@@ -33,7 +33,7 @@ timed_frame (Some frame) = option_map (λ time. record { time = time; place = fr
 
 -- a unit between two ends, with the number of its frames, their bytes, and the first and the last of those that have a
 -- time
-abbrev pub unit_of : ℕ → ℕ → ℕ → Option TimedFrame → Option TimedFrame → End × End → CountedUnit
+abbrev pub unit_of : ℕ → ℕ → ℕ → Option TimedFrame → Option TimedFrame → Endpoint × Endpoint → CountedUnit
 unit_of protocol frames bytes first last ends =
     record {
       protocol = protocol;

@@ -9,7 +9,7 @@ use Rattle.cap_time.specs.Stamp.{printed_of}
 use Rattle.cap_talks.specs.table.Conversations.{Conversation}
 use Rattle.cap_talks.specs.declared.table.rows.TalkKey.{TalkKey}
 use Rattle.cap_talks.specs.declared.table.rows.TalkRow.{TalkRow}
-use Rattle.cap_talks.specs.declared.table.units.End.{End}
+use Rattle.cap_talks.specs.declared.table.units.Endpoint.{Endpoint}
 
 -- a protocol by its number (IANA)
 abbrev pub protocol_text : ℕ → List ℕ
@@ -31,7 +31,7 @@ port_facts None = []
 port_facts (Some port) = record { label = codes ":"; key = codes "port"; value = number port } ∷ []
 
 -- an end as `a.b.c.d:port` or `a.b.c.d`, with its name in JSON
-abbrev pub end_field : List ℕ → End → Field
+abbrev pub end_field : List ℕ → Endpoint → Field
 end_field key at =
     group key (record { label = codes " "; key = codes "address"; value = word (Some (address_text at.address)) })
     (port_facts at.port)

@@ -5,7 +5,7 @@ ghost use Rattle.cap_talks.specs.table.Conversations.{row_of};
 ghost use Rattle.cap_talks.specs.table.Rows.{delta_of, with_delta, with_frames, frames_of_row, bytes_of_row, row_frame};
 ghost use Rattle.cap_talks.specs.table.Rows.{is_earlier, is_after, is_in_order};
 
-use crate::table::units::{CountedUnit, End, TimedFrame};
+use crate::table::units::{CountedUnit, Endpoint, TimedFrame};
 use cap_time::Stamp;
 use std::cmp::Ordering;
 
@@ -15,9 +15,9 @@ pub struct TalkKey {
     /// The number of the protocol: 6 TCP, 17 UDP.
     pub protocol: u8,
     /// The lesser of the two ends.
-    pub lesser: End,
+    pub lesser: Endpoint,
     /// The other end, which is the same if a datagram goes from an end to itself.
-    pub greater: End,
+    pub greater: Endpoint,
 }
 
 /// What is counted of the units of a conversation. What a unit changes stands side by side, whichever way it goes, so

@@ -11,7 +11,7 @@ ghost use Rattle.cap_talks.specs.table.TalkLines.{talk_facts, talk_texts_in, tal
 
 use crate::table::conversations::Conversations;
 use crate::table::rows::{TalkKey, TalkRow};
-use crate::table::units::End;
+use crate::table::units::Endpoint;
 use cap_bytes::{Fault, Sink, put_all};
 use cap_print::{Form, Line};
 
@@ -61,7 +61,7 @@ fn put_port(line: &mut Line, form: Form, port: Option<u16>)
 }
 
 // Puts an end: its address, and its port if it has one.
-fn put_end(line: &mut Line, form: Form, key: &[u8], end: End)
+fn put_end(line: &mut Line, form: Form, key: &[u8], end: Endpoint)
     requires { length key.now + 47 ≤ room_in line.old }
     ensures text { text_in line.new ≡ fields_in form (end_field key.now end ∷ []) (text_in line.old) }
     ensures room { room_in line.old ≤ room_in line.new + length key.now + 47 }

@@ -6,7 +6,7 @@ use Rattle.cap_join.specs.Joiners.{Entry}
 use Rattle.cap_join.specs.inner.Ages.{IsDeadline, AreInTurn, AreUpTo}
 use Rattle.cap_join.proofs.Aging.{IsDeadline-first, AreInTurn-first, AreUpTo-first}
 use Rattle.cap_join.proofs.Tabling.{IsDistinct-first, drop-first}
-use Rattle.cap_join.proofs.tables.Table.make_place.Goals as goal
+use Rattle.cap_join.proofs.tables.GroupTable.make_place.Goals as goal
 
 pub invariant_of-self : goal.invariant_of-self
 invariant_of-self c =

@@ -1,7 +1,7 @@
 use Rattle.std.proofs.Common.{sym, subst, arith}
 use Rattle.cap_join.specs.inner.Ages.{AreInTurn, AreUpTo}
 use Rattle.cap_join.proofs.Aging.{live-all, AreInTurn-live, AreUpTo-live}
-use Rattle.cap_join.proofs.tables.Table.drop_old.Goals as goal
+use Rattle.cap_join.proofs.tables.GroupTable.drop_old.Goals as goal
 
 pub returns-then-not-is_past-clause-entries : goal.returns-then-not-is_past-clause-entries
 returns-then-not-is_past-clause-entries c = grind

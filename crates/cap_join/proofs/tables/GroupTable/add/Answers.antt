@@ -8,7 +8,7 @@ use Rattle.cap_join.specs.inner.Ages.{deadline_of, latest_of, is_in_turn, IsDead
 use Rattle.cap_join.proofs.Aging.{IsDeadline-remove_entry, AreInTurn-remove_entry, AreUpTo-remove_entry}
 use Rattle.cap_join.proofs.Aging.{IsDeadline-push, AreInTurn-push, AreUpTo-push}
 use Rattle.cap_join.proofs.Tabling.{IsDistinct-added}
-use Rattle.cap_join.proofs.tables.Table.add.Goals as goal
+use Rattle.cap_join.proofs.tables.GroupTable.add.Goals as goal
 
 pub invariant_of-self-2 : goal.invariant_of-self-2
 invariant_of-self-2 c =

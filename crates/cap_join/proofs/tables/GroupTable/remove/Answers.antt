@@ -6,7 +6,7 @@ use Rattle.cap_join.specs.Joiners.{Entry}
 use Rattle.cap_join.specs.inner.Ages.{IsDeadline, AreInTurn, AreUpTo}
 use Rattle.cap_join.proofs.Aging.{IsDeadline-remove_entry, AreInTurn-remove_entry, AreUpTo-remove_entry}
 use Rattle.cap_join.proofs.Tabling.{IsDistinct-remove_entry}
-use Rattle.cap_join.proofs.tables.Table.remove.Goals as goal
+use Rattle.cap_join.proofs.tables.GroupTable.remove.Goals as goal
 
 pub invariant_of-self : goal.invariant_of-self
 invariant_of-self c =

@@ -2,7 +2,7 @@ use Rattle.std.proofs.Common.{arith}
 use Rattle.cap_join.specs.inner.Incoming.{piece_in}
 use Rattle.cap_join.proofs.Aging.{IsDeadline-set_value, AreInTurn-set_value, AreUpTo-set_value}
 use Rattle.cap_join.proofs.Tabling.{keys_of-set_value, put_cases}
-use Rattle.cap_join.proofs.tables.Table.put_at.Goals as goal
+use Rattle.cap_join.proofs.tables.GroupTable.put_at.Goals as goal
 
 pub invariant_of-self : goal.invariant_of-self
 invariant_of-self c =
