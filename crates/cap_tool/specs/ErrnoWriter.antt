@@ -4,8 +4,8 @@ use Rattle.cap_tool.specs.declared.errno_writers.ErrnoWriter.{ErrnoWriter}
 
 -- what it writes to
 abbrev pub errno_inner : {W : Type 0} → ErrnoWriter W → W
-errno_inner remembered = remembered.inner
+errno_inner writer = writer.inner
 
 -- the number of its last error
 abbrev pub error_of : {W : Type 0} → ErrnoWriter W → Option ℤ
-error_of remembered = remembered.error
+error_of writer = writer.error

@@ -4,4 +4,4 @@ use Rattle.cap_tool.specs.declared.shared.OutputHandle.{OutputHandle}
 
 -- whether a write of it has failed
 abbrev pub handle_failed : OutputHandle → Bool
-handle_failed shared = shared.failed
+handle_failed handle = handle.failed

@@ -4,4 +4,4 @@ use Rattle.cap_tool.specs.declared.progress_devices.ProgressDevice.{ProgressDevi
 
 -- what it reads from or writes to
 abbrev pub progress_inner : {T C : Type 0} → ProgressDevice T C → T
-progress_inner watched = watched.inner
+progress_inner device = device.inner

@@ -130,6 +130,7 @@ fn explain<R: Files<File = File> + AllocGlobal>(
     faults: &mut Tracked<Stderr>,
 ) {
     let lines = left_lines(&stop.outcome, &told.left);
+    // a standard error that fails doesn't change how the run ends
     let _ = put_all(faults, lines.as_slice());
     if let Some(line) = hint(rt, rt.alloc(), stop, job) {
         let _ = put_all(faults, line.as_bytes());

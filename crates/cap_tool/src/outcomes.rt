@@ -201,6 +201,7 @@ pub fn tell<O: Sink, E: Sink>(
         },
         _ => outcome,
     };
+    // if this fails, no stream is left to report it on
     let _ = put_told(&ending, said, faults);
     ending
 }

@@ -8,9 +8,9 @@ use std::cell::RefCell;
 use std::io;
 use std::io::ErrorKind;
 
-/// A buffered output that is shared, once there is one: what writes to it goes through a `OutputHandle`, and what reads
-/// may write out what waits. No contract says what a cell holds, so `checks/program.sh` watches that each of these
-/// calls does what the same call of the output does.
+/// A buffered output that is shared, once there is one: what writes to it goes through an `OutputHandle`, and what
+/// reads may write out what waits. No contract says what a cell holds, so `checks/program.sh` watches that each of
+/// these calls does what the same call of the output does.
 #[derive(Drop)]
 pub struct SharedOutput {
     buffered: RefCell<Option<Buffered<Output>>>,
@@ -26,6 +26,7 @@ impl SharedOutput {
 
     /// Shares that output from now on.
     pub fn begin(&self, output: Buffered<Output>) {
+        // no call keeps its borrow of the cell, so this can't fail
         let _ = self.buffered.try_replace(Some(output));
     }
 

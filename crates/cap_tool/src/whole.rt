@@ -124,6 +124,7 @@ fn open_beside<R: Files<File = File>>(
     let target = real_name(files, alloc, name)?;
     let (file, name) = create_new(files, alloc, target.as_str())?;
     if let Some(permissions) = permissions {
+        // if they can't be set, the file keeps those of a new file
         let _ = file.set_permissions(permissions);
     }
     let beside = AtomicOutput { file, name, target };
@@ -163,11 +164,13 @@ impl AtomicOutput {
 
     /// Removes the file.
     pub fn remove<R: Files<File = File>>(&self, files: &R) {
+        // a file that can't be removed stays: the run reports its own failure
         let _ = fs::remove_file(files, self.name.as_str());
     }
 
-    /// Commits a run that ended so. If all was done, the file takes the name of the output, and the run ends by
-    /// `Fault::Write` if it can't. Else the file is removed, the output is as it was, and the run ends as it did.
+    /// Commits the output of a run that ended so. If all was done, the file takes the name of the output, and the run
+    /// ends by `Fault::Write` if it can't. Else the file is removed, the output is as it was, and the run ends as it
+    /// did.
     pub fn commit<R: Files<File = File>>(
         &self,
         files: &R,

@@ -138,6 +138,7 @@ impl Handle {
         ensures closed { OnErr result (IsClosed self.new.kept.value self.new.kept.at self.new.is_open) }
         ensures fault { IsOkUnless result Fault.Memory }
     {
+        // dropping what was held closes it, and frees its memory for the new value
         let _ = self.take(alloc);
         let value = Box::new(alloc, value)?;
         self.put(value);

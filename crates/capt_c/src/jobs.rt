@@ -284,5 +284,6 @@ pub extern "C" fn capt_text_close(alloc: Global, text: &mut Text)
     ensures { IsTextClosed text.new }
 {
     empty(text);
+    // dropping the text frees its memory
     let _ = text.handle.take(alloc);
 }

@@ -192,6 +192,7 @@ pub extern "C" fn capt_next_many(
 pub extern "C" fn capt_close(alloc: Global, handle: &mut Handle)
     ensures { IsClosed handle.new.kept.value handle.new.kept.at handle.new.is_open }
 {
+    // dropping what was held closes it
     let _ = handle.take(alloc);
 }
 

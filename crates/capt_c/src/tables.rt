@@ -32,6 +32,7 @@ fn open_table(
     ensures closed { OnErr result (IsClosed table.new.kept.value table.new.kept.at table.new.is_open) }
     ensures fault { IsOkUnless result Fault.Memory }
 {
+    // dropping what was held closes it, and frees its memory for the table
     let _ = table.take(alloc);
     let sources = slices(alloc, files)?;
     let merged = merge_files(alloc, sources, tail)?;

@@ -212,6 +212,7 @@ impl Tally {
         ensures none { self.new.waiting ≡ None }
         ensures place { self.new.place ≡ self.old.place + 1 }
     {
+        // only the contract speaks of the packet: its class says all that is counted
         let _ = packet;
         self.classes = with_frames(self.classes, class, 1);
         self.place += 1;
