@@ -116,8 +116,8 @@ backward-law times counts (packet meta frame ∷ items) clock =
     let rest = with_earlier (times ++ time ∷ []) (map (λ (m : Meta). meta_time m) (packets_of items)) in
     let below : is_backward counts.clock time ≡ goes_backward (times, time) =
     ap (λ (c : Option Stamp). is_backward c time) clock ∙ below-greatest times time in
-    let one = sum_by-cons (λ (placed : List (Option Stamp) × Option Stamp). cond (goes_backward placed) 1 0) (times, time)
-    rest in
+    let one = sum_by-cons (λ (placed : List (Option Stamp) × Option Stamp). cond (goes_backward placed) 1 0)
+    (times, time) rest in
     backward-law (times ++ time ∷ []) (with_checked counts meta) items
     (ap (λ (c : Option Stamp). later c time) clock ∙ sym (greatest-more None times time))
     ∙ (ap (λ (b : Bool). counts.backward + counted_if b + count_by goes_backward rest) below ∙ omega (arith, one))
