@@ -1,7 +1,7 @@
 -- How a file splits into its blocks and a rest, and what the rest is refused by.
 use Rattle.std.specs.Prelude.{◌≡◌, ◌≢◌, ◌==◌, ◌&&◌, ◌⊎◌, not, ℕ, ◌+◌, ◌-◌, ◌^◌, ◌≤◌, ◌<◌, nat_lt, max, if◌then◌else◌}
 use Rattle.std.specs.Prelude.{Bool, true, List, [], ◌∷◌, length, take, drop, slice_index, Option, Some, None, is_some}
-use Rattle.cap_bytes.specs.Items.{stop_where, PieceItem, Format, piece_items}
+use Rattle.cap_bytes.specs.Items.{stop_where, PieceItem, PieceFormat, piece_items}
 use Rattle.cap_bytes.specs.Number.{number}
 use Rattle.cap_bytes.specs.declared.faults.Rule.{Rule}
 use Rattle.cap_bytes.specs.declared.faults.Rule.TheVariants.{Magic, Version, Cut, BlockLength, BlockTrailer, OrderMagic}
@@ -118,7 +118,7 @@ block_stop_at section tail file offset bytes = stop_where (is_some section) tail
     (block_fault section offset bytes)
 
 -- how a file goes on, in a section of that order; before the first, in none
-abbrev pub block_format : Format (Option Order) Block
+abbrev pub block_format : PieceFormat (Option Order) Block
 block_format =
     record {
       stop = block_stop_at;

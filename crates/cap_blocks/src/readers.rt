@@ -86,7 +86,7 @@ fn take_packet<R: Source>(
     let Some(order) = section else {
         return None;
     };
-    if !window.shows(given + FRAME_SIZE) {
+    if !window.has_buffered(given + FRAME_SIZE) {
         return None;
     }
     let (_, bytes) = window.bytes().split_at(given);

@@ -1,7 +1,8 @@
 -- What ends the pieces of a file, and the items of some bytes by what stands at their front.
 use Rattle.std.proofs.Common.{◌≡◌, ℕ, suc, ◌+◌, ◌<◌, ◌==◌, ◌&&◌, Bool, true, false, List, [], ◌∷◌, length, drop, Option}
 use Rattle.std.proofs.Common.{Some, None, refl, arith, length-drop}
-use Rattle.cap_bytes.specs.Items.{stop_by, stop_where, IsStopAt, given, stopped, Format, piece_items_by, piece_items}
+use Rattle.cap_bytes.specs.Items.{stop_by, stop_where, IsStopAt, given, stopped, PieceFormat, piece_items_by}
+use Rattle.cap_bytes.specs.Items.{piece_items}
 use Rattle.cap_bytes.specs.declared.faults.Refusal.{Refusal}
 use Rattle.cap_bytes.specs.declared.faults.Rule.{Rule}
 use Rattle.cap_bytes.specs.declared.faults.Tail.{Tail}
@@ -50,12 +51,12 @@ pub IsStopAt-stop_by : (inside : Bool) (tail : Tail) (file offset : ℕ) (rule :
 IsStopAt-stop_by inside tail file offset rule = grind arith
 
 -- a piece takes bytes, which are there, if nothing ends the pieces
-abbrev pub Advances : {K P : Type 0} → Format K P → Type 0
+abbrev pub Advances : {K P : Type 0} → PieceFormat K P → Type 0
 Advances {K} {P} format =
     (known : K) (tail : Tail) (file offset : ℕ) (bytes : List ℕ) → format.stop known tail file offset bytes ≡ None
     → (0 < format.size known bytes) × (0 < length bytes)
 
-module _ {K P : Type 0} (format : Format K P) (tail : Tail) (file : ℕ) where
+module _ {K P : Type 0} (format : PieceFormat K P) (tail : Tail) (file : ℕ) where
   -- the items, by what ends the pieces
   items_by-stop : (n : ℕ) (known : K) (offset : ℕ) (bytes : List ℕ) (stop : Stop)
       → format.stop known tail file offset bytes ≡ Some stop

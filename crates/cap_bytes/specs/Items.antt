@@ -55,7 +55,7 @@ item_or None item rest = item ∷ rest
 -- How the files of a format go on, by what is known of one: what ends the pieces at some bytes, which begin at an
 -- offset, if anything does; and if nothing does, the piece at their front, the bytes that come with it, how many it
 -- takes, and what is known after it.
-pub record Format (K P : Type 0) : Type 0 where
+pub record PieceFormat (K P : Type 0) : Type 0 where
   pub stop : K → Tail → ℕ → ℕ → List ℕ → Option Stop
   pub piece : K → ℕ → List ℕ → P
   pub lent : K → List ℕ → List ℕ
@@ -63,7 +63,7 @@ pub record Format (K P : Type 0) : Type 0 where
   pub next : K → List ℕ → K
 
 -- the items of some bytes that begin at `offset`, as far as `fuel` goes
-unfoldable pub piece_items_by : {K P : Type 0} → Format K P → ℕ → K → Tail → ℕ → ℕ → List ℕ → List (PieceItem P)
+unfoldable pub piece_items_by : {K P : Type 0} → PieceFormat K P → ℕ → K → Tail → ℕ → ℕ → List ℕ → List (PieceItem P)
 piece_items_by format zero known tail file offset bytes = []
 piece_items_by format (suc fuel) known tail file offset bytes =
     let size = format.size known bytes in
@@ -72,7 +72,7 @@ piece_items_by format (suc fuel) known tail file offset bytes =
     (piece_items_by format fuel (format.next known bytes) tail file (offset + size) (drop size bytes))
 
 -- the items of some bytes that begin at `offset`
-unfoldable pub piece_items : {K P : Type 0} → Format K P → K → Tail → ℕ → ℕ → List ℕ → List (PieceItem P)
+unfoldable pub piece_items : {K P : Type 0} → PieceFormat K P → K → Tail → ℕ → ℕ → List ℕ → List (PieceItem P)
 piece_items format known tail file offset bytes = piece_items_by format (suc (length bytes)) known tail file offset
     bytes
 

@@ -85,7 +85,7 @@ impl<R: Source> Window<R> {
     /// Whether the next n bytes are shown already, and no read has failed: `need` returns true then, and changes
     /// nothing.
     #[inline(always)]
-    pub fn shows(&self, n: usize) -> bool
+    pub fn has_buffered(&self, n: usize) -> bool
         ensures { IsTrue result ↔ ((self.now.broken ≡ None) × (n ≤ length self.now.shown)) }
     {
         n <= self.end - self.start && self.broken.is_none()

@@ -5,7 +5,7 @@ use Rattle.cap_bytes.specs.declared.faults.Fault.{Fault}
 use Rattle.cap_bytes.specs.declared.faults.Fault.TheVariants.{Refused, Read, Write, Memory}
 use Rattle.cap_source.proofs.Fronts.{not-both}
 use Rattle.cap_source.specs.Feed.{Item, packet, refusal_of}
-use Rattle.cap_source.specs.Items.{Progress}
+use Rattle.cap_source.specs.Items.{SectionProgress}
 use Rattle.cap_source.specs.inner.Fronts.{Fronts, FrontsFail, FrontsFind, FrontsGive, MayEnd, reader_fronts}
 use Rattle.cap_source.specs.inner.Readers.{reader_file_state}
 use Rattle.cap_source.specs.declared.feeds.FileEnd.{FileEnd}
@@ -105,7 +105,7 @@ Reaching-stops old mid new checked Write i f none = tt
 Reaching-stops old mid new checked Memory i f none = tt
 
 -- whether its device tells its bytes, of the file and as it would be
-pub fronts-told : {R : Type 0} (reader : Reader R) (p : Progress)
+pub fronts-told : {R : Type 0} (reader : Reader R) (p : SectionProgress)
     → (reader_fronts reader p).told ≡ (reader_file_state reader p).told
 fronts-told (readers.Unread window tail) p = refl
 fronts-told (readers.Pcap reader) p = refl
@@ -124,7 +124,7 @@ next-fault old new head (Read file offset) f = f
 next-fault old new head Write f = tt
 next-fault old new head Memory f = tt
 
-pub told-kept : {R : Type 0} (old new : Reader R) (p q : Progress)
+pub told-kept : {R : Type 0} (old new : Reader R) (p q : SectionProgress)
     → (IsTrue (reader_file_state old p).told → IsTrue (reader_file_state new q).told)
     → IsTrue (reader_fronts old p).told → IsTrue (reader_fronts new q).told
 told-kept old new p q keeps t =

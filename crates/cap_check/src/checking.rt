@@ -31,7 +31,7 @@ fn next_of<R: Source>(capture: &mut Capture<R>) -> Result<Option<Meta>, Fault>
         → (⟦<Capture<R> as PacketFeed>⟧.feed capture.old).known ≡ None
         → FrontsNext (capture_fronts capture.old) result (capture_fronts capture.new) }
 {
-    if capture.has_packet()? {
+    if capture.peek()? {
         Ok(Some(*capture.packet()))
     } else {
         Ok(None)

@@ -26,42 +26,42 @@ abbrev pub taken : Option Stamp → Meta → List ℕ → Taken
 taken clock meta frame = record { clock = clock; meta = meta; frame = frame }
 
 -- What a packet is by itself: one of a class, a whole datagram with the captured part of its data, or a fragment.
-pub data Look : Type 0 where
-  plain : Class → Look
-  datagram : HeaderFields → List ℕ → Look
-  fragment : Piece → Look
+pub data Classification : Type 0 where
+  plain : Class → Classification
+  datagram : HeaderFields → List ℕ → Classification
+  fragment : Piece → Classification
 
-abbrev pub look_by : Option Fragment → HeaderFields → List ℕ → Stamped → Look
-look_by None header captured stamped = datagram header captured
-look_by (Some it) header captured stamped = fragment (piece_of header captured stamped)
+abbrev pub classify_by : Option Fragment → HeaderFields → List ℕ → Stamped → Classification
+classify_by None header captured stamped = datagram header captured
+classify_by (Some it) header captured stamped = fragment (piece_of header captured stamped)
 
-abbrev pub look_in : Reading → Stamped → Look
-look_in (found header captured) stamped = look_by header.fragment header captured stamped
-look_in bad stamped = plain class.Bad
-look_in cut stamped = plain class.Cut
+abbrev pub classify_in : Reading → Stamped → Classification
+classify_in (found header captured) stamped = classify_by header.fragment header captured stamped
+classify_in bad stamped = plain class.Bad
+classify_in cut stamped = plain class.Cut
 
-abbrev pub look_at : Carried → Bool → Stamped → Look
-look_at (ipv4 bytes) whole stamped = look_in (read_of bytes whole) stamped
-look_at other_link whole stamped = plain class.OtherLink
-look_at not_ipv4 whole stamped = plain class.NotIpv4
-look_at short whole stamped = plain class.Short
-look_at ends whole stamped = plain class.Cut
+abbrev pub classify_at : Carried → Bool → Stamped → Classification
+classify_at (ipv4 bytes) whole stamped = classify_in (read_of bytes whole) stamped
+classify_at other_link whole stamped = plain class.OtherLink
+classify_at not_ipv4 whole stamped = plain class.NotIpv4
+classify_at short whole stamped = plain class.Short
+classify_at ends whole stamped = plain class.Cut
 
 -- what is known of a packet's frame, that has a place in the run
 abbrev pub stamped_of : ℕ → Meta → Stamped
 stamped_of place meta = record { time = meta_time meta; place = place; original = meta.original }
 
-unfoldable pub look : ℕ → Taken → Look
-look place x =
-    look_at (network_of x.meta.interface.link x.frame x.meta.original) (is_captured_whole x.frame x.meta.original)
+unfoldable pub classify : ℕ → Taken → Classification
+classify place x =
+    classify_at (network_of x.meta.interface.link x.frame x.meta.original) (is_captured_whole x.frame x.meta.original)
     (stamped_of place x.meta)
 
 -- what a packet of that clock does to the groups of fragments: one comes, or a whole datagram of a key
-abbrev pub events_with_look : Look → Option Stamp → List Event → List Event
-events_with_look (plain c) clock events = events
-events_with_look (datagram header captured) clock events = flushes header.key ∷ events
-events_with_look (fragment p) clock events = arrives clock p ∷ events
+abbrev pub events_classified : Classification → Option Stamp → List Event → List Event
+events_classified (plain c) clock events = events
+events_classified (datagram header captured) clock events = flushes header.key ∷ events
+events_classified (fragment p) clock events = arrives clock p ∷ events
 
 unfoldable pub events_of : List Taken → List Event
 events_of [] = []
-events_of (x ∷ xs) = events_with_look (look (length xs) x) x.clock (events_of xs)
+events_of (x ∷ xs) = events_classified (classify (length xs) x) x.clock (events_of xs)

@@ -2,7 +2,7 @@
 #![tactic(auto)]
 
 mod classes;
-mod looks;
+mod classifying;
 
 pub use crate::classes::Class;
-pub use crate::looks::{Seen, look, stamped_of};
+pub use crate::classifying::{Classified, classify, stamped_of};

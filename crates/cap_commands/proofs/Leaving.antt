@@ -23,7 +23,7 @@ use Rattle.std.proofs.lemmas.List.FromFn.{length-range_with_len}
 use Rattle.cap_commands.specs.Converted.{convert_text, convert_refusal}
 use Rattle.cap_commands.specs.inner.FileText.{written_file_text, file_refusal}
 use Rattle.cap_commands.specs.Left.{left_of_file, sum_of_files, skipped_in, named_in, LeavesOut}
-use Rattle.cap_commands.specs.declared.left.Left.{Left}
+use Rattle.cap_commands.specs.declared.left.DroppedInfo.{DroppedInfo}
 
 -- a walk that is done has come to the end
 pub Walks-done : (old new : Feed) (result : Result (Unit {0}) Fault) → Walks old result new
@@ -37,7 +37,8 @@ sum_in-same count f g zero same = refl
 sum_in-same count f g (suc n) same = rw (sum_in-same count f g n same, same (suc n)) refl
 
 -- files that end alike leave the same out
-Drops-same : (f g : ℕ → FileEnd) (n m : ℕ) (left : Left) → n ≡ m → ((file : ℕ) → f file ≡ g file) → LeavesOut f n left
+Drops-same : (f g : ℕ → FileEnd) (n m : ℕ) (left : DroppedInfo) → n ≡ m → ((file : ℕ) → f file ≡ g file)
+    → LeavesOut f n left
     → LeavesOut g m left
 Drops-same f g n m left is same d = record {
   skipped = d.skipped ∙ (ap (skipped_in f) is ∙ sum_in-same (λ end. end.ending.skipped) f g m same);
@@ -55,7 +56,7 @@ is-file files count place is within =
 -- of files that were merged
 pub Drops-merged : {A : Type 0} (reader : A
     → ReaderFacts) (tail : Tail) (sources : List A) (ps : List Part) (new : Feed)
-    (result : Result (Unit {0}) Fault) (left : Left)
+    (result : Result (Unit {0}) Fault) (left : DroppedInfo)
     → IsUnreadRun tail (map reader sources) ps → FeedKeeps (merged_feed ps) new
     → OnOk result (IsTrue (merged_feed ps).told → SameEndings (merged_feed ps) new)
     → OnOk result (LeavesOut new.endings (length new.files) left)
@@ -73,14 +74,15 @@ Drops-merged reader tail sources ps new (Ok x) left u keeps ends is = λ t.
 Drops-merged reader tail sources ps new (Err fault) left u keeps ends is = tt
 
 -- of one file
-pub Left-one : (old new : Feed) (told : Bool) (ending : FileEnd) (result : Result (Unit {0}) Fault) (left : Left)
+pub DroppedInfo-one : (old new : Feed) (told : Bool) (ending : FileEnd) (result : Result (Unit {0}) Fault)
+    (left : DroppedInfo)
     → old.told ≡ told → ((n : ℕ) → old.endings n ≡ ending)
     → OnOk result (IsTrue old.told → SameEndings old new)
     → OnOk result (left ≡ left_of_file (new.endings 1))
     → OnOk result (IsTrue told → left ≡ left_of_file ending)
-Left-one old new told ending (Ok x) left is at ends l = λ t. l ∙ ap left_of_file
+DroppedInfo-one old new told ending (Ok x) left is at ends l = λ t. l ∙ ap left_of_file
     (ends (subst IsTrue (sym is) t) 1 ∙ at 1)
-Left-one old new told ending (Err fault) left is at ends l = tt
+DroppedInfo-one old new told ending (Err fault) left is at ends l = tt
 
 -- what is written of a file of which nothing was read
 pub Prints-file : (format : Format) (order : Order) (tail : Tail) (bytes : List ℕ) (number : ℕ) (first : _)

@@ -1,4 +1,4 @@
-pub mod Parting
+pub mod Divergence
 pub mod DiffWords
 mod Merging
 mod Leaving

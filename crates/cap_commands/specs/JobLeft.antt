@@ -8,11 +8,11 @@ use Rattle.cap_merge.specs.Files.{endings_of_files}
 use Rattle.cap_source.specs.Items.{file_ending}
 use Rattle.cap_commands.specs.Jobs.{only_of, tail_of}
 use Rattle.cap_commands.specs.Left.{nothing_left, left_of_file, LeavesOut}
-use Rattle.cap_commands.specs.declared.left.Left.{Left}
+use Rattle.cap_commands.specs.declared.left.DroppedInfo.{DroppedInfo}
 
 -- of files of those bytes, by its task: the blocks that are skipped and the names of interfaces, of `convert`, `merge`
 -- and `join` alone
-abbrev pub LeavesTask : Task → Tail → List (List ℕ) → Left → Type 0
+abbrev pub LeavesTask : Task → Tail → List (List ℕ) → DroppedInfo → Type 0
 LeavesTask tasks.List tail files left = left ≡ nothing_left
 LeavesTask tasks.Blocks tail files left = left ≡ nothing_left
 LeavesTask tasks.Diff tail files left = left ≡ nothing_left
@@ -24,5 +24,5 @@ LeavesTask tasks.Convert tail files left = left ≡ left_of_file (file_ending ta
 LeavesTask tasks.Merge tail files left = LeavesOut (endings_of_files tail files) (length files) left
 LeavesTask tasks.Join tail files left = LeavesOut (endings_of_files tail files) (length files) left
 
-abbrev pub JobLeaves : Job → List (List ℕ) → Left → Type 0
+abbrev pub JobLeaves : Job → List (List ℕ) → DroppedInfo → Type 0
 JobLeaves job = LeavesTask job.task (tail_of job.allow_cut)

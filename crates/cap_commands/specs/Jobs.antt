@@ -30,7 +30,7 @@ use Rattle.cap_commands.specs.Left.{nothing_left}
 use Rattle.cap_commands.specs.declared.jobs.Done.{Done}
 use Rattle.cap_commands.specs.declared.jobs.Finding.{Finding}
 use Rattle.cap_commands.specs.declared.jobs.Finding.TheVariants.{Difference, NotWhole, Nothing}
-use Rattle.cap_commands.specs.declared.left.Left.{Left}
+use Rattle.cap_commands.specs.declared.left.DroppedInfo.{DroppedInfo}
 
 -- what is done with a cut end
 abbrev pub tail_of : Bool → Tail
@@ -154,6 +154,6 @@ found_by (Ok finding) = Ok (record { finding = finding; left = nothing_left })
 found_by (Err fault) = Err fault
 
 -- what a job does that writes a capture: it finds nothing
-abbrev pub written_by : Result Left Fault → Result Done Fault
+abbrev pub written_by : Result DroppedInfo Fault → Result Done Fault
 written_by (Ok left) = Ok (record { finding = Nothing; left = left })
 written_by (Err fault) = Err fault

@@ -1,14 +1,14 @@
 -- What a command that writes a capture leaves out, or leaves as it was.
 use Rattle.std.specs.Prelude.{◌≡◌, ℕ, zero, suc, ◌+◌}
 use Rattle.cap_source.specs.declared.feeds.FileEnd.{FileEnd}
-use Rattle.cap_commands.specs.declared.left.Left.{Left}
+use Rattle.cap_commands.specs.declared.left.DroppedInfo.{DroppedInfo}
 
 -- nothing was left out, and nothing ran back
-abbrev pub nothing_left : Left
+abbrev pub nothing_left : DroppedInfo
 nothing_left = record { skipped = 0; named = 0; ran_back = 0 }
 
 -- the skipped blocks and the named interfaces of a file that ended so
-abbrev pub left_of_file : FileEnd → Left
+abbrev pub left_of_file : FileEnd → DroppedInfo
 left_of_file end = record { skipped = end.ending.skipped; named = end.named; ran_back = 0 }
 
 -- the sum of a count over the first files, so many of them, by how each ends
@@ -24,6 +24,6 @@ abbrev pub named_in : (ℕ → FileEnd) → ℕ → ℕ
 named_in endings count = sum_of_files (λ end. end.named) endings count
 
 -- what isn't carried on of the first files, so many of them, by how each ends
-pub record LeavesOut (endings : ℕ → FileEnd) (count : ℕ) (left : Left) : Type 0 where
+pub record LeavesOut (endings : ℕ → FileEnd) (count : ℕ) (left : DroppedInfo) : Type 0 where
   pub skipped : left.skipped ≡ skipped_in endings count
   pub named : left.named ≡ named_in endings count

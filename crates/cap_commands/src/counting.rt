@@ -21,7 +21,7 @@ ghost use Rattle.cap_commands.specs.Left.{left_of_file, LeavesOut};
 ghost use Rattle.cap_commands.specs.MergeText.{merge_text, merge_text_in, merge_refusal, merge_refusal_in};
 ghost use Rattle.cap_commands.specs.RunText.{datagrams_refusal, datagrams_text, packets_refusal, packets_text};
 
-use crate::left::Left;
+use crate::left::DroppedInfo;
 use cap_bytes::{Fault, Order, Sink, Source, Tail};
 use cap_merge::{Merged, merge_files};
 use cap_source::{Capture, Format, PacketFeed};
@@ -31,7 +31,7 @@ use cap_write::{
 use std::alloc::Global;
 
 // What isn't carried on of the files of a feed that has come to its end.
-fn dropped_of<F: PacketFeed>(feed: &F, files: u32) -> Left
+fn dropped_of<F: PacketFeed>(feed: &F, files: u32) -> DroppedInfo
     requires end { (F.feed feed.now).known ≡ Some Head.End }
     requires files { (F.feed feed.now).files ≡ range_with_len 1 files }
     requires most { files ≤ 32 }
@@ -43,7 +43,7 @@ fn dropped_of<F: PacketFeed>(feed: &F, files: u32) -> Left
         skipped += u128::from(feed.ending(place + 1).skipped);
         named += u128::from(feed.named_interfaces(place + 1));
     }
-    Left {
+    DroppedInfo {
         skipped,
         named,
         ran_back: 0,
@@ -51,14 +51,14 @@ fn dropped_of<F: PacketFeed>(feed: &F, files: u32) -> Left
 }
 
 // What is left of files that were merged, once they have come to their end.
-fn left_of_merged<F: PacketFeed>(merged: &Merged<F>) -> Left
+fn left_of_merged<F: PacketFeed>(merged: &Merged<F>) -> DroppedInfo
     requires end { (merged_feed (parts_of merged.now)).known ≡ Some Head.End }
     ensures dropped { LeavesOut (merged_feed (parts_of merged.now)).endings
         (length (merged_feed (parts_of merged.now)).files) result }
     ensures backward { result.ran_back ≡ backward_of merged.now }
 {
     let dropped = dropped_of(merged, merged.files());
-    Left {
+    DroppedInfo {
         skipped: dropped.skipped,
         named: dropped.named,
         ran_back: u128::from(merged.backward()),
@@ -66,12 +66,12 @@ fn left_of_merged<F: PacketFeed>(merged: &Merged<F>) -> Left
 }
 
 // What is left of a file that has come to its end.
-fn left_of_one<F: PacketFeed>(feed: &F) -> Left
+fn left_of_one<F: PacketFeed>(feed: &F) -> DroppedInfo
     requires end { (F.feed feed.now).known ≡ Some Head.End }
     requires file { (F.feed feed.now).files ≡ 1 ∷ [] }
     ensures { result ≡ left_of_file ((F.feed feed.now).endings 1) }
 {
-    Left {
+    DroppedInfo {
         skipped: u128::from(feed.ending(1).skipped),
         named: u128::from(feed.named_interfaces(1)),
         ran_back: 0,
@@ -133,7 +133,7 @@ pub fn convert_and_count<R: Source, W: Sink>(
     order: Order,
     format: Format,
     writer: &mut W,
-) -> Result<Left, Fault>
+) -> Result<DroppedInfo, Fault>
     ensures text { IsTrue (R.tells_coming source) → IsTrue (W.tells_held writer.old)
         → Prints (convert_text format order tail (R.coming source)) (convert_refusal format tail (R.coming source))
         (W.held writer.old) result (W.held writer.new) }
@@ -206,7 +206,7 @@ pub fn merge_and_count<R: Source, W: Sink>(
     format: Format,
     counts: bool,
     writer: &mut W,
-) -> Result<Left, Fault>
+) -> Result<DroppedInfo, Fault>
     requires some { 1 ≤ vec_len sources }
     requires most { vec_len sources ≤ 32 }
     ensures text { IsTrue (list_all R.tells_coming sources.items) → IsTrue (W.tells_held writer.old)
@@ -234,7 +234,7 @@ pub fn join_and_count<R: Source, W: Sink>(
     format: Format,
     counts: bool,
     writer: &mut W,
-) -> Result<Left, Fault>
+) -> Result<DroppedInfo, Fault>
     requires some { 1 ≤ vec_len sources }
     requires most { vec_len sources ≤ 32 }
     ensures text { IsTrue (list_all R.tells_coming sources.items) → IsTrue (W.tells_held writer.old)

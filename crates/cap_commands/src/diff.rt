@@ -76,7 +76,7 @@ fn do_differ(it: Differences) -> bool
 
 // Where two feeds are no longer the same: after how many packets, and which packet each of them has there.
 #[derive(Clone, Copy)]
-struct Parting {
+struct Divergence {
     passed: u64,
     first: Option<Meta>,
     second: Option<Meta>,
@@ -91,7 +91,7 @@ fn look<F: PacketFeed>(feed: &mut F) -> Result<bool, Fault>
         → ShowsItem (F.feed feed.old) (given result (F.feed feed.new).known) (F.feed feed.new) }
     ensures found { IfOk result (λ found. found ≡ is_some (known_packet (F.feed feed.new).known)) }
 {
-    feed.has_packet()
+    feed.peek()
 }
 
 // The packet that comes next, if one does.
@@ -119,7 +119,7 @@ fn is_alike<F: PacketFeed>(first: &F, one: bool, second: &F, other: bool) -> boo
 }
 
 // Passes the packets that are the same, up to the first that isn't, or to the end of both.
-fn part<F: PacketFeed>(first: &mut F, second: &mut F) -> Result<Parting, Fault>
+fn part<F: PacketFeed>(first: &mut F, second: &mut F) -> Result<Divergence, Fault>
     requires left { (F.feed first.old).left ≤ 2 ^ 40 }
     ensures parts { IsTrue (F.feed first.old).told → IsTrue (F.feed second.old).told
         → Parts (compared 0 (F.feed first.old).items (F.feed second.old).items) result (F.feed first.new).frame
@@ -134,7 +134,7 @@ fn part<F: PacketFeed>(first: &mut F, second: &mut F) -> Result<Parting, Fault>
         let one = look(first)?;
         let other = look(second)?;
         if !is_alike(first, one, second, other) {
-            return Ok(Parting {
+            return Ok(Divergence {
                 passed,
                 first: packet_of(first, one),
                 second: packet_of(second, other),
@@ -215,34 +215,47 @@ fn put_sides<F: PacketFeed, W: Sink>(
     writer: &mut W,
     form: Form,
     n: u64,
-    parting: &Parting,
+    divergence: &Divergence,
     first: &F,
     second: &F,
 ) -> Result<(), Fault>
-    requires known { KnowsPackets parting.now (F.feed first.now) (F.feed second.now) }
+    requires known { KnowsPackets divergence.now (F.feed first.now) (F.feed second.now) }
     ensures text { IsTrue (W.tells_held writer.old)
         → Prints ((before_side form (codes "-") ++ side_in form n
-        (compared_of parting.now.first (F.feed first.now).frame))
+        (compared_of divergence.now.first (F.feed first.now).frame))
         ++ (before_side form (codes "+") ++ side_in form n
-        (compared_of parting.now.second (F.feed second.now).frame))) None (W.held writer.old) result
+        (compared_of divergence.now.second (F.feed second.now).frame))) None (W.held writer.old) result
         (W.held writer.new) }
     ensures writer { WriterKeeps (writer_of W.Sink writer.old) (is_write result) (writer_of W.Sink writer.new) }
     ensures fault { IsOkUnless result Fault.Write }
 {
-    put_side(writer, form, before_first(form), n, parting.first, first)?;
-    put_side(writer, form, before_second(form), n, parting.second, second)
+    put_side(writer, form, before_first(form), n, divergence.first, first)?;
+    put_side(
+        writer,
+        form,
+        before_second(form),
+        n,
+        divergence.second,
+        second,
+    )
 }
 
 // The first line of a difference in a form.
-fn head_line<F: PacketFeed>(form: Form, n: u64, parting: &Parting, first: &F, second: &F) -> Line
-    requires known { KnowsPackets parting.now (F.feed first.now) (F.feed second.now) }
+fn head_line<F: PacketFeed>(
+    form: Form,
+    n: u64,
+    divergence: &Divergence,
+    first: &F,
+    second: &F,
+) -> Line
+    requires known { KnowsPackets divergence.now (F.feed first.now) (F.feed second.now) }
     ensures { text_in result ≡ difference_line form n
-        (difference_words (compared_of parting.now.first (F.feed first.now).frame)
-        (compared_of parting.now.second (F.feed second.now).frame)) }
+        (difference_words (compared_of divergence.now.first (F.feed first.now).frame)
+        (compared_of divergence.now.second (F.feed second.now).frame)) }
 {
-    match parting.first {
+    match divergence.first {
         None => end_line(form, n),
-        Some(one) => match parting.second {
+        Some(one) => match divergence.second {
             None => end_line(form, n),
             Some(other) => {
                 let it = differences_of(&one, first.frame(), &other, second.frame());
@@ -257,52 +270,59 @@ fn put_difference<F: PacketFeed, W: Sink>(
     writer: &mut W,
     form: Form,
     n: u64,
-    parting: &Parting,
+    divergence: &Divergence,
     first: &F,
     second: &F,
 ) -> Result<(), Fault>
-    requires known { KnowsPackets parting.now (F.feed first.now) (F.feed second.now) }
+    requires known { KnowsPackets divergence.now (F.feed first.now) (F.feed second.now) }
     ensures text { IsTrue (W.tells_held writer.old)
-        → Prints (diff_text_in form (other_packet n (compared_of parting.now.first (F.feed first.now).frame)
-        (compared_of parting.now.second (F.feed second.now).frame))) None (W.held writer.old) result
+        → Prints (diff_text_in form (other_packet n (compared_of divergence.now.first (F.feed first.now).frame)
+        (compared_of divergence.now.second (F.feed second.now).frame))) None (W.held writer.old) result
         (W.held writer.new) }
     ensures writer { WriterKeeps (writer_of W.Sink writer.old) (is_write result) (writer_of W.Sink writer.new) }
     ensures fault { IsOkUnless result Fault.Write }
 {
-    let line = head_line(form, n, parting, first, second);
+    let line = head_line(form, n, divergence, first, second);
     put_all(writer, line.as_slice())?;
-    put_sides(writer, form, n, parting, first, second)
+    put_sides(writer, form, n, divergence, first, second)
 }
 
 // Whether both have ended.
-fn is_end(parting: &Parting) -> bool
-    ensures { result ≡ (is_none parting.now.first && is_none parting.now.second) }
+fn is_end(divergence: &Divergence) -> bool
+    ensures { result ≡ (is_none divergence.now.first && is_none divergence.now.second) }
 {
-    parting.first.is_none() && parting.second.is_none()
+    divergence.first.is_none() && divergence.second.is_none()
 }
 
 // Writes what is printed in a form where two feeds part, and returns whether they are the same.
-fn put_parting<F: PacketFeed, W: Sink>(
+fn put_divergence<F: PacketFeed, W: Sink>(
     writer: &mut W,
     form: Form,
-    parting: &Parting,
+    divergence: &Divergence,
     first: &F,
     second: &F,
 ) -> Result<bool, Fault>
-    requires known { KnowsPackets parting.now (F.feed first.now) (F.feed second.now) }
-    requires few { parting.now.passed ≤ 2 ^ 40 }
+    requires known { KnowsPackets divergence.now (F.feed first.now) (F.feed second.now) }
+    requires few { divergence.now.passed ≤ 2 ^ 40 }
     ensures text { IsTrue (W.tells_held writer.old)
-        → TellsDiff form (parted parting.now.passed (compared_of parting.now.first (F.feed first.now).frame)
-        (compared_of parting.now.second (F.feed second.now).frame)) (W.held writer.old) result (W.held writer.new) }
-    ensures same { IfOk result (λ so. so ≡ (is_none parting.now.first && is_none parting.now.second)) }
+        → TellsDiff form (parted divergence.now.passed (compared_of divergence.now.first (F.feed first.now).frame)
+        (compared_of divergence.now.second (F.feed second.now).frame)) (W.held writer.old) result (W.held writer.new) }
+    ensures same { IfOk result (λ so. so ≡ (is_none divergence.now.first && is_none divergence.now.second)) }
     ensures writer { WriterKeeps (writer_of W.Sink writer.old) (is_write result) (writer_of W.Sink writer.new) }
     ensures fault { IsOkUnless result Fault.Write }
 {
-    if is_end(parting) {
-        put_line(writer, &same_line(form, parting.passed))?;
+    if is_end(divergence) {
+        put_line(writer, &same_line(form, divergence.passed))?;
         return Ok(true);
     }
-    put_difference(writer, form, parting.passed + 1, parting, first, second)?;
+    put_difference(
+        writer,
+        form,
+        divergence.passed + 1,
+        divergence,
+        first,
+        second,
+    )?;
     Ok(false)
 }
 
@@ -331,8 +351,8 @@ pub fn diff_in<R: Source, W: Sink>(
 {
     let mut first = Capture::new(alloc, first, 1, tail);
     let mut second = Capture::new(alloc, second, 2, tail);
-    let parting = part(&mut first, &mut second)?;
-    put_parting(writer, form, &parting, &first, &second)
+    let divergence = part(&mut first, &mut second)?;
+    put_divergence(writer, form, &divergence, &first, &second)
 }
 
 /// Does what `diff_in` does, in text.

@@ -18,7 +18,7 @@ use crate::blocks::blocks_in;
 use crate::counting::{convert_and_count, join_and_count, merge_and_count};
 use crate::diff::diff_in;
 use crate::digests::digests_to;
-use crate::left::{Left, NOTHING_LEFT};
+use crate::left::{DroppedInfo, NOTHING_LEFT};
 use crate::list::list_in;
 use cap_bytes::{Fault, Sink, Source, Tail};
 use cap_check::check_all_to;
@@ -45,7 +45,7 @@ pub struct Done {
     /// What it found, by which its run ends.
     pub finding: Finding,
     /// What it left out of what it wrote, or as it was.
-    pub left: Left,
+    pub left: DroppedInfo,
 }
 
 /// What is done with a cut end.
@@ -193,7 +193,7 @@ fn found(answer: Result<Finding, Fault>) -> Result<Done, Fault>
 }
 
 // What a job has done that wrote a capture, and left that out.
-fn written(answer: Result<Left, Fault>) -> Result<Done, Fault>
+fn written(answer: Result<DroppedInfo, Fault>) -> Result<Done, Fault>
     ensures { result ≡ written_by answer }
 {
     match answer {

@@ -4,7 +4,7 @@ ghost use Rattle.cap_commands.specs.Left.{nothing_left};
 
 /// What a command that writes a capture leaves out, or leaves as it was.
 #[derive(Clone, Copy, Debug, PartialEq, Eq)]
-pub struct Left {
+pub struct DroppedInfo {
     /// How many blocks of the files aren't carried on: those that were skipped.
     pub skipped: u128,
     /// How many interfaces of the files have a name, which isn't carried on.
@@ -14,7 +14,7 @@ pub struct Left {
 }
 
 /// Nothing was left out, and nothing ran back.
-pub const NOTHING_LEFT: Left = Left {
+pub const NOTHING_LEFT: DroppedInfo = DroppedInfo {
     skipped: 0,
     named: 0,
     ran_back: 0,

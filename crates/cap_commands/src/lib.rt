@@ -21,5 +21,5 @@ pub use crate::diff::{Differences, diff_in, diff_to};
 pub use crate::digests::digests_to;
 pub use crate::faults::fault_line;
 pub use crate::jobs::{Done, Finding, form_of, job_to, tail_of, whole_finding};
-pub use crate::left::{Left, NOTHING_LEFT};
+pub use crate::left::{DroppedInfo, NOTHING_LEFT};
 pub use crate::list::{list_json_to, list_to};

@@ -8,7 +8,7 @@ pub mod Incoming
 pub mod JoinerView
 pub mod QueueView
 pub mod Rows
-pub mod Spares
-pub mod SparesView
+pub mod BufferPool
+pub mod BufferPoolView
 pub mod TableView
 pub mod Tables

@@ -10,7 +10,7 @@ use std::alloc::AllocError;
 /// The front of a buffer that a group holds: its length, and its holes. The bytes after it are zeros, or left from an
 /// earlier group.
 #[derive(Clone, Copy)]
-pub(crate) struct Part {
+pub(crate) struct BufferPart {
     pub(crate) held: u32,
     pub(crate) holes: HoleList,
 }
@@ -29,7 +29,7 @@ fn lengthen(buffer: &mut Vec<u8>, size: u32) -> Result<(), AllocError>
 }
 
 // Extends the part that a group holds to all of some bytes. What it adds is a hole. Returns the holes.
-fn grow(bytes: &mut [u8], part: Part, size: u32) -> HoleList
+fn grow(bytes: &mut [u8], part: BufferPart, size: u32) -> HoleList
     requires holes { HasHoles (take part.held bytes.old) part.held part.holes.first }
     requires cursor { HasCursor (take part.held bytes.old) part.held part.holes.first part.holes.cursor }
     requires whole { part.held % 8 ≡ 0 }
@@ -47,7 +47,7 @@ fn grow(bytes: &mut [u8], part: Part, size: u32) -> HoleList
 }
 
 // Puts a fragment's data into bytes that are long enough. Its last block ends at `end`. Returns the holes.
-fn put_piece(bytes: &mut [u8], part: Part, start: u32, end: u32, piece: &[u8]) -> HoleList
+fn put_piece(bytes: &mut [u8], part: BufferPart, start: u32, end: u32, piece: &[u8]) -> HoleList
     requires holes { HasHoles (take part.held bytes.old) part.held part.holes.first }
     requires cursor { HasCursor (take part.held bytes.old) part.held part.holes.first part.holes.cursor }
     requires whole { part.held % 8 ≡ 0 }
@@ -72,7 +72,7 @@ fn put_piece(bytes: &mut [u8], part: Part, start: u32, end: u32, piece: &[u8]) -
 fn put_front(
     buffer: &mut [u8],
     held: u32,
-    part: Part,
+    part: BufferPart,
     start: u32,
     end: u32,
     piece: &[u8],
@@ -100,10 +100,10 @@ fn put_front(
 /// then. An `Err` changes nothing.
 pub(crate) fn put_data(
     buffer: &mut Vec<u8>,
-    part: Part,
+    part: BufferPart,
     start: u32,
     piece: &[u8],
-) -> Result<Part, AllocError>
+) -> Result<BufferPart, AllocError>
     requires holes { HasHoles (take part.held buffer.old.items) part.held part.holes.first }
     requires cursor { HasCursor (take part.held buffer.old.items) part.held part.holes.first part.holes.cursor }
     requires whole { part.held % 8 ≡ 0 }
@@ -127,5 +127,5 @@ pub(crate) fn put_data(
     let held = part.held.max(end);
     lengthen(buffer, held)?;
     let holes = put_front(buffer.as_mut_slice(), held, part, start, end, piece);
-    Ok(Part { held, holes })
+    Ok(BufferPart { held, holes })
 }

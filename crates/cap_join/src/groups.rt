@@ -10,7 +10,7 @@ ghost use Rattle.cap_join.specs.Frames.{timed, earlier_stamped, later_stamped, i
 ghost use Rattle.cap_join.specs.inner.Ages.{deadline_of};
 ghost use Rattle.cap_join.specs.inner.Groups.{IsGroupOf, IsDatagramOf};
 
-use crate::buffers::{Part, put_data};
+use crate::buffers::{BufferPart, put_data};
 use crate::datagrams::{Datagram, Incoming, Stamped};
 use crate::holes::{HoleList, NO_HOLE};
 use cap_ip::{Fragment, Header};
@@ -26,7 +26,7 @@ const WAIT: u32 = 30;
 #[derive(Drop)]
 pub(crate) struct Group {
     buffer: Vec<u8>,
-    part: Part,
+    part: BufferPart,
     total: Option<u32>,
     header: Header,
     frames: u64,
@@ -146,7 +146,7 @@ impl Group {
     {
         Group {
             buffer,
-            part: Part {
+            part: BufferPart {
                 held: 0,
                 holes: HoleList {
                     first: NO_HOLE,

@@ -8,9 +8,9 @@ ghost use Rattle.cap_join.specs.History.{Event, arrives, flushes, open_groups_af
 ghost use Rattle.cap_join.specs.Joiners.{JoinerStandsFor, IsAnswer, most_bytes, spare_in, held_by_groups, open_limit};
 ghost use Rattle.cap_join.specs.declared.datagrams.JoinFault.TheVariants.{Memory};
 
+use crate::buffer_pools::BufferPool;
 use crate::datagrams::{Incoming, JoinFault, Put, Stamped};
-use crate::spares::Spares;
-use crate::tables::{Table, drop_group, put_fragment};
+use crate::tables::{GroupTable, drop_group, put_fragment};
 use cap_ip::{Header, Key};
 use cap_time::Stamp;
 use std::alloc::Global;
@@ -30,8 +30,8 @@ use std::marker::Model;
 #[derive(Drop)]
 pub struct Joiner {
     // `None` until the first fragment is put.
-    table: Option<Table>,
-    spares: Spares,
+    table: Option<GroupTable>,
+    spares: BufferPool,
     next: u64,
     given_up: u64,
     alloc: Global,
@@ -57,7 +57,7 @@ impl Joiner {
     {
         Joiner {
             table: None,
-            spares: Spares::new(alloc),
+            spares: BufferPool::new(alloc),
             next: 0,
             given_up: 0,
             alloc,

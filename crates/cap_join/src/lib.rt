@@ -2,6 +2,7 @@
 #![tactic(auto)]
 
 mod ages;
+mod buffer_pools;
 mod buffers;
 mod datagrams;
 mod groups;
@@ -9,7 +10,6 @@ mod holes;
 mod joiners;
 mod laws;
 mod queues;
-mod spares;
 mod tables;
 
 pub use crate::datagrams::{Datagram, JoinFault, Put, Stamped};

@@ -11,9 +11,9 @@ ghost use Rattle.cap_join.specs.inner.Ages.{NoneOld, IsDeadline, AreInTurn, AreT
 ghost use Rattle.cap_join.specs.inner.Tables.{entry_at, live_entries, has_live, PutsAt};
 
 use crate::ages::sooner;
+use crate::buffer_pools::{BufferPool, keep_buffer};
 use crate::datagrams::Incoming;
 use crate::groups::Group;
-use crate::spares::{Spares, keep_buffer};
 use cap_ip::Key;
 use cap_time::Stamp;
 use lru::LruCache;
@@ -28,7 +28,7 @@ use std::marker::Model;
 /// each is passed once.
 #[derive(Drop)]
 pub(crate) struct Queue {
-    aside: LruCache<Key, Group>,
+    timeless: LruCache<Key, Group>,
     rest: LruCache<Key, Group>,
 }
 
@@ -175,49 +175,49 @@ fn replace(groups: &mut LruCache<Key, Group>, key: &Key, group: Group)
 // Sets the first group aside, after the others there. A placeholder is put there first, so that the group isn't lost if
 // there is no memory. An `Err` changes nothing.
 fn set_first_aside(
-    aside: &mut LruCache<Key, Group>,
+    timeless: &mut LruCache<Key, Group>,
     rest: &mut LruCache<Key, Group>,
     alloc: Global,
     key: &Key,
 ) -> Result<(), AllocError>
     requires first { IsFirstTimeless key.now rest.old.entries }
-    requires unique { IsDistinct same_key (keys_of (aside.old.entries ++ rest.old.entries)) }
-    requires room { length aside.old.entries + 1 < aside.old.cap }
-    ensures whole { aside.new.entries ++ rest.new.entries ≡ aside.old.entries ++ rest.old.entries }
-    ensures timeless { AreTimeless aside.old.entries → AreTimeless aside.new.entries }
+    requires unique { IsDistinct same_key (keys_of (timeless.old.entries ++ rest.old.entries)) }
+    requires room { length timeless.old.entries + 1 < timeless.old.cap }
+    ensures whole { timeless.new.entries ++ rest.new.entries ≡ timeless.old.entries ++ rest.old.entries }
+    ensures timeless { AreTimeless timeless.old.entries → AreTimeless timeless.new.entries }
     ensures fewer { OnOk result (length rest.new.entries < length rest.old.entries) }
     ensures same { OnErr result (rest.new.entries ≡ rest.old.entries) }
-    ensures aside_cap { aside.new.cap ≡ aside.old.cap }
+    ensures timeless_cap { timeless.new.cap ≡ timeless.old.cap }
     ensures rest_cap { rest.new.cap ≡ rest.old.cap }
 {
     let blank = match rest.peek_mru() {
         None => unreachable!(),
         Some((_key, group)) => group.blank(alloc),
     };
-    if append(aside, key, blank).is_err() {
+    if append(timeless, key, blank).is_err() {
         return Err(AllocError);
     }
     match rest.pop_mru() {
         None => unreachable!(),
-        Some((_key, group)) => replace(aside, key, group),
+        Some((_key, group)) => replace(timeless, key, group),
     }
     Ok(())
 }
 
 // Sets the groups aside that stand before all with a clock. If there is no memory for one, it stays, and so do those
 // after it.
-fn set_aside(aside: &mut LruCache<Key, Group>, rest: &mut LruCache<Key, Group>, alloc: Global)
-    requires unique { IsDistinct same_key (keys_of (aside.old.entries ++ rest.old.entries)) }
-    requires few { length (aside.old.entries ++ rest.old.entries) ≤ open_limit + 1 }
-    requires room { open_limit + 2 < aside.old.cap }
-    ensures whole { aside.new.entries ++ rest.new.entries ≡ aside.old.entries ++ rest.old.entries }
-    ensures timeless { AreTimeless aside.old.entries → AreTimeless aside.new.entries }
+fn set_aside(timeless: &mut LruCache<Key, Group>, rest: &mut LruCache<Key, Group>, alloc: Global)
+    requires unique { IsDistinct same_key (keys_of (timeless.old.entries ++ rest.old.entries)) }
+    requires few { length (timeless.old.entries ++ rest.old.entries) ≤ open_limit + 1 }
+    requires room { open_limit + 2 < timeless.old.cap }
+    ensures whole { timeless.new.entries ++ rest.new.entries ≡ timeless.old.entries ++ rest.old.entries }
+    ensures timeless { AreTimeless timeless.old.entries → AreTimeless timeless.new.entries }
     ensures fewer { length rest.new.entries ≤ length rest.old.entries }
-    ensures aside_cap { aside.new.cap ≡ aside.old.cap }
+    ensures timeless_cap { timeless.new.cap ≡ timeless.old.cap }
     ensures rest_cap { rest.new.cap ≡ rest.old.cap }
 {
     while let Some(key) = first_timeless(rest) {
-        if set_first_aside(aside, rest, alloc, &key).is_err() {
+        if set_first_aside(timeless, rest, alloc, &key).is_err() {
             return;
         }
     }
@@ -251,29 +251,30 @@ fn spare_in(groups: &LruCache<Key, Group>) -> usize
 // Takes out the groups that are too old at a clock, keeps their buffers, and sets the groups aside that stand before
 // all with a clock.
 fn expire(
-    aside: &mut LruCache<Key, Group>,
+    timeless: &mut LruCache<Key, Group>,
     rest: &mut LruCache<Key, Group>,
-    spares: &mut Spares,
+    spares: &mut BufferPool,
     alloc: Global,
     in_order: bool,
     now: Option<Stamp>,
 )
-    requires unique { IsDistinct same_key (keys_of (aside.old.entries ++ rest.old.entries)) }
-    requires few { length (aside.old.entries ++ rest.old.entries) ≤ open_limit + 1 }
-    requires room { open_limit + 2 < aside.old.cap }
-    requires timeless { AreTimeless aside.old.entries }
-    requires in_turn { in_order ≡ true → AreInTurn (aside.old.entries ++ rest.old.entries) }
-    ensures entries { aside.new.entries ++ rest.new.entries ≡ live_entries now (aside.old.entries ++ rest.old.entries) }
-    ensures unique { IsDistinct same_key (keys_of (aside.new.entries ++ rest.new.entries)) }
-    ensures few { length (aside.new.entries ++ rest.new.entries) ≤ open_limit + 1 }
-    ensures timeless { AreTimeless aside.new.entries }
-    ensures aside_cap { aside.new.cap ≡ aside.old.cap }
+    requires unique { IsDistinct same_key (keys_of (timeless.old.entries ++ rest.old.entries)) }
+    requires few { length (timeless.old.entries ++ rest.old.entries) ≤ open_limit + 1 }
+    requires room { open_limit + 2 < timeless.old.cap }
+    requires timeless { AreTimeless timeless.old.entries }
+    requires in_turn { in_order ≡ true → AreInTurn (timeless.old.entries ++ rest.old.entries) }
+    ensures entries { timeless.new.entries ++ rest.new.entries
+        ≡ live_entries now (timeless.old.entries ++ rest.old.entries) }
+    ensures unique { IsDistinct same_key (keys_of (timeless.new.entries ++ rest.new.entries)) }
+    ensures few { length (timeless.new.entries ++ rest.new.entries) ≤ open_limit + 1 }
+    ensures timeless { AreTimeless timeless.new.entries }
+    ensures timeless_cap { timeless.new.cap ≡ timeless.old.cap }
     ensures rest_cap { rest.new.cap ≡ rest.old.cap }
 {
-    set_aside(aside, rest, alloc);
+    set_aside(timeless, rest, alloc);
     while let Some(key) = first_old(rest, in_order, now) {
         keep_buffer(spares, rest.pop(&key));
-        set_aside(aside, rest, alloc);
+        set_aside(timeless, rest, alloc);
     }
 }
 
@@ -283,7 +284,7 @@ impl Queue {
         ensures { IfOk result (λ queue. queue ≡ []) }
     {
         Ok(Queue {
-            aside: LruCache::unbounded(alloc)?,
+            timeless: LruCache::unbounded(alloc)?,
             rest: LruCache::unbounded(alloc)?,
         })
     }
@@ -292,14 +293,14 @@ impl Queue {
     pub(crate) fn len(&self) -> usize
         ensures { result ≡ length self.now }
     {
-        self.aside.len() + self.rest.len()
+        self.timeless.len() + self.rest.len()
     }
 
     /// Whether a key has a group that isn't too old at a clock.
     pub(crate) fn has_live(&self, key: &Key, now: Option<Stamp>) -> bool
         ensures { result ≡ has_live key.now now self.now }
     {
-        if holds(&self.aside, key) {
+        if holds(&self.timeless, key) {
             return true;
         }
         match self.rest.peek(key) {
@@ -315,8 +316,8 @@ impl Queue {
         ensures ok { IfOk result (λ complete. PutsAt key.now (piece_in incoming.now) self.old complete self.new) }
         ensures err { OnErr result (self.new ≡ self.old) }
     {
-        if holds(&self.aside, key) {
-            put_in(&mut self.aside, key, incoming)
+        if holds(&self.timeless, key) {
+            put_in(&mut self.timeless, key, incoming)
         } else {
             put_in(&mut self.rest, key, incoming)
         }
@@ -328,8 +329,8 @@ impl Queue {
         ensures entries { self.new ≡ remove_entry (same_key key.now) self.old }
         ensures unique { IsDistinct same_key (keys_of self.new) }
     {
-        if holds(&self.aside, key) {
-            self.aside.pop(key)
+        if holds(&self.timeless, key) {
+            self.timeless.pop(key)
         } else {
             self.rest.pop(key)
         }
@@ -351,7 +352,7 @@ impl Queue {
     /// Takes out the groups that are too old at a clock, and keeps their buffers.
     pub(crate) fn expire(
         &mut self,
-        spares: &mut Spares,
+        spares: &mut BufferPool,
         alloc: Global,
         in_order: bool,
         now: Option<Stamp>,
@@ -361,7 +362,7 @@ impl Queue {
         ensures unique { IsDistinct same_key (keys_of self.new) }
     {
         expire(
-            &mut self.aside,
+            &mut self.timeless,
             &mut self.rest,
             spares,
             alloc,
@@ -383,10 +384,10 @@ impl Queue {
         ensures entries { self.new ≡ remove self.old 0 }
         ensures unique { IsDistinct same_key (keys_of self.new) }
     {
-        if self.aside.is_empty() {
+        if self.timeless.is_empty() {
             pop_first(&mut self.rest)
         } else {
-            pop_first(&mut self.aside)
+            pop_first(&mut self.timeless)
         }
     }
 
@@ -395,7 +396,7 @@ impl Queue {
         ensures value { result ≡ most_bytes self.now }
         ensures bound { result ≤ 65520 }
     {
-        most_in(&self.aside).max(most_in(&self.rest))
+        most_in(&self.timeless).max(most_in(&self.rest))
     }
 
     /// The bytes of the buffers after the parts that the groups hold.
@@ -403,6 +404,6 @@ impl Queue {
         ensures value { result ≡ spare_in self.now }
         ensures bound { result ≤ length self.now * 65520 }
     {
-        spare_in(&self.aside) + spare_in(&self.rest)
+        spare_in(&self.timeless) + spare_in(&self.rest)
     }
 }

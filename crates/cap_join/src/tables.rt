@@ -10,7 +10,7 @@ ghost use Rattle.std.specs.List.{IsDistinct};
 ghost use Rattle.std.specs.Map.{keys_of, remove_entry};
 ghost use Rattle.cap_join.specs.History.{OpenGroup, same_key};
 ghost use Rattle.cap_join.specs.Joiners.{AreEntriesOf, IsTable, open_limit, most_bytes, spare_in};
-ghost use Rattle.cap_join.specs.inner.Spares.{with_spare};
+ghost use Rattle.cap_join.specs.inner.BufferPool.{with_spare};
 ghost use Rattle.cap_join.specs.Fragments.{Piece};
 ghost use Rattle.cap_join.specs.ByteMap.{completes};
 ghost use Rattle.cap_join.specs.inner.Groups.{IsGroupOf, IsDatagramOf};
@@ -18,10 +18,10 @@ ghost use Rattle.cap_join.specs.inner.Ages.{NoneOld, IsDeadline, AreInTurn};
 ghost use Rattle.cap_join.specs.inner.Tables.{entries_of, entry_at, live_entries, has_live, PutsAt, PutsFragment};
 
 use crate::ages::{is_past, latest_of, sooner, stays_in_order};
+use crate::buffer_pools::{BufferPool, keep_buffer};
 use crate::datagrams::{Datagram, Incoming, Put};
 use crate::groups::Group;
 use crate::queues::Queue;
-use crate::spares::{Spares, keep_buffer};
 use cap_ip::Key;
 use cap_time::Stamp;
 use std::alloc::{AllocError, Global};
@@ -32,7 +32,7 @@ const OPEN_LIMIT: usize = 1024;
 
 /// The open groups, and a bound of their ages.
 #[derive(Drop)]
-pub(crate) struct Table {
+pub(crate) struct GroupTable {
     groups: Queue,
     // No group is too old until this is past.
     deadline: Option<Stamp>,
@@ -43,7 +43,7 @@ pub(crate) struct Table {
     in_order: bool,
 }
 
-impl Model for Table {
+impl Model for GroupTable {
     ghost use Rattle.std.specs.Prelude.{List};
     ghost use Rattle.cap_ip.specs.declared.headers.Key.{Key as TableKey};
     ghost use Rattle.cap_join.specs.inner.Groups.{GroupState};
@@ -57,12 +57,12 @@ impl Model for Table {
     ghost invariant = { IsSoundTable };
 }
 
-impl Table {
+impl GroupTable {
     /// A table without a group.
-    pub(crate) fn new(alloc: Global) -> Result<Table, AllocError>
+    pub(crate) fn new(alloc: Global) -> Result<GroupTable, AllocError>
         ensures { IfOk result (λ table. table ≡ []) }
     {
-        Ok(Table {
+        Ok(GroupTable {
             groups: Queue::new(alloc)?,
             deadline: None,
             latest: None,
@@ -105,7 +105,7 @@ impl Table {
 
     // Drops the groups that are too old at a clock, and looks at none while the deadline isn't past. Their buffers
     // are kept.
-    fn drop_old(&mut self, spares: &mut Spares, alloc: Global, now: Option<Stamp>)
+    fn drop_old(&mut self, spares: &mut BufferPool, alloc: Global, now: Option<Stamp>)
         ensures entries { self.new ≡ live_entries now self.old }
         ensures unique { IsDistinct same_key (keys_of self.new) }
     {
@@ -136,7 +136,7 @@ impl Table {
 
     // Gives up the group that was opened first if more are open than may be, and returns whether it did. Its buffer
     // is kept.
-    fn make_place(&mut self, spares: &mut Spares) -> bool
+    fn make_place(&mut self, spares: &mut BufferPool) -> bool
         ensures value { result ≡ nat_lt open_limit (length self.old) }
         ensures entries { self.new ≡ (if result then remove self.old 0 else self.old) }
         ensures unique { IsDistinct same_key (keys_of self.new) }
@@ -166,7 +166,7 @@ impl Table {
 }
 
 // The datagram of a complete group. Its buffer is kept.
-fn finish(spares: &mut Spares, alloc: Global, group: Group) -> Datagram
+fn finish(spares: &mut BufferPool, alloc: Global, group: Group) -> Datagram
     ensures datagram { (ps : List Piece) → IsGroupOf group ps → completes ps ≡ true → IsDatagramOf result ps }
     ensures fits { FitsDatagram result }
 {
@@ -177,8 +177,8 @@ fn finish(spares: &mut Spares, alloc: Global, group: Group) -> Datagram
 
 // Puts a fragment into the group of its key, which isn't too old, and drops the groups that are.
 fn extend(
-    groups: &mut Table,
-    spares: &mut Spares,
+    groups: &mut GroupTable,
+    spares: &mut BufferPool,
     alloc: Global,
     clock: Option<Stamp>,
     incoming: &Incoming<'_>,
@@ -208,7 +208,7 @@ fn extend(
 // A group of its first fragment, in a spare buffer if there is one, and how long that buffer was. An `Err` leaves the
 // spare buffers as they were.
 fn begin(
-    spares: &mut Spares,
+    spares: &mut BufferPool,
     alloc: Global,
     clock: Option<Stamp>,
     incoming: &Incoming<'_>,
@@ -236,8 +236,8 @@ fn begin(
 // Adds a group to the others, in the place of one of its key, whose buffer is kept. An `Err` leaves the groups as
 // they were, and gives the new group's buffer back, as long as it was when it was taken.
 fn settle(
-    groups: &mut Table,
-    spares: &mut Spares,
+    groups: &mut GroupTable,
+    spares: &mut BufferPool,
     key: &Key,
     group: Group,
     taken: usize,
@@ -268,8 +268,8 @@ fn settle(
 // are. If as many are open as may be, the oldest is given up; returns whether it was. The group is
 // added before any is dropped, so that no memory is asked for after.
 fn open(
-    groups: &mut Table,
-    spares: &mut Spares,
+    groups: &mut GroupTable,
+    spares: &mut BufferPool,
     alloc: Global,
     clock: Option<Stamp>,
     incoming: &Incoming<'_>,
@@ -300,8 +300,8 @@ fn open(
 // Groups that are too old are dropped, and the oldest is given up if a new one would be too many:
 // returns whether it was. An `Err` leaves the groups as they were.
 fn put_into(
-    groups: &mut Table,
-    spares: &mut Spares,
+    groups: &mut GroupTable,
+    spares: &mut BufferPool,
     alloc: Global,
     clock: Option<Stamp>,
     incoming: &Incoming<'_>,
@@ -326,8 +326,8 @@ fn put_into(
 
 // Makes a table and places for spare buffers, if there is no table. An `Err` changes nothing.
 fn make_table(
-    table: &mut Option<Table>,
-    spares: &mut Spares,
+    table: &mut Option<GroupTable>,
+    spares: &mut BufferPool,
     alloc: Global,
 ) -> Result<(), AllocError>
     ensures there { OnOk result (IsSome table.new) }
@@ -336,7 +336,7 @@ fn make_table(
 {
     if table.is_none() {
         spares.reserve()?;
-        *table = Some(Table::new(alloc)?);
+        *table = Some(GroupTable::new(alloc)?);
     }
     Ok(())
 }
@@ -345,8 +345,8 @@ fn make_table(
 /// Groups that are too old are dropped, and the oldest is given up if a new one would be too many:
 /// returns whether it was. An `Err` leaves the groups as they were.
 pub(crate) fn put_fragment(
-    table: &mut Option<Table>,
-    spares: &mut Spares,
+    table: &mut Option<GroupTable>,
+    spares: &mut BufferPool,
     alloc: Global,
     clock: Option<Stamp>,
     incoming: &Incoming<'_>,
@@ -371,7 +371,7 @@ pub(crate) fn put_fragment(
 /// Drops the group of a key, whose buffer is kept. The key is copied where it is looked for, so that before the first
 /// fragment it need not be in memory.
 #[inline(always)]
-pub(crate) fn drop_group(table: &mut Option<Table>, spares: &mut Spares, key: Key)
+pub(crate) fn drop_group(table: &mut Option<GroupTable>, spares: &mut BufferPool, key: Key)
     ensures entries { entries_of table.new ≡ remove_entry (same_key key) (entries_of table.old) }
     ensures unique { IsDistinct same_key (keys_of (entries_of table.old))
         → IsDistinct same_key (keys_of (entries_of table.new)) }

@@ -18,7 +18,8 @@ use Rattle.cap_talks.specs.table.Classes.{classes, classes_in, groups_of}
 use Rattle.cap_talks.specs.table.CountedUnits.{first_unit, unit_by, unit_at, listed, counted_units}
 use Rattle.cap_talks.specs.talks.ReportText.{with_item, taken_after}
 use Rattle.cap_talks.specs.table.TakenText.{body_text, body_text_in, taken_bytes, truncated_of}
-use Rattle.cap_class.specs.Taken.{Taken, Look, plain, datagram, fragment, look, events_with_look, events_of}
+use Rattle.cap_class.specs.Taken.{Taken, Classification, plain, datagram, fragment, classify, events_classified}
+use Rattle.cap_class.specs.Taken.{events_of}
 use Rattle.cap_time.specs.declared.stamps.Stamp.{Stamp}
 use Rattle.cap_laws.proofs.LikeReports.{LikeItems, RunsLike, refusals-like}
 use Rattle.cap_laws.specs.Reports.{SameReport}
@@ -51,19 +52,20 @@ RunsAlike = AllZip (λ a b. AlikeItems a.clock b.clock a.item b.item)
 alike-length : (xs ys : List Taken) → AreAlike xs ys → length xs ≡ length ys
 alike-length = length_all_zip IsAlike
 
-alike-look : (n m : ℕ) (x y : Taken) → n ≡ m → IsAlike x y → look n x ≡ look m y
-unfolding look
-alike-look n m x y e h = grind arith
+alike-classify : (n m : ℕ) (x y : Taken) → n ≡ m → IsAlike x y → classify n x ≡ classify m y
+unfolding classify
+alike-classify n m x y e h = grind arith
 
 -- ---- the groups of fragments
 
-events-with : (l : Look) (c d : Option Stamp) (es fs : List Event) → IsSameClock c d → AllZip IsSameEvent es fs
-    → AllZip IsSameEvent (events_with_look l c es) (events_with_look l d fs)
+events-with : (l : Classification) (c d : Option Stamp) (es fs : List Event) → IsSameClock c d
+    → AllZip IsSameEvent es fs
+    → AllZip IsSameEvent (events_classified l c es) (events_classified l d fs)
 events-with l c d es fs e h = grind arith
 
 alike-events : (xs ys : List Taken) → AreAlike xs ys → AllZip IsSameEvent (events_of xs) (events_of ys)
 unfolding events_of
-alike-events (x ∷ xs) (y ∷ ys) h = grind (arith, alike-events xs ys h.1, alike-look, alike-length, events-with)
+alike-events (x ∷ xs) (y ∷ ys) h = grind (arith, alike-events xs ys h.1, alike-classify, alike-length, events-with)
 alike-events xs ys h = grind arith
 
 alike-groups : (xs ys : List Taken) → AreAlike xs ys → groups_of xs ≡ groups_of ys
@@ -73,7 +75,8 @@ alike-groups xs ys h = (same-groups open_limit (events_of xs) (events_of ys) (al
 
 alike-classes_in : (groups : List (List Piece)) (xs ys : List Taken) → AreAlike xs ys
     → classes_in groups xs ≡ classes_in groups ys
-alike-classes_in groups (x ∷ xs) (y ∷ ys) h = grind (arith, alike-classes_in groups xs ys h.1, alike-look, alike-length)
+alike-classes_in groups (x ∷ xs) (y ∷ ys) h = grind
+    (arith, alike-classes_in groups xs ys h.1, alike-classify, alike-length)
 alike-classes_in groups xs ys h = grind arith
 
 alike-classes : (xs ys : List Taken) → AreAlike xs ys → classes xs ≡ classes ys
@@ -81,7 +84,7 @@ unfolding classes
 alike-classes xs ys h = ap (λ groups. classes_in groups xs) (alike-groups xs ys h)
     ∙ alike-classes_in (groups_of ys) xs ys h
 
-unit-by : (l : Look) (s : Stamped) (c d : Option Stamp) (es fs : List Event) → IsSameClock c d
+unit-by : (l : Classification) (s : Stamped) (c d : Option Stamp) (es fs : List Event) → IsSameClock c d
     → AllZip IsSameEvent es fs
     → unit_by l s c es ≡ unit_by l s d fs
 unit-by (plain k) s c d es fs e h = refl
@@ -91,7 +94,7 @@ unit-by (fragment p) s c d es fs e h = ap (λ (ps : List Piece). first_unit (if_
 
 alike-unit : (xs ys : List Taken) (x y : Taken) → AreAlike xs ys → IsAlike x y → unit_at xs x ≡ unit_at ys y
 unfolding unit_at
-alike-unit xs ys x y h k = grind (arith, alike-length, unit-by, alike-events, alike-look)
+alike-unit xs ys x y h k = grind (arith, alike-length, unit-by, alike-events, alike-classify)
 
 alike-units : (xs ys : List Taken) → AreAlike xs ys → counted_units xs ≡ counted_units ys
 unfolding counted_units

@@ -15,10 +15,11 @@ use Rattle.cap_blocks.specs.declared.blocks.Block.{Block}
 use Rattle.cap_pcap.specs.declared.records.Record.{Record}
 use Rattle.cap_source.specs.Contents.{content_in}
 use Rattle.cap_source.specs.Feed.{Item}
-use Rattle.cap_source.specs.Items.{Progress, fresh, behind, items_at_block, items_of_stop, items_of_blocks, pcap_items}
+use Rattle.cap_source.specs.Items.{SectionProgress, fresh, behind, items_at_block, items_of_stop, items_of_blocks}
+use Rattle.cap_source.specs.Items.{pcap_items}
 use Rattle.cap_source.specs.Items.{interface_of}
 use Rattle.cap_source.specs.Items.{is_pcapng, items_from, file_items}
-use Rattle.cap_source.specs.declared.contents.Content.{Content}
+use Rattle.cap_source.specs.declared.contents.BlockContent.{BlockContent}
 use Rattle.cap_laws.specs.again.Rounds.{in_file}
 
 -- ---- pieces, of either format
@@ -54,7 +55,7 @@ item_or-in : {P : Type 0} (n : ℕ) (o p : Option Stop) (x : P) (f : List ℕ) (
 unfolding item_in
 item_or-in n o p x f xs ys e h = grind arith
 
-items_by-in : {K P : Type 0} (format : pieces.Format K P)
+items_by-in : {K P : Type 0} (format : pieces.PieceFormat K P)
     → ((known : K) (tail : Tail) (n m offset : ℕ) (bytes : List ℕ)
     → format.stop known tail n offset bytes ≡ option_map (stop_in n) (format.stop known tail m offset bytes))
     → (fuel : ℕ) (known : K) (tail : Tail) (n m offset : ℕ) (bytes : List ℕ)
@@ -95,13 +96,14 @@ block_items : (section : Option Order) (tail : Tail) (n m offset : ℕ) (bytes :
 unfolding pieces.piece_items
 block_items section tail n m offset bytes = search (items_by-in, stop_where-in)
 
-content_items : (n m : ℕ) (progress : Progress) (block : Block) (body : List ℕ) (content : Result Content Rule)
+content_items : (n m : ℕ) (progress : SectionProgress) (block : Block) (body : List ℕ)
+    (content : Result BlockContent Rule)
     (xs ys : List Item)
     → xs ≡ map (in_file n) ys → items_at_block n progress block body content xs
     ≡ map (in_file n) (items_at_block m progress block body content ys)
 content_items n m progress block body content xs ys e = grind arith
 
-pcapng_numbered : (n m : ℕ) (progress : Progress) (xs : List (pieces.PieceItem Block))
+pcapng_numbered : (n m : ℕ) (progress : SectionProgress) (xs : List (pieces.PieceItem Block))
     → items_of_blocks n progress (map (item_in n) xs) ≡ map (in_file n) (items_of_blocks m progress xs)
 unfolding items_of_blocks item_in
 pcapng_numbered n m progress (pieces.given block body ∷ xs) =

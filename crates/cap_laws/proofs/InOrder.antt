@@ -28,7 +28,8 @@ use Rattle.cap_laws.specs.InOrder.{ByPlaces, IsByPlaces, ReportByPlaces, refusal
 use Rattle.cap_laws.specs.InOrder.{text_by_places_in, unit_after, unit_by_places, units_at}
 use Rattle.cap_talks.specs.talks.InfoText.{or_else}
 use Rattle.cap_talks.specs.talks.ReportText.{refusal_after, refusal_here, with_item, taken_after}
-use Rattle.cap_class.specs.Taken.{Taken, events_with_look, events_of, Look, plain, datagram, fragment, look}
+use Rattle.cap_class.specs.Taken.{Taken, events_classified, events_of, Classification, plain, datagram, fragment}
+use Rattle.cap_class.specs.Taken.{classify}
 use Rattle.cap_class.specs.Taken.{stamped_of}
 use Rattle.cap_talks.specs.table.TakenText.{body_by_in, body_text_in, files_part_in}
 
@@ -41,9 +42,9 @@ not_before a b h = turned_by (clock_cmp a b) (clock_cmp b a) (clock_total.antisy
 module _ (x : Taken) (place : ℕ) (es : List Event) (clock : Option Stamp) (rises : AtMost clock x.clock)
     (ordered : AreInOrder es) (late : AtMost (latest_clock es) clock)
     (below : next_place es ≤ place) where
-  pub one_more : (l : Look) → look place x ≡ l
-      → AreInOrder (events_with_look l x.clock es) × AtMost (latest_clock (events_with_look l x.clock es)) x.clock
-      × (next_place (events_with_look l x.clock es) ≤ place + 1)
+  pub one_more : (l : Classification) → classify place x ≡ l
+      → AreInOrder (events_classified l x.clock es) × AtMost (latest_clock (events_classified l x.clock es)) x.clock
+      × (next_place (events_classified l x.clock es) ≤ place + 1)
   one_more (plain c) is = (ordered, at_most-trans (latest_clock es) clock x.clock late rises, omega (arith, below))
   one_more (datagram header captured) is =
       (ordered, at_most-trans (latest_clock es) clock x.clock late rises, omega (arith, below))
@@ -68,7 +69,7 @@ ordered-more : (x : Taken) (xs : List Taken) (clock : Option Stamp) → AtMost c
     → Ordered (x ∷ xs) x.clock
 unfolding events_of
 ordered-more x xs clock rises o =
-    let more = one_more x (length xs) (events_of xs) clock rises o.order o.late o.below (look (length xs) x) refl in
+    let more = one_more x (length xs) (events_of xs) clock rises o.order o.late o.below (classify (length xs) x) refl in
     record { order = more.0; late = more.1; below = omega (arith, more.2) }
 
 ordered-item : (c clock : Option Stamp) (i : Item) (xs : List Taken) → AtMost clock c → Ordered xs clock
@@ -96,7 +97,8 @@ ordered-none = record { order = tt; late = refl; below = omega arith }
 -- the unit of one packet more
 module _ (xs : List Taken) (clock : Option Stamp) (stamped : Stamped) (ordered : AreInOrder (events_of xs))
     (late : AtMost (latest_clock (events_of xs)) clock) where
-  unit-same : (l : Look) → unit_by l stamped clock (events_of xs) ≡ unit_by_places l stamped clock (events_of xs)
+  unit-same : (l : Classification) → unit_by l stamped clock (events_of xs)
+      ≡ unit_by_places l stamped clock (events_of xs)
   unit-same (plain c) = refl
   unit-same (datagram header captured) = refl
   unit-same (fragment p) =
@@ -118,7 +120,7 @@ places-more x xs clock rises p =
       units = rw (
         p.units,
         unit-same xs x.clock (stamped_of (length xs) x.meta) p.ordered.order late
-            (look (length xs) x),
+            (classify (length xs) x),
       ) refl;
     }
 
@@ -176,7 +178,7 @@ limit-same : (x : Taken) (clock : Option Stamp) (xs : List Taken) → AtMost clo
 unfolding unit_at
 limit-same x clock xs rises p =
     let late = at_most-trans (latest_clock (events_of xs)) clock x.clock p.ordered.late rises in
-    let unit = unit-same xs x.clock (stamped_of (length xs) x.meta) p.ordered.order late (look (length xs) x) in
+    let unit = unit-same xs x.clock (stamped_of (length xs) x.meta) p.ordered.order late (classify (length xs) x) in
     λ i. is_limit_by (p.units i) (unit i)
 
 refusal-item : (c clock : Option Stamp) (i : Item) (xs : List Taken) → AtMost clock c → Places xs clock

@@ -11,7 +11,7 @@ use Rattle.cap_merge.specs.inner.Clocks.{AtMost, at_most-trans}
 use Rattle.cap_merge.specs.Parts.{item_time, is_refusal}
 use Rattle.cap_merge.specs.Run.{Clocked, opened_track, run}
 use Rattle.cap_source.specs.Feed.{Item, packet, refused}
-use Rattle.cap_class.specs.Taken.{Taken, look, taken, events_with_look}
+use Rattle.cap_class.specs.Taken.{Taken, classify, taken, events_classified}
 use Rattle.cap_time.specs.declared.stamps.Stamp.{Stamp}
 use Rattle.cap_write.specs.Joined.{completed, datagram_of, events_after, events_here, group_after, items_here}
 use Rattle.cap_write.specs.Joined.{items_of_packet, items_with_datagram, joined_items}
@@ -29,7 +29,7 @@ record Ready (place : ℕ) (es : List Event) (clock : Option Stamp) : Type 0 whe
 
 -- the events with a packet are those of the report
 events-more : (place : ℕ) (es : List Event) (x : Taken)
-    → events_after place es x.clock x.meta x.frame ≡ events_with_look (look place x) x.clock es
+    → events_after place es x.clock x.meta x.frame ≡ events_classified (classify place x) x.clock es
 unfolding events_after
 events-more place es x = refl
 
@@ -37,7 +37,7 @@ ready-packet : (place : ℕ) (es : List Event) (clock : Option Stamp) (x : Taken
     → Ready place es clock
     → Ready (place + 1) (events_after place es x.clock x.meta x.frame) x.clock
 ready-packet place es clock x rises r =
-    let more = one_more x place es clock rises r.order r.late r.below (look place x) refl in
+    let more = one_more x place es clock rises r.order r.late r.below (classify place x) refl in
     subst (λ (es : List Event). Ready (place + 1) es x.clock) (sym (events-more place es x))
     (record { order = more.0; late = more.1; below = more.2 })
 
@@ -65,7 +65,7 @@ same-items : (place : ℕ) (es : List Event) (c clock : Option Stamp) (i : Item)
 unfolding items_of_packet completed completed_by_places
 same-items place es c clock (packet meta frame) rises r =
     let group = same-group es c clock rises r.order r.late in
-    λ i. items_with_datagram meta frame (datagram_of (look place (taken c meta frame)) (λ p. group p i))
+    λ i. items_with_datagram meta frame (datagram_of (classify place (taken c meta frame)) (λ p. group p i))
 same-items place es c clock (refused refusal) rises r = refl
 
 same-run : (run : List (Clocked Item)) (place : ℕ) (es : List Event) (clock : Option Stamp) → NeverFalls clock run

@@ -14,13 +14,13 @@ use Rattle.cap_join.specs.Joiners.{open_limit}
 use Rattle.cap_join.specs.declared.datagrams.Stamped.{Stamped}
 use Rattle.cap_time.specs.declared.stamps.Stamp.{Stamp}
 use Rattle.cap_talks.specs.table.CountedUnits.{first_unit, group_unit, unit_at, unit_by, unit_of, timed_frame}
-use Rattle.cap_class.specs.Taken.{Look, plain, datagram, fragment, look, events_of, stamped_of}
+use Rattle.cap_class.specs.Taken.{Classification, plain, datagram, fragment, classify, events_of, stamped_of}
 use Rattle.cap_talks.specs.table.Units.{ends_of}
-use Rattle.cap_talks.specs.declared.table.units.End.{End}
+use Rattle.cap_talks.specs.declared.table.units.Endpoint.{Endpoint}
 use Rattle.cap_write.specs.Joined.{complete_of, completed, datagram_of, events_after, group_after, has_form, joined_of}
 use Rattle.cap_laws.specs.JoinedUnits.{has_all_data, JoinedUnits}
 
-form-ends : {A : Type 0} (f : End × End → A) (a b : ℕ) (t : Transport)
+form-ends : {A : Type 0} (f : Endpoint × Endpoint → A) (a b : ℕ) (t : Transport)
     → is_some (option_map f (ends_of a b t)) ≡ has_form t
 form-ends f a b (transports.Ports x y) = refl
 form-ends f a b transports.NoPorts = refl
@@ -57,16 +57,16 @@ unfolding joined_of
 some-joined ps = joined-by ps (completes ps)
 
 -- the datagram that a packet completes counts, if all of its data was captured
-by-look : (clock : Option Stamp) (s : Stamped) (es : List Event) (l : Look)
+by-classify : (clock : Option Stamp) (s : Stamped) (es : List Event) (l : Classification)
     → is_some (datagram_of l (group_after clock es)) ≡ (has_all_data l && is_some (unit_by l s clock es))
-by-look clock s es (plain c) = refl
-by-look clock s es (datagram h b) = grind (arith, whole-some, form-ends)
-by-look clock s es (fragment p) = some-joined (joined_pieces clock p (open_groups_after open_limit es))
+by-classify clock s es (plain c) = refl
+by-classify clock s es (datagram h b) = grind (arith, whole-some, form-ends)
+by-classify clock s es (fragment p) = some-joined (joined_pieces clock p (open_groups_after open_limit es))
 
 pub joined-units : JoinedUnits
 unfolding completed events_after events_of unit_at
 joined-units xs x =
     record {
-      written = by-look x.clock (stamped_of (length xs) x.meta) (events_of xs) (look (length xs) x);
+      written = by-classify x.clock (stamped_of (length xs) x.meta) (events_of xs) (classify (length xs) x);
       events = refl;
     }

@@ -27,9 +27,10 @@ use Rattle.cap_talks.specs.table.TakenText.{body_text_in, taken_bytes, truncated
 use Rattle.cap_talks.specs.table.TakenText.{joined_text}
 use Rattle.cap_talks.specs.table.TalkLines.{talks_text}
 use Rattle.cap_talks.specs.table.Rows.{is_refused, talk_limit}
-use Rattle.cap_class.specs.Taken.{Taken, Look, plain, datagram, fragment, look_at, look, events_with_look}
+use Rattle.cap_class.specs.Taken.{Taken, Classification, plain, datagram, fragment, classify_at, classify}
+use Rattle.cap_class.specs.Taken.{events_classified}
 use Rattle.cap_class.specs.Taken.{events_of}
-use Rattle.cap_talks.specs.table.Talks.{talk_key, rows_of}
+use Rattle.cap_talks.specs.table.Conversations.{talk_key, rows_of}
 use Rattle.cap_class.specs.declared.classes.Class.TheVariants as class
 use Rattle.cap_talks.specs.declared.table.units.CountedUnit.{CountedUnit}
 use Rattle.cap_time.specs.declared.stamps.Stamp.{Stamp}
@@ -63,16 +64,16 @@ RunsLike = AllZip (λ a b. LikeItems a.clock b.clock a.item b.item)
 
 -- ---- what each packet is
 
-abbrev LikeLook : Look → Look → Type 0
-LikeLook (plain k) (plain l) = k ≡ l
-LikeLook (datagram h c) (datagram i d) = (h ≡ i) × (c ≡ d)
-LikeLook (fragment p) (fragment q) = IsLike p q
-LikeLook (plain k) (datagram i d) = ⊥
-LikeLook (plain k) (fragment q) = ⊥
-LikeLook (datagram h c) (plain l) = ⊥
-LikeLook (datagram h c) (fragment q) = ⊥
-LikeLook (fragment p) (plain l) = ⊥
-LikeLook (fragment p) (datagram i d) = ⊥
+abbrev LikeClassification : Classification → Classification → Type 0
+LikeClassification (plain k) (plain l) = k ≡ l
+LikeClassification (datagram h c) (datagram i d) = (h ≡ i) × (c ≡ d)
+LikeClassification (fragment p) (fragment q) = IsLike p q
+LikeClassification (plain k) (datagram i d) = ⊥
+LikeClassification (plain k) (fragment q) = ⊥
+LikeClassification (datagram h c) (plain l) = ⊥
+LikeClassification (datagram h c) (fragment q) = ⊥
+LikeClassification (fragment p) (plain l) = ⊥
+LikeClassification (fragment p) (datagram i d) = ⊥
 
 piece-like : (header : HeaderFields) (captured : List ℕ) (s t : Stamped) → IsLikeFrame s t
     → IsLike (piece_of header captured s) (piece_of header captured t)
@@ -80,30 +81,31 @@ unfolding piece_of
 piece-like header captured s t h = record { header = refl; start = refl; more = refl; bytes = refl; stamped = h }
 
 at-like : (c : Carried) (whole : Bool) (s t : Stamped) → IsLikeFrame s t
-    → LikeLook (look_at c whole s) (look_at c whole t)
+    → LikeClassification (classify_at c whole s) (classify_at c whole t)
 at-like (ipv4 bytes) whole s t h = grind (arith, piece-like, common_steps, nat_tests)
 at-like other_link whole s t h = refl
 at-like not_ipv4 whole s t h = refl
 at-like short whole s t h = refl
 at-like ends whole s t h = refl
 
-look-like : (n m : ℕ) (x y : Taken) → n ≡ m → IsLikeTaken x y → LikeLook (look n x) (look m y)
-unfolding look
-look-like n m x y e h = grind (arith, at-like)
+classify-like : (n m : ℕ) (x y : Taken) → n ≡ m → IsLikeTaken x y → LikeClassification (classify n x) (classify m y)
+unfolding classify
+classify-like n m x y e h = grind (arith, at-like)
 
 taken-length : (xs ys : List Taken) → LikeTaken xs ys → length xs ≡ length ys
 taken-length = length_all_zip IsLikeTaken
 
 -- ---- the groups of fragments
 
-events-with : (l k : Look) (c d : Option Stamp) (es fs : List Event) → LikeLook l k → IsSameClock c d
+events-with : (l k : Classification) (c d : Option Stamp) (es fs : List Event) → LikeClassification l k
+    → IsSameClock c d
     → AllZip LikeEvent es fs
-    → AllZip LikeEvent (events_with_look l c es) (events_with_look k d fs)
+    → AllZip LikeEvent (events_classified l c es) (events_classified k d fs)
 events-with l k c d es fs e t h = grind arith
 
 events-like : (xs ys : List Taken) → LikeTaken xs ys → AllZip LikeEvent (events_of xs) (events_of ys)
 unfolding events_of
-events-like (x ∷ xs) (y ∷ ys) h = search (events-like xs ys h.1, events-with, look-like, taken-length)
+events-like (x ∷ xs) (y ∷ ys) h = search (events-like xs ys h.1, events-with, classify-like, taken-length)
 events-like xs ys h = grind arith
 
 groups-like : (xs ys : List Taken) → LikeTaken xs ys → AllZip Like (groups_of xs) (groups_of ys)
@@ -119,12 +121,13 @@ class-in : (gs ks : List (List Piece)) (n m : ℕ) → AllZip Like gs ks → n �
 class-in (g ∷ gs) (k ∷ ks) n m h e = grind (arith, class-in gs ks n m h.1 e, place-like, group-class)
 class-in gs ks n m h e = grind arith
 
-class-by : (gs ks : List (List Piece)) (l k : Look) → AllZip Like gs ks → LikeLook l k → class_by gs l ≡ class_by ks k
+class-by : (gs ks : List (List Piece)) (l k : Classification) → AllZip Like gs ks → LikeClassification l k
+    → class_by gs l ≡ class_by ks k
 class-by gs ks l k h e = grind (arith, class-in)
 
 classes-in : (gs ks : List (List Piece)) (xs ys : List Taken) → AllZip Like gs ks → LikeTaken xs ys
     → classes_in gs xs ≡ classes_in ks ys
-classes-in gs ks (x ∷ xs) (y ∷ ys) g h = search (classes-in gs ks xs ys g h.1, class-by, look-like, taken-length)
+classes-in gs ks (x ∷ xs) (y ∷ ys) g h = search (classes-in gs ks xs ys g h.1, class-by, classify-like, taken-length)
 classes-in gs ks xs ys g h = grind arith
 
 classes-like : (xs ys : List Taken) → LikeTaken xs ys → classes xs ≡ classes ys
@@ -139,7 +142,8 @@ counted-like gs ks h = grind arith
 
 -- ---- units
 
-unit-by : (l k : Look) (s t : Stamped) (c d : Option Stamp) (es fs : List Event) → LikeLook l k → IsLikeFrame s t
+unit-by : (l k : Classification) (s t : Stamped) (c d : Option Stamp) (es fs : List Event) → LikeClassification l k
+    → IsLikeFrame s t
     → IsSameClock c d → AllZip LikeEvent es fs
     → LikeUnit (unit_by l s c es) (unit_by k t d fs)
 unit-by (fragment p) (fragment q) s t c d es fs e f u h =
@@ -152,7 +156,7 @@ unit-by l k s t c d es fs e f u h = grind arith
 unit-at : (xs ys : List Taken) (x y : Taken) → LikeTaken xs ys → IsLikeTaken x y
     → LikeUnit (unit_at xs x) (unit_at ys y)
 unfolding unit_at
-unit-at xs ys x y h k = grind (arith, taken-length, unit-by, look-like, events-like)
+unit-at xs ys x y h k = grind (arith, taken-length, unit-by, classify-like, events-like)
 
 listed-like : (u v : Option CountedUnit) → LikeUnit u v → LikeUnits (listed u) (listed v)
 listed-like u v h = grind arith

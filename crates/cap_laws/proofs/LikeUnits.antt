@@ -16,15 +16,16 @@ use Rattle.cap_join.specs.declared.datagrams.Stamped.{Stamped}
 use Rattle.cap_time.specs.Clock.{clock_cmp}
 use Rattle.cap_talks.specs.table.CountedUnits.{first_unit, group_unit, timed_frame, unit_of}
 use Rattle.cap_talks.specs.table.Rows.{is_refused}
-use Rattle.cap_talks.specs.table.Talks.{Talk, units_bytes, by_time, by_time_down, earlier_frame, frames_of}
-use Rattle.cap_talks.specs.table.Talks.{greatest_frame}
-use Rattle.cap_talks.specs.table.Talks.{talk_key, keys_of, later_frame, least_frame, place_or, row_of, rows_of}
-use Rattle.cap_talks.specs.table.Talks.{same_talk}
-use Rattle.cap_talks.specs.table.Talks.{units_of_talk}
+use Rattle.cap_talks.specs.table.Conversations.{Conversation, units_bytes, by_time, by_time_down, earlier_frame}
+use Rattle.cap_talks.specs.table.Conversations.{frames_of}
+use Rattle.cap_talks.specs.table.Conversations.{greatest_frame}
+use Rattle.cap_talks.specs.table.Conversations.{talk_key, keys_of, later_frame, least_frame, place_or, row_of, rows_of}
+use Rattle.cap_talks.specs.table.Conversations.{same_talk}
+use Rattle.cap_talks.specs.table.Conversations.{units_of_talk}
 use Rattle.cap_talks.specs.table.Units.{ends_of}
 use Rattle.cap_talks.specs.declared.table.rows.TalkKey.{TalkKey}
 use Rattle.cap_talks.specs.declared.table.units.CountedUnit.{CountedUnit}
-use Rattle.cap_talks.specs.declared.table.units.End.{End}
+use Rattle.cap_talks.specs.declared.table.units.Endpoint.{Endpoint}
 use Rattle.cap_talks.specs.declared.table.units.TimedFrame.{TimedFrame}
 use Rattle.cap_laws.proofs.LikePieces.{Like, LikeFrames, data-like, frames-like, header-like, original-like}
 use Rattle.cap_laws.specs.Forms.{IsSameTalk}
@@ -58,7 +59,7 @@ LikeUnit None (Some v) = ⊥
 LikeUnit (Some u) None = ⊥
 LikeUnit (Some u) (Some v) = IsLikeUnit u v
 
-between : (ends : Option (End × End)) (protocol frames frames_again bytes bytes_again : ℕ)
+between : (ends : Option (Endpoint × Endpoint)) (protocol frames frames_again bytes bytes_again : ℕ)
     (first first_again last last_again : Option TimedFrame)
     → frames ≡ frames_again → bytes ≡ bytes_again → LikeTimed first first_again → LikeTimed last last_again
     → LikeUnit (option_map (unit_of protocol frames bytes first last) ends)
@@ -166,11 +167,11 @@ pub rows-like : (us vs : List CountedUnit) → LikeUnits us vs → AllZip IsSame
 unfolding rows_of
 rows-like us vs h = grind (arith, keys-like, rows-at)
 
-found-like : (key : TalkKey) (xs ys : List Talk) → AllZip IsSameTalk xs ys
+found-like : (key : TalkKey) (xs ys : List Conversation) → AllZip IsSameTalk xs ys
     → is_some (lookup (same_talk key) xs) ≡ is_some (lookup (same_talk key) ys)
 found-like key (x ∷ xs) (y ∷ ys) h = grind (arith, found-like key xs ys h.1)
 found-like key xs ys h = grind arith
 
-pub refused-like : (limit : ℕ) (key other : TalkKey) (xs ys : List Talk) → key ≡ other → AllZip IsSameTalk xs ys
+pub refused-like : (limit : ℕ) (key other : TalkKey) (xs ys : List Conversation) → key ≡ other → AllZip IsSameTalk xs ys
     → is_refused limit xs key ≡ is_refused limit ys other
 refused-like limit key other xs ys e h = grind (arith, found-like, length_all_zip)

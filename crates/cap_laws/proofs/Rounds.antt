@@ -14,7 +14,7 @@ use Rattle.cap_laws.specs.again.Laws.{instances, numbers}
 use Rattle.cap_laws.specs.again.Rounds.{FileRoundsLaw, MergeLaw, IsItemOf, IsMergeOf, numbered_files, run_of_packets}
 use Rattle.cap_laws.proofs.FileNumbers.{file-numbered}
 use Rattle.cap_laws.proofs.Twins.{goes, refuses}
-use Rattle.cap_laws.specs.Rounds.{Group, IsMerged, group_bytes, refused_by, RoundsInBytes}
+use Rattle.cap_laws.specs.Rounds.{FileGroup, IsMerged, group_bytes, refused_by, RoundsInBytes}
 
 -- the items of files of those bytes, each numbered as the first
 abbrev items_each : Tail → List (List ℕ) → List (List Item)
@@ -45,14 +45,14 @@ items-are origins items none same = grind (arith, refuses)
 
 -- ---- groups
 
-merges-of : MergeLaw → (tail tail_again : Tail) (groups : List Group) → AllByRecursion (IsMerged tail) groups
+merges-of : MergeLaw → (tail tail_again : Tail) (groups : List FileGroup) → AllByRecursion (IsMerged tail) groups
     → AllZip IsMergeOf (map (λ group. items_each tail group.files) groups)
     (items_each tail_again (map (group_bytes tail) groups))
 merges-of law tail tail_again [] are = tt
 merges-of law tail tail_again (group ∷ groups) are =
     grind (arith, merges-of law tail tail_again groups are.1, run-each, items-are)
 
-all-files : (tail : Tail) (groups : List Group)
+all-files : (tail : Tail) (groups : List FileGroup)
     → flat_map (λ files. files) (map (λ group. items_each tail group.files) groups)
     ≡ items_each tail (flat_map (λ group. group.files) groups)
 all-files tail [] = refl

@@ -14,14 +14,14 @@ use Rattle.cap_join.specs.History.{joined_pieces, step, open_groups_after}
 use Rattle.cap_link.specs.Links.{typed, raw, network_of}
 use Rattle.cap_link.specs.Tags.{is_tag, ended_in_link as tag_ended, payload, carried}
 use Rattle.cap_talks.specs.counts.Counting.{counted}
-use Rattle.cap_talks.specs.table.Talks.{rows_of}
+use Rattle.cap_talks.specs.table.Conversations.{rows_of}
 use Rattle.cap_time.specs.Code.{units_of_code}
 use Rattle.cap_time.specs.Stamp.{stamp_cmp, stamp_in, stamp_plus}
 use Rattle.cap_time.specs.Time.{time_cmp, time_at, floor_of, remainder_of}
 use Rattle.cap_talks.specs.table.Classes.{classes, group_class}
 use Rattle.cap_join.specs.Completed.{completed_of}
 use Rattle.cap_talks.specs.table.TakenText.{body_text_in, files_part_in}
-use Rattle.cap_class.specs.Taken.{look, events_of}
+use Rattle.cap_class.specs.Taken.{classify, events_of}
 use Rattle.cap_talks.specs.table.CountedUnits.{group_unit, unit_at, counted_units}
 use Rattle.cap_laws.specs.WorkedReport.{Overlapped, Tagged}
 
@@ -33,7 +33,7 @@ unfolding digits number version header_length service total_length identificatio
     transport_of completes joined_data piece_of joined_pieces step open_groups_after typed raw network_of counted
     rows_of
     units_of_code stamp_cmp stamp_in stamp_plus time_cmp time_at floor_of remainder_of classes group_class completed_of
-    body_text_in files_part_in look events_of group_unit unit_at counted_units
+    body_text_in files_part_in classify events_of group_unit unit_at counted_units
 overlapped = record { before = refl; after = refl; so_far = refl; done = refl }
 
 pub tagged : Tagged
@@ -44,5 +44,5 @@ unfolding digits number version header_length service total_length identificatio
     transport_of completes joined_data piece_of joined_pieces step open_groups_after typed raw network_of counted
     rows_of
     units_of_code stamp_cmp stamp_in stamp_plus time_cmp time_at floor_of remainder_of classes group_class completed_of
-    body_text_in files_part_in look events_of group_unit unit_at counted_units is_tag tag_ended payload carried
+    body_text_in files_part_in classify events_of group_unit unit_at counted_units is_tag tag_ended payload carried
 tagged = record { classes_are = refl; done = refl }

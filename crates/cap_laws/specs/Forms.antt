@@ -16,13 +16,13 @@ use Rattle.cap_talks.specs.talks.ReportText.{taken_after}
 use Rattle.cap_talks.specs.table.TakenText.{body_text, taken_bytes, truncated_of, total_text, frames_text, joined_text}
 use Rattle.cap_talks.specs.table.TalkLines.{talk_texts, talks_text}
 use Rattle.cap_class.specs.Taken.{Taken}
-use Rattle.cap_talks.specs.table.Talks.{Talk, rows_of}
+use Rattle.cap_talks.specs.table.Conversations.{Conversation, rows_of}
 use Rattle.cap_write.specs.Pcap.{pcap_bytes, pcap_refusal}
 use Rattle.cap_laws.specs.Reports.{refused_at}
 
 -- Two rows of conversations have the same protocol and ends, the same counts and places, and the same times, maybe in
 -- another form.
-pub record IsSameTalk (talk again : Talk) : Type 0 where
+pub record IsSameTalk (talk again : Conversation) : Type 0 where
   pub key : talk.0 ≡ again.0
   pub forward_frames : talk.1.forward_frames ≡ again.1.forward_frames
   pub forward_bytes : talk.1.forward_bytes ≡ again.1.forward_bytes

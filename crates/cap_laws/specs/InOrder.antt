@@ -21,7 +21,7 @@ use Rattle.cap_talks.specs.table.Classes.{classes, classes_in}
 use Rattle.cap_join.specs.Completed.{completed_pieces_at, if_complete}
 use Rattle.cap_talks.specs.talks.InfoText.{or_else}
 use Rattle.cap_talks.specs.talks.ReportText.{report_refusal, report_text_in, taken_after, with_item}
-use Rattle.cap_class.specs.Taken.{Taken, events_of, Look, plain, datagram, fragment, look, stamped_of}
+use Rattle.cap_class.specs.Taken.{Taken, events_of, Classification, plain, datagram, fragment, classify, stamped_of}
 use Rattle.cap_talks.specs.table.TakenText.{body_by_in, files_part_in}
 
 -- what is known of the fragments among some packets
@@ -37,14 +37,14 @@ abbrev pub classes_at : List Taken → List Class
 classes_at xs = classes_in (groups_at xs) xs
 
 -- the unit that a packet completes, if its group is that by places
-abbrev pub unit_by_places : Look → Stamped → Option Stamp → List Event → Option CountedUnit
+abbrev pub unit_by_places : Classification → Stamped → Option Stamp → List Event → Option CountedUnit
 unit_by_places (plain c) stamped clock events = None
 unit_by_places (datagram header captured) stamped clock events = whole_unit header captured stamped
 unit_by_places (fragment p) stamped clock events =
     first_unit (if_complete (group_by clock p (goes_on (fragment_key p) (marks open_limit events))).pieces)
 
 abbrev pub unit_after : List Taken → Taken → Option CountedUnit
-unit_after xs x = unit_by_places (look (length xs) x) (stamped_of (length xs) x.meta) x.clock (events_of xs)
+unit_after xs x = unit_by_places (classify (length xs) x) (stamped_of (length xs) x.meta) x.clock (events_of xs)
 
 unfoldable pub units_at : List Taken → List CountedUnit
 units_at [] = []

@@ -2,7 +2,7 @@
 use Rattle.std.specs.Prelude.{◌≡◌, ℕ, ◌+◌, List, [], ◌∷◌, ◌++◌, map, Option}
 use Rattle.cap_bytes.specs.declared.faults.Refusal.{Refusal}
 use Rattle.cap_bytes.specs.declared.numbers.Order.{Order}
-use Rattle.cap_class.specs.Taken.{look, taken}
+use Rattle.cap_class.specs.Taken.{classify, taken}
 use Rattle.cap_join.specs.Fragments.{Piece}
 use Rattle.cap_join.specs.History.{Event, fragment_key}
 use Rattle.cap_join.specs.Joiners.{open_limit}
@@ -24,7 +24,7 @@ group_by_places clock events p = (group_by clock p (goes_on (fragment_key p) (ma
 -- the datagram that a packet completes, which has that place in the run and that clock
 unfoldable pub completed_by_places : ℕ → List Event → Option Stamp → Meta → List ℕ → Option Complete
 completed_by_places place events clock meta frame =
-    datagram_of (look place (taken clock meta frame)) (group_by_places clock events)
+    datagram_of (classify place (taken clock meta frame)) (group_by_places clock events)
 
 -- what is to be written of an item of that clock
 abbrev pub items_by_places : ℕ → List Event → Option Stamp → Item → List Item

@@ -10,19 +10,19 @@ use Rattle.cap_source.specs.Feed.{Item}
 use Rattle.cap_write.specs.Texts.{merged_bytes, merged_refusal}
 
 -- Some files, by their bytes, that are merged, and the byte order that is asked for.
-pub record Group : Type 0 where
+pub record FileGroup : Type 0 where
   pub order : Order
   pub files : List (List ℕ)
 
 -- the packets of its run, and the file that its merge writes
-abbrev pub group_run : Tail → Group → List Item
+abbrev pub group_run : Tail → FileGroup → List Item
 group_run tail group = run_of_files tail group.files
 
-abbrev pub group_bytes : Tail → Group → List ℕ
+abbrev pub group_bytes : Tail → FileGroup → List ℕ
 group_bytes tail group = merged_bytes group.order (group_run tail group)
 
 -- Its merge refuses nothing, and writes at most 2^40 bytes.
-pub record IsMerged (tail : Tail) (group : Group) : Type 0 where
+pub record IsMerged (tail : Tail) (group : FileGroup) : Type 0 where
   pub bytes : AllByRecursion AreBytes group.files
   pub accepted : merged_refusal (group_run tail group) ≡ None
   pub size : length (group_bytes tail group) ≤ 2 ^ 40
@@ -36,7 +36,7 @@ refused_by items = option_map (λ refusal. refusal.rule) (merged_refusal items)
 -- the same rule.
 abbrev pub RoundsInBytes : Type 0
 RoundsInBytes =
-    (order : Order) (tail tail_again : Tail) (groups : List Group) → AllByRecursion (IsMerged tail) groups
+    (order : Order) (tail tail_again : Tail) (groups : List FileGroup) → AllByRecursion (IsMerged tail) groups
     → (let at_once = run_of_files tail (flat_map (λ group. group.files) groups) in
     let in_rounds = run_of_files tail_again (map (group_bytes tail) groups) in
     (merged_bytes order in_rounds ≡ merged_bytes order at_once)

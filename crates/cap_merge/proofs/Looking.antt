@@ -25,7 +25,7 @@ pub record Heads (ps : List Part) (r : Result Head Fault) (qs : List Part) : Typ
   pub run : IsTrue (merged_feed ps).told → KeepsRun ps r qs
   pub clocks : MovesClocks ps qs
 
--- what `has_packet` answers
+-- what `peek` answers
 pub record Finds (ps : List Part) (r : Result Bool Fault) (qs : List Part) : Type 0 where
   pub answer : FindsPacket (merged_feed ps) r (merged_feed qs)
   pub keeps : FeedKeeps (merged_feed ps) (merged_feed qs)
@@ -64,7 +64,7 @@ heads-stopped ps qs fault a s f =
       clocks = clocks-asked ps qs r s f;
     }
 
--- what `has_packet` answers in place of `head`
+-- what `peek` answers in place of `head`
 abbrev pub found_of : Result Head Fault → Result Bool Fault
 found_of (Ok (heads.Packet meta)) = Ok true
 found_of (Ok (heads.Refused refusal)) = Err (Refused refusal)

@@ -155,7 +155,7 @@ stopped-looks ps qs (Read file offset) s = (s, tt)
 stopped-looks ps qs Write s = absurd (never ps qs Write (λ p q h. h.gives) s)
 stopped-looks ps qs Memory s = (s, tt)
 
--- what `has_packet` answers, by what was asked and what comes next
+-- what `peek` answers, by what was asked and what comes next
 pub finds-all : (ps qs : List Part) (r : Result Bool Fault) → AreFrom 1 ps → LooksAll ps r qs
     → TellsNext (merged_feed qs).known r → AllByRecursion (λ q. IsFeed q.feed) qs
     → Finds ps r qs

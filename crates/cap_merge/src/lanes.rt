@@ -59,7 +59,7 @@ impl Lane {
         ensures asks { Asks (part self.old (F.feed feed.old)) result (part self.new (F.feed feed.new)) }
         ensures agrees { Matches self.new (F.feed feed.new) }
     {
-        match feed.has_packet() {
+        match feed.peek() {
             Ok(true) => {
                 self.next = Some(Ok(true));
                 reach(&mut self.clock, &feed.packet().time());
@@ -98,7 +98,7 @@ impl Lane {
         if self.next.is_some() {
             return false;
         }
-        if feed.shows_packet() {
+        if feed.try_peek_buffered() {
             self.next = Some(Ok(true));
             reach(&mut self.clock, &feed.packet().time());
             true

@@ -233,7 +233,7 @@ impl<F: PacketFeed> Merged<F> {
         coming_at(self.lanes.as_slice(), first).unwrap_or(false)
     }
 
-    // What `has_packet` returns of a packet that isn't at hand. It isn't inlined, so that what it returns takes no room
+    // What `peek` returns of a packet that isn't at hand. It isn't inlined, so that what it returns takes no room
     // where packets are at hand.
     #[inline(never)]
     fn find(&mut self) -> Result<bool, Fault>
@@ -280,7 +280,7 @@ impl<F: PacketFeed> PacketFeed for Merged<F> {
     }
 
     #[inline(always)]
-    fn has_packet(&mut self) -> Result<bool, Fault>
+    fn peek(&mut self) -> Result<bool, Fault>
         ensures answer { FindsPacket (merged_feed (parts_of self.old)) result
             (merged_feed (parts_of self.new)) }
         ensures keeps { FeedKeeps (merged_feed (parts_of self.old))
@@ -302,7 +302,7 @@ impl<F: PacketFeed> PacketFeed for Merged<F> {
     }
 
     // It asks its feeds what they have at hand, and has nothing at hand itself before it is asked.
-    fn shows_packet(&mut self) -> bool {
+    fn try_peek_buffered(&mut self) -> bool {
         false
     }
 

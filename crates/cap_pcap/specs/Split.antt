@@ -5,7 +5,7 @@ use Rattle.cap_bytes.specs.Number.{number}
 use Rattle.cap_bytes.specs.declared.faults.Rule.{Rule}
 use Rattle.cap_bytes.specs.declared.faults.Rule.TheVariants.{Magic, Version, Cut, PacketLong, FileLimit}
 use Rattle.cap_bytes.specs.declared.faults.Tail.{Tail}
-use Rattle.cap_bytes.specs.Items.{stop_where, PieceItem, given, stopped, Format, piece_items}
+use Rattle.cap_bytes.specs.Items.{stop_where, PieceItem, given, stopped, PieceFormat, piece_items}
 use Rattle.cap_bytes.specs.declared.numbers.Order.{Order}
 use Rattle.cap_bytes.specs.declared.numbers.Order.TheVariants.{Big, Little}
 use Rattle.cap_bytes.specs.declared.stops.Stop.{Stop}
@@ -83,7 +83,7 @@ abbrev pub record_stop_at : Order → Tail → ℕ → ℕ → List ℕ → Opti
 record_stop_at order tail file offset bytes = stop_where true tail file offset bytes (record_fault order offset bytes)
 
 -- how a file goes on after its header
-abbrev pub records : Format PcapHeader Record
+abbrev pub records : PieceFormat PcapHeader Record
 records =
     record {
       stop = λ header. record_stop_at header.order;

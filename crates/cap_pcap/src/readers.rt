@@ -7,7 +7,7 @@ ghost use Rattle.cap_pcap.specs.inner.Reader.{ReachesHeader};
 ghost use Rattle.cap_pcap.specs.inner.Reader.{ReachesRecord, TakesRecord, RefusesAgain, shown_record_size, place_after};
 
 use crate::headers::{HEADER_SIZE, PcapHeader, look_for_header};
-use crate::records::{HEAD_SIZE, Record, look_for_record, take_shown};
+use crate::records::{HEAD_SIZE, Record, look_for_record, try_next_buffered};
 use cap_bytes::{FILE_LIMIT, Fault, Source, Stop, Tail, Window};
 use std::marker::Model;
 
@@ -116,7 +116,7 @@ impl<R: Source> PcapReader<R> {
     /// The next record, if the window shows it whole already, as it does most of them: what `next_record` returns then,
     /// at less cost. `None` says nothing of the record, and leaves the reader as it is. The header is the file's.
     #[inline(always)]
-    pub fn take_shown(&mut self, header: PcapHeader) -> Option<Record>
+    pub fn try_next_buffered(&mut self, header: PcapHeader) -> Option<Record>
         requires { self.old.known ≡ Some header }
         ensures answer { IfSome result (λ r. GivesNextRecord header self.old (Ok (Some r)) self.new) }
         ensures reaches { IfSome result (λ r. ReachesRecord header self.old (Ok (Some r)) self.new) }
@@ -130,7 +130,7 @@ impl<R: Source> PcapReader<R> {
         if self.stop.is_some() {
             return None;
         }
-        match take_shown(&mut self.window, size_given(self.captured), header) {
+        match try_next_buffered(&mut self.window, size_given(self.captured), header) {
             Some(record) => {
                 self.captured = Some(record.captured as usize);
                 Some(record)

@@ -112,7 +112,7 @@ pub fn find_record(header: PcapHeader, offset: u64, bytes: &[u8]) -> Result<Reco
 
 // Passes the first bytes that a window shows, if it shows a whole record after them.
 #[inline(always)]
-pub fn take_shown<R: Source>(
+pub fn try_next_buffered<R: Source>(
     window: &mut Window<R>,
     given: usize,
     header: PcapHeader,
@@ -124,7 +124,7 @@ pub fn take_shown<R: Source>(
     ensures sees { IfSome result (λ r. (tail : Tail) → SeesRecord header tail r window.new window.new) }
     ensures none { IsNone result → window.new ≡ window.old }
 {
-    if !window.shows(given + HEAD_SIZE) {
+    if !window.has_buffered(given + HEAD_SIZE) {
         return None;
     }
     let (_, bytes) = window.bytes().split_at(given);

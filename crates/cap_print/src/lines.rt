@@ -35,6 +35,7 @@ fn write_hex(bytes: &[u8], room: &mut [u8], end: usize) -> usize
     let start = end - 2 * bytes.len();
     let (before, _) = room.split_at_mut(end);
     let (_, place) = before.split_at_mut(start);
+    // the place has two digits for each byte, so this can't fail
     let _ = hex::encode_to_slice(bytes, place);
     start
 }

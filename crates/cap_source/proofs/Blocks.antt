@@ -24,19 +24,20 @@ use Rattle.cap_bytes.specs.declared.faults.Rule.TheVariants as rules
 use Rattle.cap_source.specs.TimeBases.{interface_in}
 use Rattle.cap_source.specs.Contents.{fitting, of_interface, timed_in, simple_in, of_body, described, content_in}
 use Rattle.cap_source.specs.Feed as feeds
-use Rattle.cap_source.specs.Items.{Progress, behind, frame_in, items_at_block, items_of_blocks, ending_with, ending_in}
+use Rattle.cap_source.specs.Items.{SectionProgress, behind, frame_in, items_at_block, items_of_blocks, ending_with}
+use Rattle.cap_source.specs.Items.{ending_in}
 use Rattle.cap_source.specs.Items.{unless_faulty, first_in, unless_item, is_cut}
 use Rattle.cap_source.specs.inner.FileState.{FileState, pcapng_state, lent_length, part_of, FileLearns, FileKeeps}
 use Rattle.cap_source.specs.inner.FileState.{GoesOn}
 use Rattle.cap_source.specs.inner.FileState.{StepsTo}
 use Rattle.cap_source.specs.inner.FileState.{FileTakes, TakesShown, next_at}
-use Rattle.cap_source.specs.inner.Reached.{counted_blocks}
-use Rattle.cap_source.specs.declared.contents.Content.{Content}
-use Rattle.cap_source.specs.declared.contents.Content.TheVariants as contents
-use Rattle.cap_source.specs.declared.contents.Packet.{Packet}
+use Rattle.cap_source.specs.inner.SectionState.{counted_blocks}
+use Rattle.cap_source.specs.declared.contents.BlockContent.{BlockContent}
+use Rattle.cap_source.specs.declared.contents.BlockContent.TheVariants as contents
+use Rattle.cap_source.specs.declared.contents.BlockPacket.{BlockPacket}
 use Rattle.cap_source.specs.declared.feeds.FileEnd.{FileEnd}
-use Rattle.cap_source.specs.declared.readers.Next.{Next}
-use Rattle.cap_source.specs.declared.readers.Next.TheVariants as nexts
+use Rattle.cap_source.specs.declared.readers.Peeked.{Peeked}
+use Rattle.cap_source.specs.declared.readers.Peeked.TheVariants as peeks
 
 -- a total length that a kind allows
 pub total_least : (kind total size : ℕ) → IsTrue (is_total kind total) → size + 12 ≡ total
@@ -45,14 +46,14 @@ unfolding is_total
 total_least kind total size allowed is = grind (arith, nat_tests)
 
 -- what of a block
-abbrev pub IsFit : ℕ → List ℕ → Result Content Rule → Type 0
+abbrev pub IsFit : ℕ → List ℕ → Result BlockContent Rule → Type 0
 IsFit few body (Ok contents.Section) = Unit {0}
 IsFit few body (Ok (contents.Interface described)) = few < 1024
 IsFit few body (Ok (contents.Packet p)) = (p.place + p.captured ≤ length body) × (p.captured ≤ 262144)
 IsFit few body (Ok contents.Other) = Unit {0}
 IsFit few body (Err rule) = Unit {0}
 
-if_fit : (few : ℕ) (body : List ℕ) (b : Bool) (x y : Result Content Rule) → IsFit few body x → IsFit few body y
+if_fit : (few : ℕ) (body : List ℕ) (b : Bool) (x y : Result BlockContent Rule) → IsFit few body x → IsFit few body y
     → IsFit few body (cond b x y)
 if_fit few body b x y p q = grind arith
 
@@ -61,17 +62,18 @@ interface_fit : (few : ℕ) (order : Order) (body : List ℕ)
 unfolding interface_in
 interface_fit few order body = grind arith
 
-fitting_by : (few : ℕ) (p : Packet) (body : List ℕ) (a b : Bool) → nat_lt 262144 p.captured ≡ a
+fitting_by : (few : ℕ) (p : BlockPacket) (body : List ℕ) (a b : Bool) → nat_lt 262144 p.captured ≡ a
     → nat_lt (length body) (p.place + p.captured) ≡ b
     → IsFit few body (of_body contents.Packet (cond a (Err rules.PacketLong) (cond b (Err rules.Captured) (Ok p))))
 fitting_by few p body a b is_a is_b = grind arith
 
-packet_fit : (few : ℕ) (p : Packet) (body : List ℕ) → IsFit few body (of_body contents.Packet (fitting p (length body)))
+packet_fit : (few : ℕ) (p : BlockPacket) (body : List ℕ)
+    → IsFit few body (of_body contents.Packet (fitting p (length body)))
 unfolding fitting
 packet_fit few p body = fitting_by few p body (nat_lt 262144 p.captured)
     (nat_lt (length body) (p.place + p.captured)) refl refl
 
-at_interface : (few : ℕ) (body : List ℕ) (i : Option Interface) (make : Interface → Packet)
+at_interface : (few : ℕ) (body : List ℕ) (i : Option Interface) (make : Interface → BlockPacket)
     → IsFit few body (of_body contents.Packet (of_interface i (λ interface. fitting (make interface) (length body))))
 at_interface few body None make = tt
 at_interface few body (Some interface) make = packet_fit few (make interface) body
@@ -114,34 +116,34 @@ pub content_same : (interfaces : List Interface) (kind : ℕ) (order : Order) (l
     ≡ content_in interfaces kind order (unwrap_or lent [])
 content_same interfaces kind order lent body known is = grind (arith, other)
 
-pub packet_lent : (interfaces : List Interface) (kind : ℕ) (order : Order) (lent : Option (List ℕ)) (p : Packet)
+pub packet_lent : (interfaces : List Interface) (kind : ℕ) (order : Order) (lent : Option (List ℕ)) (p : BlockPacket)
     → is_some lent ≡ is_known_kind kind
     → Ok (contents.Packet p) ≡ content_in interfaces kind order (unwrap_or lent []) → IsSome lent
 packet_lent interfaces kind order lent p known is = grind (arith, other)
 
-pub frame_same : (lent : Option (List ℕ)) (body : List ℕ) (p : Packet) → IsSome lent → IfSome lent (λ b. b ≡ body)
+pub frame_same : (lent : Option (List ℕ)) (body : List ℕ) (p : BlockPacket) → IsSome lent → IfSome lent (λ b. b ≡ body)
     → part_of lent p.place p.captured ≡ frame_in p body
 frame_same lent body p there is = grind arith
 
-lent_size : (few : ℕ) (lent : Option (List ℕ)) (p : Packet) → IsSome lent
+lent_size : (few : ℕ) (lent : Option (List ℕ)) (p : BlockPacket) → IsSome lent
     → IsFit few (unwrap_or lent []) (Ok (contents.Packet p)) → p.place + p.captured + 1 ≤ lent_length lent
 lent_size few lent p there fit = grind arith
 
-pub items_behind : (f g : ℕ) (p : Progress) (block : Block) (body : List ℕ) (content : Result Content Rule)
+pub items_behind : (f g : ℕ) (p : SectionProgress) (block : Block) (body : List ℕ) (content : Result BlockContent Rule)
     (old new : List (PieceItem Block)) → f ≡ g → old ≡ given block body ∷ new
     → content_in p.interfaces block.kind block.order body ≡ content
     → items_at_block f p block body content (items_of_blocks f (behind p content) new) ≡ items_of_blocks g p old
 unfolding items_of_blocks
 items_behind f g p block body content old new fg is e = rw (is, ← e, fg) refl
 
-pub ending_behind : (p : Progress) (block : Block) (body : List ℕ) (content : Result Content Rule)
+pub ending_behind : (p : SectionProgress) (block : Block) (body : List ℕ) (content : Result BlockContent Rule)
     (old new : List (PieceItem Block)) → old ≡ given block body ∷ new
     → content_in p.interfaces block.kind block.order body ≡ content
     → unless_faulty content (ending_with p false) (ending_in (behind p content) new) ≡ ending_in p old
 unfolding ending_in
 ending_behind p block body content old new is e = rw (is, ← e) refl
 
-first_behind : (p : Progress) (block : Block) (body : List ℕ) (content : Result Content Rule)
+first_behind : (p : SectionProgress) (block : Block) (body : List ℕ) (content : Result BlockContent Rule)
     (old new : List (PieceItem Block)) → old ≡ given block body ∷ new
     → content_in p.interfaces block.kind block.order body ≡ content
     → unless_item content p.first (first_in (behind p content) new) ≡ first_in p old
@@ -149,8 +151,8 @@ unfolding first_in
 first_behind p block body content old new is e = rw (is, ← e) refl
 
 -- After a block the file goes on, or a packet or a refusal comes next.
-pub block_steps : (file : ℕ) (old new : ReaderState Order) (p : Progress) (block : Block)
-    (content : Result Content Rule)
+pub block_steps : (file : ℕ) (old new : ReaderState Order) (p : SectionProgress) (block : Block)
+    (content : Result BlockContent Rule)
     → file ≡ old.file → GivesBlock old block new → ReaderKeeps old new
     → (IsTrue old.told → blocks_to_come old ≡ given block (body_in block.total old.coming) ∷ blocks_to_come new)
     → content ≡ content_in p.interfaces block.kind block.order (unwrap_or new.lent [])
@@ -170,7 +172,7 @@ block_steps file old new p block content named g k taken is =
     says t = content_same p.interfaces block.kind block.order new.lent (body_in block.total old.coming) g.known
         (g.body_is t) ∙ sym is
 
-    goes : (q : Progress)
+    goes : (q : SectionProgress)
         → (IsTrue old.told
         → items_of_blocks new.file q (blocks_to_come new) ≡ items_of_blocks old.file p (blocks_to_come old))
         → (IsTrue old.told → ending_in q (blocks_to_come new) ≡ ending_in p (blocks_to_come old))
@@ -178,7 +180,7 @@ block_steps file old new p block content named g k taken is =
         → GoesOn (pcapng_state old p) (pcapng_state new q)
     goes q items ending first = grind arith
 
-    by : (c : Result Content Rule) → c ≡ content_in p.interfaces block.kind block.order (unwrap_or new.lent [])
+    by : (c : Result BlockContent Rule) → c ≡ content_in p.interfaces block.kind block.order (unwrap_or new.lent [])
         → IsFit (length p.interfaces) (unwrap_or new.lent []) c
         → (IsTrue old.told → items_at_block new.file p block (body_in block.total old.coming) c
         (items_of_blocks new.file (behind p c) (blocks_to_come new)) ≡ items_of_blocks old.file p (blocks_to_come old))
@@ -190,7 +192,8 @@ block_steps file old new p block content named g k taken is =
     by c same fit items ending first = grind (arith, packet_lent, lent_size, none_stops, items_of_blocks, frame_same)
 
 -- What a block leaves of the counts.
-pub block_keeps : (old new : ReaderState Order) (p : Progress) (block : Block) (content : Result Content Rule)
+pub block_keeps : (old new : ReaderState Order) (p : SectionProgress) (block : Block)
+    (content : Result BlockContent Rule)
     → GivesBlock old block new → ReaderKeeps old new
     → content ≡ content_in p.interfaces block.kind block.order (unwrap_or new.lent [])
     → FileKeeps (pcapng_state old p) (pcapng_state new (behind p content))
@@ -199,33 +202,33 @@ block_keeps old new p block content g k is = grind (arith, unwrap_or, content_fi
 stopped_again : (new : ReaderState Order) (stop : Stop) → new.stop ≡ Some stop → blocks_to_come new ≡ stopped stop ∷ []
 stopped_again new stop is = rw is refl
 
-no_items : (stop : Stop) (file : ℕ) (p : Progress) (items : List (PieceItem Block)) → IsEnd stop
+no_items : (stop : Stop) (file : ℕ) (p : SectionProgress) (items : List (PieceItem Block)) → IsEnd stop
     → items ≡ stopped stop ∷ []
     → [] ≡ items_of_blocks file p items
 unfolding items_of_blocks
 no_items stop file p items h is = grind arith
 
-ending_stopped : (stop : Stop) (p : Progress) (items : List (PieceItem Block)) → items ≡ stopped stop ∷ []
+ending_stopped : (stop : Stop) (p : SectionProgress) (items : List (PieceItem Block)) → items ≡ stopped stop ∷ []
     → ending_with p (is_cut stop) ≡ ending_in p items
 unfolding ending_in
 ending_stopped stop p items is = rw is refl
 
-first_stopped : (stop : Stop) (p : Progress) (items : List (PieceItem Block)) → items ≡ stopped stop ∷ []
+first_stopped : (stop : Stop) (p : SectionProgress) (items : List (PieceItem Block)) → items ≡ stopped stop ∷ []
     → p.first ≡ first_in p items
 unfolding first_in
 first_stopped stop p items is = rw is refl
 
-refused_items : (refusal : Refusal) (file : ℕ) (p : Progress) (items : List (PieceItem Block))
+refused_items : (refusal : Refusal) (file : ℕ) (p : SectionProgress) (items : List (PieceItem Block))
     → items ≡ stopped (stops.Refused refusal) ∷ [] → feeds.refused refusal ∷ [] ≡ items_of_blocks file p items
 unfolding items_of_blocks
 refused_items refusal file p items is = rw is refl
 
 -- The blocks end.
-pub end_learned : (cut : Bool) (stop : Stop) (old new : ReaderState Order) (p : Progress) → old.stop ≡ None
+pub end_learned : (cut : Bool) (stop : Stop) (old new : ReaderState Order) (p : SectionProgress) → old.stop ≡ None
     → IsEnd stop → GivesStop (is_some old.known) (block_fault old.known old.offset old.coming) stop old new
     → IsTrue cut ↔ (new.stop ≡ Some stops.Cut) → ReaderKeeps old new
     → (IsTrue old.told → blocks_to_come new ≡ blocks_to_come old)
-    → FileLearns (pcapng_state old p) (nexts.End (ending_with p cut)) (pcapng_state new p)
+    → FileLearns (pcapng_state old p) (peeks.End (ending_with p cut)) (pcapng_state new p)
 end_learned cut stop old new p free ends g was k same =
     let at = from_none old.stop _ free g.first in
     let which = cut_is cut stop (rw (g.stop_is) at was) in
@@ -241,11 +244,11 @@ end_learned cut stop old new p free ends g was k same =
     }
 
 -- A rest is refused.
-pub refusal_learned : (refusal : Refusal) (old new : ReaderState Order) (p : Progress) → old.stop ≡ None
+pub refusal_learned : (refusal : Refusal) (old new : ReaderState Order) (p : SectionProgress) → old.stop ≡ None
     → GivesStop (is_some old.known) (block_fault old.known old.offset old.coming) (stops.Refused refusal) old new
     → ReaderKeeps old new
     → (IsTrue old.told → blocks_to_come old ≡ stopped (stops.Refused refusal) ∷ [])
-    → FileLearns (pcapng_state old p) (nexts.Refused refusal (ending_with p false)) (pcapng_state new p)
+    → FileLearns (pcapng_state old p) (peeks.Refused refusal (ending_with p false)) (pcapng_state new p)
 refusal_learned refusal old new p free g k same =
     let at = from_none old.stop _ free g.first in
     record {
@@ -264,9 +267,9 @@ refusal_learned refusal old new p free g k same =
     }
 
 -- the same, of what a call answered
-pub block_stepped : (file : ℕ) (old new : ReaderState Order) (p q : Progress) (block : Block)
-    (content : Result Content Rule)
-    (next : Option Next)
+pub block_stepped : (file : ℕ) (old new : ReaderState Order) (p q : SectionProgress) (block : Block)
+    (content : Result BlockContent Rule)
+    (next : Option Peeked)
     → next ≡ next_at file p block content → q ≡ behind p content
     → file ≡ old.file → GivesBlock old block new → ReaderKeeps old new
     → (IsTrue old.told → blocks_to_come old ≡ given block (body_in block.total old.coming) ∷ blocks_to_come new)
@@ -275,37 +278,39 @@ pub block_stepped : (file : ℕ) (old new : ReaderState Order) (p q : Progress) 
 block_stepped file old new p q block content next is_next is_q named g k taken is = grind (arith, block_steps)
 
 -- The same of a packet's block, of which a packet or a refusal comes next.
-pub packet_shown : (old new : FileState) (file : ℕ) (p : Progress) (block : Block) (said : Result Packet Rule)
-    (next : Option Next)
+pub packet_shown : (old new : FileState) (file : ℕ) (p : SectionProgress) (block : Block)
+    (said : Result BlockPacket Rule)
+    (next : Option Peeked)
     → next ≡ next_at file p block (of_body contents.Packet said) → StepsTo old next new → TakesShown old true next new
 packet_shown old new file p block said (Some next) is steps = (next, refl, steps)
 packet_shown old new file p block (Ok packet) None is steps = cc
 packet_shown old new file p block (Err rule) None is steps = cc
 
-pub block_kept : (old new : ReaderState Order) (p q : Progress) (block : Block) (content : Result Content Rule)
+pub block_kept : (old new : ReaderState Order) (p q : SectionProgress) (block : Block)
+    (content : Result BlockContent Rule)
     → q ≡ behind p content → GivesBlock old block new → ReaderKeeps old new
     → content ≡ content_in p.interfaces block.kind block.order (unwrap_or new.lent [])
     → FileKeeps (pcapng_state old p) (pcapng_state new q)
 block_kept old new p q block content is_q g k is = grind (arith, block_keeps)
 
-pub refusal_kept : (refusal : Refusal) (ending : FileEnd) (old new : ReaderState Order) (p : Progress)
+pub refusal_kept : (refusal : Refusal) (ending : FileEnd) (old new : ReaderState Order) (p : SectionProgress)
     → ending ≡ ending_with p false → old.stop ≡ None
     → GivesStop (is_some old.known) (block_fault old.known old.offset old.coming) (stops.Refused refusal) old new
     → ReaderKeeps old new
     → (IsTrue old.told → blocks_to_come old ≡ stopped (stops.Refused refusal) ∷ [])
-    → FileLearns (pcapng_state old p) (nexts.Refused refusal ending) (pcapng_state new p)
+    → FileLearns (pcapng_state old p) (peeks.Refused refusal ending) (pcapng_state new p)
 refusal_kept refusal ending old new p is_ending free g k same =
-    subst (λ (e : FileEnd). FileLearns (pcapng_state old p) (nexts.Refused refusal e) (pcapng_state new p))
+    subst (λ (e : FileEnd). FileLearns (pcapng_state old p) (peeks.Refused refusal e) (pcapng_state new p))
     (sym is_ending)
     (refusal_learned refusal old new p free g k same)
 
 -- a packet, or a refusal of one, leaves what was read of the file
-pub behind-packet : (p : Progress) (said : Result Packet Rule) → p ≡ behind p (of_body contents.Packet said)
+pub behind-packet : (p : SectionProgress) (said : Result BlockPacket Rule) → p ≡ behind p (of_body contents.Packet said)
 behind-packet p (Ok packet) = refl
 behind-packet p (Err rule) = refl
 
 -- what was said of the body that is lent
-pub content_lent : (said : Result Content Rule) (these those : List Interface) (kind : ℕ) (order : Order)
+pub content_lent : (said : Result BlockContent Rule) (these those : List Interface) (kind : ℕ) (order : Order)
     (lent : Option (List ℕ)) (body : List ℕ)
     → said ≡ content_in these enhanced_kind order body → these ≡ those → kind ≡ enhanced_kind → lent ≡ Some body
     → said ≡ content_in those kind order (unwrap_or lent [])
@@ -318,7 +323,7 @@ enhanced_size kind total size allowed is kind_is = let least = rw kind_is at (to
     omega (arith, least)
 
 -- How far is read for a block.
-pub block_taken : (old new : ReaderState Order) (block : Block) (p q : Progress) → GivesBlock old block new
+pub block_taken : (old new : ReaderState Order) (block : Block) (p q : SectionProgress) → GivesBlock old block new
     → ReachesBlock old (Ok (Some block)) new
     → FileTakes (pcapng_state old p) (pcapng_state new q)
 block_taken old new block p q g h = (omega (arith, g.gives.next, g.least), rw g.gives.next h)

@@ -30,25 +30,25 @@ use Rattle.cap_source.proofs.FedBlocks.{skip-facts}
 use Rattle.cap_source.proofs.FedBlocks.{skip-other, skip-passed, skip-short}
 use Rattle.cap_source.proofs.FedStops.{broken, broken-by, stop_by-short, stopped-as}
 use Rattle.cap_source.specs.Contents.{content_in}
-use Rattle.cap_source.specs.Fed.{CourseState, items_after, items_at_stage, skipped_items}
+use Rattle.cap_source.specs.Fed.{PushView, items_after, items_at_stage, skipped_items}
 use Rattle.cap_source.specs.Feed.{Item, packet, refused}
-use Rattle.cap_source.specs.Items.{Progress, after, behind, frame_in, is_pcapng, items_at_block, items_from}
+use Rattle.cap_source.specs.Items.{SectionProgress, after, behind, frame_in, is_pcapng, items_at_block, items_from}
 use Rattle.cap_source.specs.Items.{items_of_blocks, items_of_stop}
-use Rattle.cap_source.specs.declared.contents.Content.{Content}
-use Rattle.cap_source.specs.declared.contents.Content.TheVariants as contents
-use Rattle.cap_source.specs.declared.contents.Packet.{Packet}
-use Rattle.cap_source.specs.declared.fed.FedStep.{FedStep}
-use Rattle.cap_source.specs.declared.fed.FedStep.TheVariants as steps
+use Rattle.cap_source.specs.declared.contents.BlockContent.{BlockContent}
+use Rattle.cap_source.specs.declared.contents.BlockContent.TheVariants as contents
+use Rattle.cap_source.specs.declared.contents.BlockPacket.{BlockPacket}
+use Rattle.cap_source.specs.declared.fed.PushEvent.{PushEvent}
+use Rattle.cap_source.specs.declared.fed.PushEvent.TheVariants as steps
 use Rattle.cap_source.specs.declared.fed.Stage.{Stage}
 use Rattle.cap_source.specs.declared.fed.Stage.TheVariants.{Start, Blocks, Skipping, Stopped}
 use Rattle.cap_source.specs.declared.packets.Meta.{Meta}
-use Rattle.cap_source.specs.inner.FedSteps.{AreShort, BreaksBy, BreaksOff, IsAtBlock, IsNoPacket, IsSoundCourse}
+use Rattle.cap_source.specs.inner.FedSteps.{AreShort, BreaksBy, BreaksOff, IsAtBlock, IsNoPacket, IsSoundPush}
 use Rattle.cap_source.specs.inner.FedSteps.{StepsFed}
 use Rattle.cap_source.specs.inner.FedSteps.{TakesBlockFed}
 use Rattle.cap_source.specs.inner.FedSteps.{IsSoundStage, StopsFed, TakesFed, behind_block}
 
 -- a packet's bytes in its block
-frame-at : (p : Packet) (total : ℕ) (b : List ℕ) → 12 + p.place + p.captured ≤ total
+frame-at : (p : BlockPacket) (total : ℕ) (b : List ℕ) → 12 + p.place + p.captured ≤ total
     → frame_in p (body_in total b) ≡ take p.captured (drop (8 + p.place) b)
 frame-at p total b within =
     let m = (total - 12) - p.place in
@@ -59,16 +59,17 @@ frame-at p total b within =
     ∙ ap (take p.captured) (drop-drop p.place 8 b)))
 
 -- a block that gives no packet
-no-packet : (file : ℕ) (progress : Progress) (block : Block) (body : List ℕ) (content : Content) (rest : List Item)
+no-packet : (file : ℕ) (progress : SectionProgress) (block : Block) (body : List ℕ) (content : BlockContent)
+    (rest : List Item)
     → IsNoPacket content → items_at_block file progress block body (Ok content) rest ≡ rest
 no-packet file progress block body contents.Section rest h = refl
 no-packet file progress block body (contents.Interface described) rest h = refl
 no-packet file progress block body (contents.Packet p) rest h = absurd h
 no-packet file progress block body contents.Other rest h = refl
 
-module _ (old : CourseState) (section : Option Order) (b : List ℕ) (at : old.stage ≡ Blocks section) where
+module _ (old : PushView) (section : Option Order) (b : List ℕ) (at : old.stage ≡ Blocks section) where
   -- a block that breaks a rule
-  pub block-breaks : (rule : Rule) (result : Result FedStep Fault) (new : CourseState)
+  pub block-breaks : (rule : Rule) (result : Result PushEvent Fault) (new : PushView)
       → block_fault section old.offset b ≡ Some rule → (rule ≡ Cut → length b < 2 ^ 19)
       → BreaksOff old (is_some section) b rule result new → StepsFed old b result new
   block-breaks rule result new is few h =
@@ -85,7 +86,7 @@ module _ (old : CourseState) (section : Option Order) (b : List ℕ) (at : old.s
 
     -- one that stands whole, by what it says
     module _ (whole : block.total ≤ length b) (none : body_fault block.order b ≡ None) where
-      said : Result Content Rule
+      said : Result BlockContent Rule
       said = content_in old.progress.interfaces block.kind block.order (body_in block.total b)
 
       fed : (later : List ℕ) → items_after old (b ++ later)
@@ -98,20 +99,20 @@ module _ (old : CourseState) (section : Option Order) (b : List ℕ) (at : old.s
           ap (λ (s : Stage). items_at_stage s old (b ++ later)) at
           ∙ block-fed old.file old.progress section old.tail old.offset b later block p whole none
 
-      by-said : (s : Result Content Rule) → said ≡ s → (later : List ℕ) → items_after old (b ++ later)
+      by-said : (s : Result BlockContent Rule) → said ≡ s → (later : List ℕ) → items_after old (b ++ later)
           ≡ items_at_block old.file old.progress block (body_in block.total b) s
           (items_of_blocks old.file (behind old.progress s)
           (block_items_from (Some block.order) old.tail old.file (old.offset + block.total)
           (drop block.total b ++ later)))
       by-said s is later =
           fed later
-          ∙ ap (λ (s : Result Content Rule). items_at_block old.file old.progress block (body_in block.total b) s
+          ∙ ap (λ (s : Result BlockContent Rule). items_at_block old.file old.progress block (body_in block.total b) s
           (items_of_blocks old.file (behind old.progress s)
           (block_items_from (Some block.order) old.tail old.file (old.offset + block.total)
           (drop block.total b ++ later)))) is
 
       -- and goes on behind it
-      goes-on : (progress : Progress) (new : CourseState) (size : ℕ) (later : List ℕ) → size ≡ block.total
+      goes-on : (progress : SectionProgress) (new : PushView) (size : ℕ) (later : List ℕ) → size ≡ block.total
           → new ≡ behind_block old block progress
           → items_of_blocks old.file progress
           (block_items_from (Some block.order) old.tail old.file (old.offset + block.total)
@@ -121,7 +122,7 @@ module _ (old : CourseState) (section : Option Order) (b : List ℕ) (at : old.s
           (λ i. items_of_blocks old.file progress
           (block_items_from (Some block.order) old.tail old.file (sym offset-same i + block.total)
           (drop (sym sized i) b ++ later)))
-          ∙ ap (λ (c : CourseState). items_after c (drop size b ++ later)) (sym is)
+          ∙ ap (λ (c : PushView). items_after c (drop size b ++ later)) (sym is)
 
       some : 0 < block.total
       some =
@@ -134,7 +135,7 @@ module _ (old : CourseState) (section : Option Order) (b : List ℕ) (at : old.s
             total-at section old.offset b,
           )
 
-      taken-by : (result : Result FedStep Fault) (new : CourseState) → TakesFed old block said result new
+      taken-by : (result : Result PushEvent Fault) (new : PushView) → TakesFed old block said result new
           → StepsFed old b result new
       taken-by (Ok (steps.Packet meta place size)) new h =
           let pk = h.0 in
@@ -160,16 +161,16 @@ module _ (old : CourseState) (section : Option Order) (b : List ℕ) (at : old.s
       taken-by (Ok steps.Ends) new h = absurd h
       taken-by (Err (faults.Refused refusal)) new h = (
         λ later may. by-said (Err h.0) h.1 later ∙ ap (λ (r : Refusal). refused r ∷ []) (sym h.2),
-        λ rest. ap (λ (c : CourseState). items_after c rest) h.3,
+        λ rest. ap (λ (c : PushView). items_after c rest) h.3,
       )
       taken-by (Err (faults.Read file offset)) new h = absurd h
       taken-by (Err faults.Write) new h = absurd h
       taken-by (Err faults.Memory) new h = (
-        subst IsAtBlock (sym (ap (λ (c : CourseState). c.stage) h ∙ at)) tt,
-        λ later. ap (λ (c : CourseState). items_after c (b ++ later)) (sym h),
+        subst IsAtBlock (sym (ap (λ (c : PushView). c.stage) h ∙ at)) tt,
+        λ later. ap (λ (c : PushView). items_after c (b ++ later)) (sym h),
       )
 
-      pub taken : (result : Result FedStep Fault) (new : CourseState) → TakesBlockFed old block b result new
+      pub taken : (result : Result PushEvent Fault) (new : PushView) → TakesBlockFed old block b result new
           → StepsFed old b result new
       unfolding said
       taken result new h = taken-by result new h
@@ -182,7 +183,7 @@ module _ (old : CourseState) (section : Option Order) (b : List ℕ) (at : old.s
           let facts = skip-facts old.file old.progress section old.tail old.offset b [] block p unknown inside in
           (grind (arith, f.head, facts.0), grind (arith, nat_tests), grind (arith, nat_tests))
 
-      pub skip-begins : (n : ℕ) (new : CourseState) → n ≡ min (block.total - 4) (length b)
+      pub skip-begins : (n : ℕ) (new : PushView) → n ≡ min (block.total - 4) (length b)
           → new ≡ record old { stage = Skipping block (block.total - 4 - n) } → StepsFed old b (Ok (steps.Passed n)) new
       skip-begins n new is same =
           let s = skip-some n is in (
@@ -192,14 +193,14 @@ module _ (old : CourseState) (section : Option Order) (b : List ℕ) (at : old.s
                 ap (λ (s : Stage). items_at_stage s old (b ++ later)) at
                 ∙ (skip-entered old.file old.progress section old.tail old.offset b later block p unknown inside
                 ∙ (skip-passed old.file old.tail old.progress block (block.total - 4) n b later s.1 s.2
-                ∙ ap (λ (c : CourseState). items_after c (drop n b ++ later)) (sym same))),
+                ∙ ap (λ (c : PushView). items_after c (drop n b ++ later)) (sym same))),
           )
 
-      pub skip-sound : (left : ℕ) (new : CourseState) → IsSoundCourse old
-          → new ≡ record old { stage = Skipping block left } → IsSoundCourse new
+      pub skip-sound : (left : ℕ) (new : PushView) → IsSoundPush old
+          → new ≡ record old { stage = Skipping block left } → IsSoundPush new
       skip-sound left new s same =
           let facts = skip-facts old.file old.progress section old.tail old.offset b [] block p unknown inside in
-          subst IsSoundCourse (sym same)
+          subst IsSoundPush (sym same)
           (record { limit = s.limit; counted = s.counted; stage = (facts.1, facts.2, facts.0) })
 
       pub skip-least : 12 ≤ block.total
@@ -207,8 +208,8 @@ module _ (old : CourseState) (section : Option Order) (b : List ℕ) (at : old.s
 
 -- ---- in a block that is skipped
 
-module _ (old : CourseState) (block : Block) (left : ℕ) (b : List ℕ) (at : old.stage ≡ Skipping block left) where
-  pub skip-on : (n : ℕ) (new : CourseState) → 0 < n → n ≡ min left (length b)
+module _ (old : PushView) (block : Block) (left : ℕ) (b : List ℕ) (at : old.stage ≡ Skipping block left) where
+  pub skip-on : (n : ℕ) (new : PushView) → 0 < n → n ≡ min left (length b)
       → new ≡ record old { stage = Skipping block (left - n) } → StepsFed old b (Ok (steps.Passed n)) new
   skip-on n new some is same =
       let within : n ≤ left = grind (arith, nat_tests) in
@@ -218,10 +219,10 @@ module _ (old : CourseState) (block : Block) (left : ℕ) (b : List ℕ) (at : o
         λ later may.
             ap (λ (s : Stage). items_at_stage s old (b ++ later)) at
             ∙ (skip-passed old.file old.tail old.progress block left n b later within here
-            ∙ ap (λ (c : CourseState). items_after c (drop n b ++ later)) (sym same)),
+            ∙ ap (λ (c : PushView). items_after c (drop n b ++ later)) (sym same)),
       )
 
-  module _ (s : IsSoundCourse old) (none : min left (length b) ≡ 0) where
+  module _ (s : IsSoundPush old) (none : min left (length b) ≡ 0) where
     placed : block.offset ≡ old.offset
     placed = (subst (λ (k : Stage). IsSoundStage k old.offset) at s.stage).0
 
@@ -230,7 +231,7 @@ module _ (old : CourseState) (block : Block) (left : ℕ) (b : List ℕ) (at : o
         → items_after old w ≡ items_of_stop stop
     here-or stop w is = ap (λ (k : Stage). items_at_stage k old w) at ∙ is
 
-    pub skip-cut : (result : Result FedStep Fault) (new : CourseState) → length b < 4
+    pub skip-cut : (result : Result PushEvent Fault) (new : PushView) → length b < 4
         → BreaksBy old Cut (stop_by true old.tail old.file old.offset Cut) result new → StepsFed old b result new
     skip-cut result new few h =
         let stop = stop_by true old.tail old.file old.offset Cut in
@@ -241,7 +242,7 @@ module _ (old : CourseState) (block : Block) (left : ℕ) (b : List ℕ) (at : o
         (λ other later. absurd (other refl)) (λ cut. stop_by-short true old.tail old.file old.offset)
         (λ cut. omega (arith, few)) result new h
 
-    pub skip-trailer : (result : Result FedStep Fault) (new : CourseState) → 4 ≤ length b
+    pub skip-trailer : (result : Result PushEvent Fault) (new : PushView) → 4 ≤ length b
         → (number block.order 4 b ≡ block.total → ⊥)
         → BreaksBy old BlockTrailer (stop_by true old.tail old.file old.offset BlockTrailer) result new
         → StepsFed old b result new
@@ -256,7 +257,7 @@ module _ (old : CourseState) (block : Block) (left : ℕ) (b : List ℕ) (at : o
         broken-by old b BlockTrailer stop (ap (items_after old) (sym (append-nil b)) ∙ at_later [])
         (λ other later. at_later later) (λ cut. cc) (λ cut. cc) result new h
 
-    pub skip-passes : (new : CourseState) → 4 ≤ length b → number block.order 4 b ≡ block.total
+    pub skip-passes : (new : PushView) → 4 ≤ length b → number block.order 4 b ≡ block.total
         → new ≡ record old {
           offset = old.offset + block.total;
           stage = Blocks (Some block.order);
@@ -273,7 +274,7 @@ module _ (old : CourseState) (block : Block) (left : ℕ) (b : List ℕ) (at : o
               ∙ (skip-done old.file old.tail old.progress block b later four is
               ∙ (ap (λ (n : ℕ). items_of_blocks old.file (after old.progress contents.Other)
               (block_items_from (Some block.order) old.tail old.file (n + block.total) (drop 4 b ++ later))) placed
-              ∙ ap (λ (c : CourseState). items_after c (drop 4 b ++ later)) (sym same)))),
+              ∙ ap (λ (c : PushView). items_after c (drop 4 b ++ later)) (sym same)))),
         )
 
     pub skip-room : (old.offset + block.total ≤ 2 ^ 40) × (12 ≤ block.total)
@@ -283,7 +284,7 @@ module _ (old : CourseState) (block : Block) (left : ℕ) (b : List ℕ) (at : o
 
 -- ---- the first block
 
-from-blocks : (tail : Tail) (file : ℕ) (progress : Progress) (offset : ℕ) (w : List ℕ) → is_pcapng w ≡ true
+from-blocks : (tail : Tail) (file : ℕ) (progress : SectionProgress) (offset : ℕ) (w : List ℕ) → is_pcapng w ≡ true
     → items_from tail file progress offset w
     ≡ items_of_blocks file progress (block_items_from None tail file offset w)
 unfolding items_from
@@ -292,17 +293,17 @@ from-blocks tail file progress offset w is = rw is refl
 four-there : (b : List ℕ) → is_pcapng b ≡ true → 4 ≤ length b
 four-there b is = grind (arith, nat_tests)
 
-pub first-same : (old new : CourseState) (b : List ℕ) → old.stage ≡ Start → is_pcapng b ≡ true
+pub first-same : (old new : PushView) (b : List ℕ) → old.stage ≡ Start → is_pcapng b ≡ true
     → new ≡ record old { stage = Blocks None } → (later : List ℕ)
     → items_after old (b ++ later) ≡ items_after new (b ++ later)
 first-same old new b at pcapng same later =
     ap (λ (k : Stage). items_at_stage k old (b ++ later)) at
     ∙ (from-blocks old.tail old.file old.progress old.offset (b ++ later)
     (format-append b later (four-there b pcapng) ∙ pcapng)
-    ∙ ap (λ (c : CourseState). items_after c (b ++ later)) (sym same))
+    ∙ ap (λ (c : PushView). items_after c (b ++ later)) (sym same))
 
 -- what a look returns from there on is what it returns at the first byte
-begun : (old mid : CourseState) (b : List ℕ) (result : Result FedStep Fault) (new : CourseState)
+begun : (old mid : PushView) (b : List ℕ) (result : Result PushEvent Fault) (new : PushView)
     → ((later : List ℕ) → items_after old (b ++ later) ≡ items_after mid (b ++ later)) → mid.ended ≡ old.ended
     → StepsFed mid b result new → StepsFed old b result new
 begun old mid b (Ok (steps.Passed n)) new same ended h =
@@ -328,14 +329,14 @@ begun old mid b (Err (faults.Read file offset)) new same ended h = absurd h
 begun old mid b (Err faults.Write) new same ended h = absurd h
 begun old mid b (Err faults.Memory) new same ended h = (h.0, λ later. same later ∙ h.1 later)
 
-pub first-steps : (old mid : CourseState) (b : List ℕ) (result : Result FedStep Fault) (new : CourseState)
+pub first-steps : (old mid : PushView) (b : List ℕ) (result : Result PushEvent Fault) (new : PushView)
     → old.stage ≡ Start → is_pcapng b ≡ true → mid ≡ record old { stage = Blocks None }
     → StepsFed mid b result new → StepsFed old b result new
 first-steps old mid b result new at pcapng is h =
-    begun old mid b result new (first-same old mid b at pcapng is) (ap (λ (c : CourseState). c.ended) is) h
+    begun old mid b result new (first-same old mid b at pcapng is) (ap (λ (c : PushView). c.ended) is) h
 
 -- a file that was ended or refused stays so
-pub stop-again : (old : CourseState) (stop : Stop) (b : List ℕ) (result : Result FedStep Fault) (new : CourseState)
+pub stop-again : (old : PushView) (stop : Stop) (b : List ℕ) (result : Result PushEvent Fault) (new : PushView)
     → old.stage ≡ Stopped stop → StopsFed old stop result new → StepsFed old b result new
 stop-again old stop b result new at h =
     stopped-as old b result new stop (λ later may. ap (λ (k : Stage). items_at_stage k old (b ++ later)) at) h

@@ -32,11 +32,11 @@ use Rattle.cap_source.proofs.Blocks.{other}
 use Rattle.cap_source.specs.Contents.{content_in}
 use Rattle.cap_source.specs.Fed.{skipped_items}
 use Rattle.cap_source.specs.Feed.{Item, refused}
-use Rattle.cap_source.specs.Items.{Progress, after, behind, items_at_block, items_of_blocks, items_of_stop}
-use Rattle.cap_source.specs.declared.contents.Content.{Content}
-use Rattle.cap_source.specs.declared.contents.Content.TheVariants as contents
+use Rattle.cap_source.specs.Items.{SectionProgress, after, behind, items_at_block, items_of_blocks, items_of_stop}
+use Rattle.cap_source.specs.declared.contents.BlockContent.{BlockContent}
+use Rattle.cap_source.specs.declared.contents.BlockContent.TheVariants as contents
 
-module _ (file : ℕ) (progress : Progress) (section : Option Order) (tail : Tail) (offset : ℕ) where
+module _ (file : ℕ) (progress : SectionProgress) (section : Option Order) (tail : Tail) (offset : ℕ) where
   -- what ends them
   pub blocks-stop : (w : List ℕ) (stop : Stop)
       → stop_where (is_some section) tail file offset w (block_fault section offset w) ≡ Some stop
@@ -50,7 +50,7 @@ module _ (file : ℕ) (progress : Progress) (section : Option Order) (tail : Tai
   unfolding block_fault first_fault fields_fault
   block-some b rule is other = grind (arith, nat_tests)
 
-  said : (w : List ℕ) → Result Content Rule
+  said : (w : List ℕ) → Result BlockContent Rule
   said w = content_in progress.interfaces (block_at section offset w).kind (block_at section offset w).order
       (body_at section w)
 
@@ -245,7 +245,7 @@ module _ (file : ℕ) (progress : Progress) (section : Option Order) (tail : Tai
 
 -- ---- on the way through a block that is skipped
 
-module _ (file : ℕ) (tail : Tail) (progress : Progress) (block : Block) where
+module _ (file : ℕ) (tail : Tail) (progress : SectionProgress) (block : Block) where
   -- some bytes of it are passed
   behind-some : (left n m : ℕ) (w : List ℕ) → n ≤ left → n + m ≡ length w
       → nat_lt (length w) (left + 4) ≡ nat_lt m ((left - n) + 4)

@@ -8,10 +8,10 @@ use Rattle.cap_blocks.specs.Split.{body_in}
 use Rattle.cap_blocks.specs.declared.blocks.Block.{Block}
 use Rattle.cap_bytes.specs.declared.faults.Rule.{Rule}
 use Rattle.cap_source.proofs.Blocks.{IsFit}
-use Rattle.cap_source.specs.declared.contents.Content.{Content}
-use Rattle.cap_source.specs.declared.contents.Content.TheVariants as contents
-use Rattle.cap_source.specs.Fed.{CourseState}
-use Rattle.cap_source.specs.Items.{Progress}
+use Rattle.cap_source.specs.declared.contents.BlockContent.{BlockContent}
+use Rattle.cap_source.specs.declared.contents.BlockContent.TheVariants as contents
+use Rattle.cap_source.specs.Fed.{PushView}
+use Rattle.cap_source.specs.Items.{SectionProgress}
 use Rattle.cap_source.specs.declared.fed.Stage.TheVariants.{Blocks}
 use Rattle.cap_source.specs.inner.FedSteps.{SaysWithin, behind_block}
 
@@ -26,7 +26,7 @@ pub body-size : (total : ℕ) (b : List ℕ) → 12 ≤ total → total ≤ leng
 body-size total b least whole =
     omega (arith, least, length-take-le (total - 12) (drop 8 b) (omega (arith, whole, least, length-drop 8 b)))
 
-pub says-within : (few : ℕ) (block : Block) (body : List ℕ) (said : Result Content Rule)
+pub says-within : (few : ℕ) (block : Block) (body : List ℕ) (said : Result BlockContent Rule)
     → length body + 12 ≡ block.total
     → IsFit few body said → SaysWithin block said
 says-within few block body (Ok contents.Section) size fit = tt
@@ -36,7 +36,7 @@ says-within few block body (Ok contents.Other) size fit = tt
 says-within few block body (Err rule) size fit = tt
 
 -- it goes on behind a block
-pub behind-is : (old : CourseState) (block : Block) (progress : Progress) (n o : ℕ) → block.offset ≡ o
+pub behind-is : (old : PushView) (block : Block) (progress : SectionProgress) (n o : ℕ) → block.offset ≡ o
     → n ≡ block.total
     → record {
       file = old.file;

@@ -1,16 +1,16 @@
 -- What a capture that is fed gives next, by what looking on at its bytes found.
 use Rattle.std.proofs.Common.{◌≡◌, ℕ, ◌<◌, ◌^◌, length, List, [], ◌++◌, false, Ok, sym, ap, ◌∙◌, subst, append-nil}
 use Rattle.std.proofs.Common.{true≢false}
-use Rattle.cap_source.specs.Fed.{CourseState, MayBeFed, items_after}
-use Rattle.cap_source.specs.declared.fed.FedStep.TheVariants as steps
+use Rattle.cap_source.specs.Fed.{PushView, MayBeFed, items_after}
+use Rattle.cap_source.specs.declared.fed.PushEvent.TheVariants as steps
 use Rattle.cap_source.specs.inner.FedSteps.{AreShort, LooksFed}
 
 -- bytes may still be fed
-not-ended : (old : CourseState) → old.ended ≡ false → (later : List ℕ) → MayBeFed old later
+not-ended : (old : PushView) → old.ended ≡ false → (later : List ℕ) → MayBeFed old later
 not-ended old going later ended = absurd (true≢false (sym ended ∙ going))
 
 -- more are wanted, and the bytes to come may have been moved
-pub wants-more : (old : CourseState) (bytes : List ℕ) (new : CourseState) (rest moved : List ℕ)
+pub wants-more : (old : PushView) (bytes : List ℕ) (new : PushView) (rest moved : List ℕ)
     → LooksFed old bytes (Ok steps.Short) new rest → moved ≡ rest
     → (old.ended ≡ false) × AreShort (items_after old (bytes ++ []))
     × ((later : List ℕ) → items_after old (bytes ++ later) ≡ items_after new (moved ++ later))

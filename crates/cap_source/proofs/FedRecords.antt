@@ -19,7 +19,8 @@ use Rattle.cap_pcap.specs.Split.{record_frame_at, record_items_from}
 use Rattle.cap_pcap.specs.declared.headers.PcapHeader.{PcapHeader}
 use Rattle.cap_pcap.specs.declared.records.Record.{Record}
 use Rattle.cap_source.specs.Feed.{packet, refused}
-use Rattle.cap_source.specs.Items.{Progress, interface_of, is_pcapng, items_from, items_of_stop, meta_of, pcap_items}
+use Rattle.cap_source.specs.Items.{SectionProgress, interface_of, is_pcapng, items_from, items_of_stop, meta_of}
+use Rattle.cap_source.specs.Items.{pcap_items}
 
 -- ---- records
 
@@ -85,7 +86,7 @@ format-append b later h = grind (arith, nat_tests, number-append, length-append)
 pub pcap_rule : ℕ → List ℕ → Option Rule
 pcap_rule offset w = if is_pcapng w then None else pcap_header_fault offset w
 
-module _ (tail : Tail) (file : ℕ) (progress : Progress) (offset : ℕ) where
+module _ (tail : Tail) (file : ℕ) (progress : SectionProgress) (offset : ℕ) where
   pub header-some : (b : List ℕ) (rule : Rule) → pcap_header_fault offset b ≡ Some rule → (rule ≡ Cut → ⊥)
       → 4 ≤ length b
   unfolding pcap_header_fault

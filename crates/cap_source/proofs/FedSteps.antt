@@ -15,18 +15,18 @@ use Rattle.cap_source.proofs.FedRecords.{header-fed, header-stop, record-fed, re
 use Rattle.cap_source.proofs.FedRecords.{header-some, pcap_rule, rule-later}
 use Rattle.cap_source.proofs.FedShort.{header-few, record-few}
 use Rattle.cap_source.proofs.FedStops.{broken}
-use Rattle.cap_source.specs.Fed.{CourseState, items_at_stage}
+use Rattle.cap_source.specs.Fed.{PushView, items_at_stage}
 use Rattle.cap_source.specs.Feed.{packet}
 use Rattle.cap_source.specs.Items.{interface_of, is_pcapng, meta_of}
-use Rattle.cap_source.specs.declared.fed.FedStep.{FedStep}
-use Rattle.cap_source.specs.declared.fed.FedStep.TheVariants as steps
+use Rattle.cap_source.specs.declared.fed.PushEvent.{PushEvent}
+use Rattle.cap_source.specs.declared.fed.PushEvent.TheVariants as steps
 use Rattle.cap_source.specs.declared.fed.Stage.{Stage}
 use Rattle.cap_source.specs.declared.fed.Stage.TheVariants.{Start, Records}
 use Rattle.cap_source.specs.declared.packets.Meta.{Meta}
-use Rattle.cap_source.specs.inner.FedSteps.{BreaksOff, IsSoundCourse, IsSoundStage, StepsFed}
+use Rattle.cap_source.specs.inner.FedSteps.{BreaksOff, IsSoundPush, IsSoundStage, StepsFed}
 
 -- a record
-module _ (old : CourseState) (header : PcapHeader) (b : List ℕ) (at : old.stage ≡ Records header) where
+module _ (old : PushView) (header : PcapHeader) (b : List ℕ) (at : old.stage ≡ Records header) where
   captured-is : (r : Record) → r ≡ record_at header.order header.unit old.offset b
       → r.captured ≡ captured_at header.order b
   unfolding record_at
@@ -52,8 +52,8 @@ module _ (old : CourseState) (header : PcapHeader) (b : List ℕ) (at : old.stag
       )
 
   pub record-sound : (r : Record) → record_fault header.order old.offset b ≡ None
-      → r ≡ record_at header.order header.unit old.offset b → IsSoundCourse old
-      → IsSoundCourse (record old { offset = old.offset + (16 + r.captured) })
+      → r ≡ record_at header.order header.unit old.offset b → IsSoundPush old
+      → IsSoundPush (record old { offset = old.offset + (16 + r.captured) })
   record-sound r none is s =
       let f = Fits-from_none header.order old.offset b none in
       record {
@@ -62,7 +62,7 @@ module _ (old : CourseState) (header : PcapHeader) (b : List ℕ) (at : old.stag
         stage = subst (λ (k : Stage). IsSoundStage k (old.offset + (16 + r.captured))) (sym at) tt;
       }
 
-  pub record-breaks : (rule : Rule) (result : Result FedStep Fault) (new : CourseState)
+  pub record-breaks : (rule : Rule) (result : Result PushEvent Fault) (new : PushView)
       → record_fault header.order old.offset b ≡ Some rule → BreaksOff old true b rule result new
       → StepsFed old b result new
   record-breaks rule result new is h =
@@ -74,7 +74,7 @@ module _ (old : CourseState) (header : PcapHeader) (b : List ℕ) (at : old.stag
       (λ cut. record-few header.order old.offset b (is ∙ ap Some cut)) result new h
 
 -- the header of a file that isn't a pcapng file
-module _ (old : CourseState) (b : List ℕ) (at : old.stage ≡ Start) (pcap : is_pcapng b ≡ false) where
+module _ (old : PushView) (b : List ℕ) (at : old.stage ≡ Start) (pcap : is_pcapng b ≡ false) where
   pub header-steps : (header : PcapHeader) → pcap_header_fault old.offset b ≡ None → header ≡ header_at b
       → StepsFed old b (Ok (steps.Passed 24)) (record old { offset = old.offset + 24; stage = Records header })
   header-steps header none is =
@@ -92,12 +92,12 @@ module _ (old : CourseState) (b : List ℕ) (at : old.stage ≡ Start) (pcap : i
   unfolding pcap_header_fault
   header-limit none = grind (arith, nat_tests)
 
-  pub header-sound : (header : PcapHeader) → pcap_header_fault old.offset b ≡ None → IsSoundCourse old
-      → IsSoundCourse (record old { offset = old.offset + 24; stage = Records header })
+  pub header-sound : (header : PcapHeader) → pcap_header_fault old.offset b ≡ None → IsSoundPush old
+      → IsSoundPush (record old { offset = old.offset + 24; stage = Records header })
   header-sound header none s =
       record { limit = header-limit none; counted = omega (arith, s.counted); stage = tt }
 
-  pub header-breaks : (rule : Rule) (result : Result FedStep Fault) (new : CourseState)
+  pub header-breaks : (rule : Rule) (result : Result PushEvent Fault) (new : PushView)
       → pcap_header_fault old.offset b ≡ Some rule → BreaksOff old false b rule result new
       → StepsFed old b result new
   header-breaks rule result new is h =

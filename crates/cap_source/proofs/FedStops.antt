@@ -12,11 +12,11 @@ use Rattle.cap_bytes.specs.declared.faults.Rule.TheVariants.{Cut}
 use Rattle.cap_bytes.specs.declared.faults.Tail.{Tail}
 use Rattle.cap_bytes.specs.declared.stops.Stop.{Stop}
 use Rattle.cap_bytes.specs.declared.stops.Stop.TheVariants as stops
-use Rattle.cap_source.specs.Fed.{CourseState, MayBeFed, items_after}
+use Rattle.cap_source.specs.Fed.{PushView, MayBeFed, items_after}
 use Rattle.cap_source.specs.Items.{items_of_stop}
-use Rattle.cap_source.specs.declared.fed.FedStep.{FedStep}
-use Rattle.cap_source.specs.inner.FedSteps.{AreShort, BreaksBy, BreaksIf, BreaksOff, CourseKeeps}
-use Rattle.cap_source.specs.inner.FedSteps.{IsSoundCourse, IsToldStop, StepsFed, StopsFed, is_cut_rule}
+use Rattle.cap_source.specs.declared.fed.PushEvent.{PushEvent}
+use Rattle.cap_source.specs.inner.FedSteps.{AreShort, BreaksBy, BreaksIf, BreaksOff, PushKeeps}
+use Rattle.cap_source.specs.inner.FedSteps.{IsSoundPush, IsToldStop, StepsFed, StopsFed, is_cut_rule}
 
 -- what is cut short gives no packet
 pub stop_by-short : (inside : Bool) (tail : Tail) (file offset : ℕ) → AreShort (items_of_stop
@@ -29,26 +29,26 @@ unfolding stop_where
 stop-none inside tail file offset bytes fault none = rw none refl
 
 -- it stops for good
-module _ (old : CourseState) (b : List ℕ) (result : Result FedStep Fault) (new : CourseState) where
+module _ (old : PushView) (b : List ℕ) (result : Result PushEvent Fault) (new : PushView) where
   stopped-by : (stop : Stop)
       → ((later : List ℕ) → MayBeFed old later → items_after old (b ++ later) ≡ items_of_stop stop)
       → ((rest : List ℕ) → items_after new rest ≡ items_of_stop stop)
       → IsToldStop stop result → StepsFed old b result new
   stopped-by stops.End every still told =
-      subst (λ (r : Result FedStep Fault). StepsFed old b r new) (sym told) (every, still)
+      subst (λ (r : Result PushEvent Fault). StepsFed old b r new) (sym told) (every, still)
   stopped-by stops.Cut every still told =
-      subst (λ (r : Result FedStep Fault). StepsFed old b r new) (sym told) (every, still)
+      subst (λ (r : Result PushEvent Fault). StepsFed old b r new) (sym told) (every, still)
   stopped-by (stops.Refused refusal) every still told =
-      subst (λ (r : Result FedStep Fault). StepsFed old b r new) (sym told) (every, still)
+      subst (λ (r : Result PushEvent Fault). StepsFed old b r new) (sym told) (every, still)
 
   pub stopped-as : (stop : Stop)
       → ((later : List ℕ) → MayBeFed old later → items_after old (b ++ later) ≡ items_of_stop stop)
       → StopsFed old stop result new → StepsFed old b result new
   stopped-as stop every h =
-      stopped-by stop every (λ rest. ap (λ (c : CourseState). items_after c rest) h.0) h.1
+      stopped-by stop every (λ rest. ap (λ (c : PushView). items_after c rest) h.0) h.1
 
 -- some bytes that break a rule, by what ends the capture there
-module _ (old : CourseState) (b : List ℕ) (rule : Rule) (stop : Stop)
+module _ (old : PushView) (b : List ℕ) (rule : Rule) (stop : Stop)
     (here : items_after old b ≡ items_of_stop stop)
     (more : (rule ≡ Cut → ⊥) → (later : List ℕ) → items_after old (b ++ later) ≡ items_of_stop stop)
     (short : rule ≡ Cut → AreShort (items_of_stop stop))
@@ -62,13 +62,13 @@ module _ (old : CourseState) (b : List ℕ) (rule : Rule) (stop : Stop)
       other : (r : Rule) → is_cut_rule r ≡ false → r ≡ Cut → ⊥
       other r sure cut = grind arith
 
-  broken-if : (wanted : Bool) (result : Result FedStep Fault) (new : CourseState)
+  broken-if : (wanted : Bool) (result : Result PushEvent Fault) (new : PushView)
       → (not old.ended && is_cut_rule rule) ≡ wanted → BreaksIf wanted old stop result new → StepsFed old b result new
   broken-if true result new e h =
-      subst (λ (r : Result FedStep Fault). StepsFed old b r new) (sym h.0) (
+      subst (λ (r : Result PushEvent Fault). StepsFed old b r new) (sym h.0) (
         open_still old.ended (is_cut_rule rule) e,
         subst AreShort (sym here) (short (cut rule (right old.ended (is_cut_rule rule) e))),
-        λ later. ap (λ (c : CourseState). items_after c (b ++ later)) (sym h.1),
+        λ later. ap (λ (c : PushView). items_after c (b ++ later)) (sym h.1),
         few (cut rule (right old.ended (is_cut_rule rule) e)),
       )
     where
@@ -82,12 +82,12 @@ module _ (old : CourseState) (b : List ℕ) (rule : Rule) (stop : Stop)
       cut r e = grind arith
   broken-if false result new e h = stopped-as old b result new stop (every-by old.ended refl e) h
 
-  pub broken-by : (result : Result FedStep Fault) (new : CourseState) → BreaksBy old rule stop result new
+  pub broken-by : (result : Result PushEvent Fault) (new : PushView) → BreaksBy old rule stop result new
       → StepsFed old b result new
   broken-by result new h = broken-if (not old.ended && is_cut_rule rule) result new refl h
 
 -- the same where a header, a record or a block may begin
-module _ (old : CourseState) (inside : Bool) (faulty : List ℕ → Option Rule) (b : List ℕ) (rule : Rule)
+module _ (old : PushView) (inside : Bool) (faulty : List ℕ → Option Rule) (b : List ℕ) (rule : Rule)
     (at : (w : List ℕ) (stop : Stop) → stop_where inside old.tail old.file old.offset w (faulty w) ≡ Some stop
     → items_after old w ≡ items_of_stop stop)
     (is : faulty b ≡ Some rule)
@@ -127,7 +127,7 @@ module _ (old : CourseState) (inside : Bool) (faulty : List ℕ → Option Rule)
       ∙ (stop_where-fault inside old.tail old.file old.offset (b ++ later) (Some rule) rule there refl
       ∙ (sym (stop_where-fault inside old.tail old.file old.offset b (Some rule) rule here refl) ∙ e))
 
-  pub broken : (result : Result FedStep Fault) (new : CourseState) → BreaksOff old inside b rule result new
+  pub broken : (result : Result PushEvent Fault) (new : PushView) → BreaksOff old inside b rule result new
       → StepsFed old b result new
   broken result new h =
       broken-by old b rule h.0 (stop-at h.0 h.1)
@@ -135,30 +135,30 @@ module _ (old : CourseState) (inside : Bool) (faulty : List ℕ → Option Rule)
       (short-by (inside && (length b == 0)) h.0 refl h.1) few result new h.2
 
 -- what stays
-kept-if : (wanted : Bool) (old : CourseState) (stop : Stop) (result : Result FedStep Fault) (new : CourseState)
-    → BreaksIf wanted old stop result new → CourseKeeps old new
+kept-if : (wanted : Bool) (old : PushView) (stop : Stop) (result : Result PushEvent Fault) (new : PushView)
+    → BreaksIf wanted old stop result new → PushKeeps old new
 kept-if true old stop result new h = grind arith
 kept-if false old stop result new h = grind arith
 
-pub broken-by-keeps : (old : CourseState) (rule : Rule) (stop : Stop) (result : Result FedStep Fault)
-    (new : CourseState)
-    → BreaksBy old rule stop result new → CourseKeeps old new
+pub broken-by-keeps : (old : PushView) (rule : Rule) (stop : Stop) (result : Result PushEvent Fault)
+    (new : PushView)
+    → BreaksBy old rule stop result new → PushKeeps old new
 broken-by-keeps old rule stop result new h = kept-if (not old.ended && is_cut_rule rule) old stop result new h
 
-pub broken-keeps : (old : CourseState) (inside : Bool) (b : List ℕ) (rule : Rule) (result : Result FedStep Fault)
-    (new : CourseState) → BreaksOff old inside b rule result new → CourseKeeps old new
+pub broken-keeps : (old : PushView) (inside : Bool) (b : List ℕ) (rule : Rule) (result : Result PushEvent Fault)
+    (new : PushView) → BreaksOff old inside b rule result new → PushKeeps old new
 broken-keeps old inside b rule result new h = broken-by-keeps old rule h.0 result new h.2
 
-sound-if : (wanted : Bool) (old : CourseState) (stop : Stop) (result : Result FedStep Fault) (new : CourseState)
-    → IsSoundCourse old → BreaksIf wanted old stop result new → IsSoundCourse new
-sound-if true old stop result new s h = subst IsSoundCourse (sym h.1) s
+sound-if : (wanted : Bool) (old : PushView) (stop : Stop) (result : Result PushEvent Fault) (new : PushView)
+    → IsSoundPush old → BreaksIf wanted old stop result new → IsSoundPush new
+sound-if true old stop result new s h = subst IsSoundPush (sym h.1) s
 sound-if false old stop result new s h =
-    subst IsSoundCourse (sym h.0) (record { limit = s.limit; counted = s.counted; stage = tt })
+    subst IsSoundPush (sym h.0) (record { limit = s.limit; counted = s.counted; stage = tt })
 
-pub broken-by-sound : (old : CourseState) (rule : Rule) (stop : Stop) (result : Result FedStep Fault)
-    (new : CourseState) → IsSoundCourse old → BreaksBy old rule stop result new → IsSoundCourse new
+pub broken-by-sound : (old : PushView) (rule : Rule) (stop : Stop) (result : Result PushEvent Fault)
+    (new : PushView) → IsSoundPush old → BreaksBy old rule stop result new → IsSoundPush new
 broken-by-sound old rule stop result new s h = sound-if (not old.ended && is_cut_rule rule) old stop result new s h
 
-pub broken-sound : (old : CourseState) (inside : Bool) (b : List ℕ) (rule : Rule) (result : Result FedStep Fault)
-    (new : CourseState) → IsSoundCourse old → BreaksOff old inside b rule result new → IsSoundCourse new
+pub broken-sound : (old : PushView) (inside : Bool) (b : List ℕ) (rule : Rule) (result : Result PushEvent Fault)
+    (new : PushView) → IsSoundPush old → BreaksOff old inside b rule result new → IsSoundPush new
 broken-sound old inside b rule result new s h = broken-by-sound old rule h.0 result new s h.2

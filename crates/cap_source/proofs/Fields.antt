@@ -22,7 +22,7 @@ use Rattle.cap_bytes.specs.declared.faults.Rule.TheVariants.{InterfaceLimit}
 use Rattle.cap_bytes.specs.declared.faults.Tail.{Tail}
 use Rattle.cap_bytes.specs.declared.numbers.Order.{Order}
 use Rattle.cap_pcap.proofs.Splitting.{every_split-law, split_items-law}
-use Rattle.cap_pcap.specs.Grammar.{Packet as Record, packet_size, SpellsRecord}
+use Rattle.cap_pcap.specs.Grammar.{BlockPacket as Record, packet_size, SpellsRecord}
 use Rattle.cap_pcap.specs.Split as records
 use Rattle.cap_pcap.specs.Split.{SplitsRecords}
 use Rattle.cap_source.proofs.Blocks.{IsFit, content_fit}
@@ -32,11 +32,11 @@ use Rattle.cap_source.specs.TimeBases.{interface_in, interface_or, interface_at,
 use Rattle.cap_source.specs.Contents.{content_in}
 use Rattle.cap_source.specs.Feed.{Item}
 use Rattle.cap_source.specs.inner.Fields.{FitsInterface, ItemFits, FieldsFit}
-use Rattle.cap_source.specs.Items.{Progress, behind, items_at_block, items_of_blocks, items_of_stop, items_from}
+use Rattle.cap_source.specs.Items.{SectionProgress, behind, items_at_block, items_of_blocks, items_of_stop, items_from}
 use Rattle.cap_source.specs.Items.{pcap_items}
 use Rattle.cap_source.specs.Items.{interface_of}
-use Rattle.cap_source.specs.declared.contents.Content.{Content}
-use Rattle.cap_source.specs.declared.contents.Packet.{Packet}
+use Rattle.cap_source.specs.declared.contents.BlockContent.{BlockContent}
+use Rattle.cap_source.specs.declared.contents.BlockPacket.{BlockPacket}
 use Rattle.cap_time.specs.declared.resolutions.Interface.{Interface}
 use Rattle.cap_time.specs.Unit.{in_second}
 use Rattle.cap_time.specs.declared.stamps.Unit.{Unit as Fraction}
@@ -97,7 +97,7 @@ one_more (j ∷ interfaces) i fit is = (fit.0, one_more interfaces i fit.1 is)
 -- ---- packets of blocks
 
 -- The fields of a block's packet and of its interface fit.
-pub record FitsPacket (p : Packet) : Type 0 where
+pub record FitsPacket (p : BlockPacket) : Type 0 where
   interface : FitsInterface p.interface
   units : unwrap_or p.units 0 < 2 ^ 64
   original : p.original < 2 ^ 32
@@ -144,7 +144,8 @@ blocks-bytes zero section tail file offset bytes are = tt
 blocks-bytes (suc fuel) section tail file offset bytes are =
     search (blocks-bytes fuel, of_item, drop, AreBytes-take, AreBytes-drop)
 
-block-fits : (file few : ℕ) (progress : Progress) (block : Block) (body : List ℕ) (content : Result Content Rule)
+block-fits : (file few : ℕ) (progress : SectionProgress) (block : Block) (body : List ℕ)
+    (content : Result BlockContent Rule)
     (items : List Item)
     → IfOk content (OfContent FitsInterface FitsPacket) → IsFit few body content
     → AllByRecursion FitsInterface progress.interfaces
@@ -156,7 +157,7 @@ block-fits file few progress block body content items fits within all rest =
 stop-fits : (stop : Stop) → AllByRecursion ItemFits (items_of_stop stop)
 stop-fits stop = grind arith
 
-blocks-fit : (file : ℕ) (progress : Progress) (items : List (pieces.PieceItem Block))
+blocks-fit : (file : ℕ) (progress : SectionProgress) (items : List (pieces.PieceItem Block))
     → AllByRecursion FitsInterface progress.interfaces
     → AllByRecursion IsOfBytes items → AllByRecursion ItemFits (items_of_blocks file progress items)
 unfolding items_of_blocks

@@ -12,30 +12,32 @@ use Rattle.cap_bytes.specs.declared.faults.Rule.{Rule}
 use Rattle.cap_bytes.specs.declared.faults.Tail.{Tail}
 use Rattle.cap_bytes.specs.declared.numbers.Order.{Order}
 use Rattle.cap_pcap.proofs.Splitting.{every_split-law, split_items-law}
-use Rattle.cap_pcap.specs.Grammar.{Packet as Record, packet_size}
+use Rattle.cap_pcap.specs.Grammar.{BlockPacket as Record, packet_size}
 use Rattle.cap_pcap.specs.Split as records
 use Rattle.cap_pcap.specs.Split.{SplitsRecords}
 use Rattle.cap_source.proofs.Blocks.{IsFit, content_fit}
 use Rattle.cap_source.specs.Contents.{content_in}
 use Rattle.cap_source.specs.Feed.{Item}
 use Rattle.cap_source.specs.inner.Fields.{HasFrame, IsFrame, FramesFit}
-use Rattle.cap_source.specs.Items.{Progress, behind, frame_in, meta_in, items_at_block, items_of_blocks, items_of_stop}
+use Rattle.cap_source.specs.Items.{SectionProgress, behind, frame_in, meta_in, items_at_block, items_of_blocks}
+use Rattle.cap_source.specs.Items.{items_of_stop}
 use Rattle.cap_source.specs.Items.{items_from}
 use Rattle.cap_source.specs.Items.{pcap_items, interface_of}
-use Rattle.cap_source.specs.declared.contents.Content.{Content}
-use Rattle.cap_source.specs.declared.contents.Packet.{Packet}
+use Rattle.cap_source.specs.declared.contents.BlockContent.{BlockContent}
+use Rattle.cap_source.specs.declared.contents.BlockPacket.{BlockPacket}
 use Rattle.cap_time.specs.declared.resolutions.Interface.{Interface}
 use Rattle.cap_time.specs.declared.stamps.Unit.{Unit as Fraction}
 
 -- ---- blocks
 
 -- the captured bytes of a packet that is within its body
-pub block-frame : (file : ℕ) (progress : Progress) (block : Block) (p : Packet) (body : List ℕ)
+pub block-frame : (file : ℕ) (progress : SectionProgress) (block : Block) (p : BlockPacket) (body : List ℕ)
     → (p.place + p.captured ≤ length body) × (p.captured ≤ 262144)
     → IsFrame (meta_in file progress block p) (frame_in p body)
 block-frame file progress block p body within = grind (arith, length-take-le, drop, length-drop)
 
-block-frames : (file few : ℕ) (progress : Progress) (block : Block) (body : List ℕ) (content : Result Content Rule)
+block-frames : (file few : ℕ) (progress : SectionProgress) (block : Block) (body : List ℕ)
+    (content : Result BlockContent Rule)
     (items : List Item)
     → IsFit few body content → AllByRecursion HasFrame items
     → AllByRecursion HasFrame (items_at_block file progress block body content items)
@@ -45,7 +47,7 @@ block-frames file few progress block body content items within rest =
 stop-frames : (stop : Stop) → AllByRecursion HasFrame (items_of_stop stop)
 stop-frames stop = grind arith
 
-blocks-frames : (file : ℕ) (progress : Progress) (items : List (pieces.PieceItem Block))
+blocks-frames : (file : ℕ) (progress : SectionProgress) (items : List (pieces.PieceItem Block))
     → AllByRecursion HasFrame (items_of_blocks file progress items)
 unfolding items_of_blocks
 blocks-frames file progress (pieces.given block body ∷ rest) =

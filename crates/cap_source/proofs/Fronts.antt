@@ -19,17 +19,17 @@ use Rattle.cap_blocks.proofs.Items.{items_from-none}
 use Rattle.cap_source.proofs.BlockFronts as blocks
 use Rattle.cap_source.proofs.Blocks.{content_same, ending_behind, frame_same, items_behind, packet_lent}
 use Rattle.cap_source.specs.Contents.{content_in}
-use Rattle.cap_source.specs.Items.{Progress, behind, ending_in, ending_with, items_at_block, items_of_blocks}
+use Rattle.cap_source.specs.Items.{SectionProgress, behind, ending_in, ending_with, items_at_block, items_of_blocks}
 use Rattle.cap_source.specs.Items.{meta_in, unless_faulty}
 use Rattle.cap_source.specs.Feed as feeds
-use Rattle.cap_source.specs.declared.contents.Content.{Content}
-use Rattle.cap_source.specs.declared.contents.Content.TheVariants as contents
+use Rattle.cap_source.specs.declared.contents.BlockContent.{BlockContent}
+use Rattle.cap_source.specs.declared.contents.BlockContent.TheVariants as contents
 use Rattle.cap_source.specs.declared.feeds.FileEnd.{FileEnd}
 use Rattle.cap_source.specs.declared.feeds.Head.{Head}
 use Rattle.cap_source.specs.declared.feeds.Head.TheVariants as heads
 use Rattle.cap_source.specs.declared.packets.Meta.{Meta}
-use Rattle.cap_source.specs.declared.readers.Next.{Next}
-use Rattle.cap_source.specs.declared.readers.Next.TheVariants as nexts
+use Rattle.cap_source.specs.declared.readers.Peeked.{Peeked}
+use Rattle.cap_source.specs.declared.readers.Peeked.TheVariants as peeks
 use Rattle.cap_source.specs.inner.FileState.{IfTaken, items_from_next, next_at, next_frame, next_head, part_of}
 use Rattle.cap_source.specs.inner.Fronts.{Fronts, FrontsAnswer, FrontsFail, FrontsFind, FrontsGive, FrontsPass}
 use Rattle.cap_source.specs.inner.Fronts.{bytes_before}
@@ -51,7 +51,7 @@ Fronts-same a = record {
 }
 
 -- one look after another
-pub Fronts-behind : (a b c : Fronts) (next : Option Next) → FrontsPass a None b → FrontsPass b next c
+pub Fronts-behind : (a b c : Fronts) (next : Option Peeked) → FrontsPass a None b → FrontsPass b next c
     → FrontsPass a next c
 Fronts-behind a b c next p q = record {
   size = q.size ∙ p.size;
@@ -73,24 +73,24 @@ Fails-behind a b c offset p f = record {
   whole = λ n. ap (λ (e : FileEnd). e.ending.was_cut) (p.ending offset (f.back n)) ∙ f.whole n;
 }
 
-taken-behind : (a b c : Fronts) (next mark : Option Next) → FrontsPass a None b → IfTaken mark (FrontsPass b next c)
+taken-behind : (a b c : Fronts) (next mark : Option Peeked) → FrontsPass a None b → IfTaken mark (FrontsPass b next c)
     → IfTaken mark (FrontsPass a next c)
 taken-behind a b c next None p q = Fronts-behind a b c next p q
-taken-behind a b c next (Some (nexts.Packet meta place)) p q = Fronts-behind a b c next p q
-taken-behind a b c next (Some (nexts.Refused refusal ending)) p q = tt
-taken-behind a b c next (Some (nexts.End ending)) p q = tt
+taken-behind a b c next (Some (peeks.Packet meta place)) p q = Fronts-behind a b c next p q
+taken-behind a b c next (Some (peeks.Refused refusal ending)) p q = tt
+taken-behind a b c next (Some (peeks.End ending)) p q = tt
 
 -- a look after which the file goes on
-pub Fronts-further : (a b c : Fronts) (next : Option Next) → next ≡ None → FrontsPass a None b
+pub Fronts-further : (a b c : Fronts) (next : Option Peeked) → next ≡ None → FrontsPass a None b
     → IfTaken next (FrontsPass b next c) → FrontsPass a None c
 Fronts-further a b c None is p q = Fronts-behind a b c None p q
 Fronts-further a b c (Some next) is p q = cc
 
-pub Fronts-taken : (a b c : Fronts) (next : Option Next) → FrontsPass a None b → IfTaken next (FrontsPass b next c)
+pub Fronts-taken : (a b c : Fronts) (next : Option Peeked) → FrontsPass a None b → IfTaken next (FrontsPass b next c)
     → IfTaken next (FrontsPass a next c)
 Fronts-taken a b c next p q = taken-behind a b c next next p q
 
-pub Fronts-answer : {A : Type 0} (a b c : Fronts) (result : Result A Fault) (next : Option Next) → FrontsPass a None b
+pub Fronts-answer : {A : Type 0} (a b c : Fronts) (result : Result A Fault) (next : Option Peeked) → FrontsPass a None b
     → FrontsAnswer b result next c → FrontsAnswer a result next c
 Fronts-answer a b c (Ok x) next p q = Fronts-taken a b c next p q
 Fronts-answer a b c (Err (Refused refusal)) next p q = tt
@@ -103,7 +103,7 @@ abbrev blocks_before : ReaderState Order → ℕ → List (PieceItem Block)
 blocks_before reader end = block_items_from reader.known reader.tail reader.file reader.offset
     (bytes_before end reader.offset reader.coming)
 
-module _ (file : ℕ) (old new : ReaderState Order) (p : Progress) (block : Block) (named : file ≡ old.file)
+module _ (file : ℕ) (old new : ReaderState Order) (p : SectionProgress) (block : Block) (named : file ≡ old.file)
     (g : GivesBlock old block new) (k : ReaderKeeps old new) (t : IsTrue old.told) where
   begins : IsTrue (is_some new.known)
   begins = rw g.gives.known_is refl
@@ -120,7 +120,7 @@ module _ (file : ℕ) (old new : ReaderState Order) (p : Progress) (block : Bloc
       ∙ blocks.size-given old.known old.tail old.file old.offset old.coming new.coming block (g.none t) (g.block_is t)
       (g.gives.coming_next t)
 
-  block-pass : (next : Option Next) (q : Progress)
+  block-pass : (next : Option Peeked) (q : SectionProgress)
       → ((end : ℕ) → new.offset ≤ end → items_of_blocks old.file p (blocks_before old end)
       ≡ items_from_next next (next_frame next new.lent) (items_of_blocks new.file q (blocks_before new end)))
       → ((end : ℕ) → new.offset ≤ end → ending_in p (blocks_before old end) ≡ ending_in q (blocks_before new end))
@@ -135,7 +135,8 @@ module _ (file : ℕ) (old new : ReaderState Order) (p : Progress) (block : Bloc
     ending = λ end may. ending end may.0;
   }
 
-  by-content : (c : Result Content Rule) → c ≡ content_in p.interfaces block.kind block.order (unwrap_or new.lent [])
+  by-content : (c : Result BlockContent Rule) → c ≡ content_in p.interfaces block.kind block.order
+      (unwrap_or new.lent [])
       → ((end : ℕ) → new.offset ≤ end → items_of_blocks old.file p (blocks_before old end)
       ≡ items_at_block new.file p block (body_in block.total old.coming) c
       (items_of_blocks new.file (behind p c) (blocks_before new end)))
@@ -150,14 +151,14 @@ module _ (file : ℕ) (old new : ReaderState Order) (p : Progress) (block : Bloc
       let there = packet_lent p.interfaces block.kind block.order new.lent said g.known is in
       let frame = frame_same new.lent (body_in block.total old.coming) said there (g.body_is t) in
       let which : new.file ≡ file = k.file ∙ sym named in
-      block-pass (Some (nexts.Packet (meta_in file p block said) said.place)) p
+      block-pass (Some (peeks.Packet (meta_in file p block said) said.place)) p
       (λ end within. items end within
       ∙ (λ i. feeds.packet (meta_in (which i) p block said) (sym frame i)
       ∷ items_of_blocks new.file p (blocks_before new end))) ending
   by-content (Err rule) is items ending = tt
 
   -- after a block the file goes on, or a packet comes next
-  pub block-passed : (content : Result Content Rule) (next : Option Next) (q : Progress)
+  pub block-passed : (content : Result BlockContent Rule) (next : Option Peeked) (q : SectionProgress)
       → content ≡ content_in p.interfaces block.kind block.order (unwrap_or new.lent [])
       → next ≡ next_at file p block content → q ≡ behind p content
       → IfTaken next (FrontsPass (pcapng_fronts old p) next (pcapng_fronts new q))
@@ -174,12 +175,12 @@ module _ (file : ℕ) (old new : ReaderState Order) (p : Progress) (block : Bloc
 pub none-before : (offset : ℕ) (bytes : List ℕ) → bytes_before offset offset bytes ≡ []
 none-before offset bytes = let none : offset - offset ≡ 0 = omega arith in ap (λ (n : ℕ). take n bytes) none
 
-ended-items : (file : ℕ) (p : Progress) (items : List (PieceItem Block)) → items ≡ stopped stops.End ∷ []
+ended-items : (file : ℕ) (p : SectionProgress) (items : List (PieceItem Block)) → items ≡ stopped stops.End ∷ []
     → (items_of_blocks file p items ≡ []) × (ending_in p items ≡ ending_with p false)
 unfolding items_of_blocks ending_in
 ended-items file p items is = rw is (refl, refl)
 
-no-blocks : (known : Option Order) (tail : Tail) (file offset : ℕ) (bytes : List ℕ) (p : Progress)
+no-blocks : (known : Option Order) (tail : Tail) (file offset : ℕ) (bytes : List ℕ) (p : SectionProgress)
     → IsTrue (is_some known)
     → (items_of_blocks file p (block_items_from known tail file offset (bytes_before offset offset bytes)) ≡ [])
     × (ending_in p (block_items_from known tail file offset (bytes_before offset offset bytes)) ≡ ending_with p false)
@@ -189,7 +190,8 @@ no-blocks (Some order) tail file offset bytes p is =
     ∙ items_from-none (Some order) tail file offset refl)
 
 -- a read fails in a block
-pub block-fails : (old new : ReaderState Order) (p : Progress) (file offset : ℕ) → ReaderBreaks old file offset new
+pub block-fails : (old new : ReaderState Order) (p : SectionProgress) (file offset : ℕ)
+    → ReaderBreaks old file offset new
     → old.broken ≡ None → FrontsFail (pcapng_fronts old p) offset (pcapng_fronts new p)
 block-fails old new p file offset b none =
     let at : offset ≡ old.offset = from_none old.broken (offset ≡ old.offset) none b.first in
@@ -206,7 +208,7 @@ block-fails old new p file offset b none =
       whole = λ n. ap (λ (e : FileEnd). e.ending.was_cut) (ends n).1;
     })
 
-pub block-fault : (old new : ReaderState Order) (p : Progress) (fault : Fault) (next : Option Next)
+pub block-fault : (old new : ReaderState Order) (p : SectionProgress) (fault : Fault) (next : Option Peeked)
     → GivesNextBlock old (Err fault) new
     → FrontsAnswer {A = ⊤} (pcapng_fronts old p) (Err fault) next (pcapng_fronts new p)
 block-fault old new p (Refused refusal) next g = tt
@@ -215,7 +217,7 @@ block-fault old new p Write next g = tt
 block-fault old new p Memory next g = tt
 
 -- what that says of the packet that comes next
-given-packet : (old new : Fronts) (meta : Meta) (place : ℕ) → FrontsPass old (Some (nexts.Packet meta place)) new
+given-packet : (old new : Fronts) (meta : Meta) (place : ℕ) → FrontsPass old (Some (peeks.Packet meta place)) new
     → FrontsGive old (Some (heads.Packet meta)) new
 given-packet old new meta place p =
     let begun = p.begun refl in record {
@@ -230,15 +232,15 @@ given-packet old new meta place p =
       ending = λ end within. p.ending end (within, inl begun);
     }
 
-pub Fronts-given : (old new : Fronts) (next : Option Next) (n : Next) (meta : Meta) (place : ℕ) → Some n ≡ next
-    → n ≡ nexts.Packet meta place → IfTaken next (FrontsPass old next new) → FrontsGive old (next_head next) new
+pub Fronts-given : (old new : Fronts) (next : Option Peeked) (n : Peeked) (meta : Meta) (place : ℕ) → Some n ≡ next
+    → n ≡ peeks.Packet meta place → IfTaken next (FrontsPass old next new) → FrontsGive old (next_head next) new
 Fronts-given old new next n meta place is which p =
-    let same : next ≡ Some (nexts.Packet meta place) = sym is ∙ ap Some which in
-    subst (λ (o : Option Next). FrontsGive old (next_head o) new) (sym same)
+    let same : next ≡ Some (peeks.Packet meta place) = sym is ∙ ap Some which in
+    subst (λ (o : Option Peeked). FrontsGive old (next_head o) new) (sym same)
     (given-packet old new meta place
-    (subst (λ (o : Option Next). IfTaken o (FrontsPass old o new)) same p))
+    (subst (λ (o : Option Peeked). IfTaken o (FrontsPass old o new)) same p))
 
-pub Fronts-fault : (old new : Fronts) (next : Option Next) (head : Option Head) (fault : Fault)
+pub Fronts-fault : (old new : Fronts) (next : Option Peeked) (head : Option Head) (fault : Fault)
     → FrontsAnswer {A = ⊤} old (Err fault) next new → FrontsFind old (Err fault) head new
 Fronts-fault old new next head (Refused refusal) f = tt
 Fronts-fault old new next head (Read file offset) f = f
@@ -246,6 +248,6 @@ Fronts-fault old new next head Write f = tt
 Fronts-fault old new next head Memory f = tt
 
 -- nothing is known of what comes next
-pub none-next : (next : Option Next) → next_head next ≡ None → next ≡ None
+pub none-next : (next : Option Peeked) → next_head next ≡ None → next ≡ None
 none-next None is = refl
 none-next (Some next) is = cc

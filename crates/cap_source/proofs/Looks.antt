@@ -10,7 +10,8 @@ use Rattle.cap_bytes.specs.declared.faults.Tail.{Tail}
 use Rattle.cap_pcap.specs.Split as records
 use Rattle.cap_blocks.specs.Split as splits
 use Rattle.cap_blocks.specs.Split.{is_section}
-use Rattle.cap_source.specs.Items.{Progress, interface_of, is_pcapng, items_of_blocks, ending_in, first_in, pcap_items}
+use Rattle.cap_source.specs.Items.{SectionProgress, interface_of, is_pcapng, items_of_blocks, ending_in, first_in}
+use Rattle.cap_source.specs.Items.{pcap_items}
 use Rattle.cap_source.specs.Items.{pcap_ending, unless_refused, items_from, ending_from, first_from}
 use Rattle.cap_source.specs.inner.FileState.{FileKeeps, unread_state, FileWaits}
 use Rattle.cap_source.specs.inner.Readers.{reader_file_state, reader_by, has_format, LooksAtWindow}
@@ -29,46 +30,50 @@ pub looks_at : (old new : WindowState) → WindowShows old new → 4 ≤ length 
     → is_pcapng (coming old) ≡ is_section new.shown
 looks_at old new s few t = ap is_pcapng (sym (s.coming_same t)) ∙ pcapng_shown new.shown new.unread few
 
-pcap_items_from : (tail : Tail) (f g : ℕ) (p : Progress) (o q : ℕ) (old new : List ℕ) → f ≡ g → o ≡ q → new ≡ old
+pcap_items_from : (tail : Tail) (f g : ℕ) (p : SectionProgress) (o q : ℕ) (old new : List ℕ) → f ≡ g → o ≡ q → new ≡ old
     → is_pcapng old ≡ false
     → pcap_items f (interface_of (records.header_at new)) (records.pcap_file_items tail f o new)
     ≡ items_from tail g p q old
 unfolding items_from
 pcap_items_from tail f g p o q old new fg oq is not = rw (fg, oq, is, not) refl
 
-pcap_ending_from : (tail : Tail) (f g : ℕ) (p : Progress) (o q : ℕ) (old new : List ℕ) → f ≡ g → o ≡ q → new ≡ old
+pcap_ending_from : (tail : Tail) (f g : ℕ) (p : SectionProgress) (o q : ℕ) (old new : List ℕ) → f ≡ g → o ≡ q
+    → new ≡ old
     → is_pcapng old ≡ false
     → pcap_ending (records.pcap_file_items tail f o new) ≡ ending_from tail g p q old
 unfolding ending_from
 pcap_ending_from tail f g p o q old new fg oq is not = rw (fg, oq, is, not) refl
 
-pcap_first_from : (tail : Tail) (g : ℕ) (p : Progress) (o q : ℕ) (old new : List ℕ) → o ≡ q → new ≡ old
+pcap_first_from : (tail : Tail) (g : ℕ) (p : SectionProgress) (o q : ℕ) (old new : List ℕ) → o ≡ q → new ≡ old
     → is_pcapng old ≡ false
     → unless_refused (records.pcap_header_fault o new) (interface_of (records.header_at new))
     ≡ first_from tail g p q old
 unfolding first_from
 pcap_first_from tail g p o q old new oq is not = rw (oq, is, not) refl
 
-pcapng_items_from : (tail : Tail) (f g : ℕ) (p : Progress) (o q : ℕ) (old new : List ℕ) → f ≡ g → o ≡ q → new ≡ old
+pcapng_items_from : (tail : Tail) (f g : ℕ) (p : SectionProgress) (o q : ℕ) (old new : List ℕ) → f ≡ g → o ≡ q
+    → new ≡ old
     → is_pcapng old ≡ true
     → items_of_blocks f p (splits.block_items_from None tail f o new) ≡ items_from tail g p q old
 unfolding items_from
 pcapng_items_from tail f g p o q old new fg oq is there = rw (fg, oq, is, there) refl
 
-pcapng_ending_from : (tail : Tail) (f g : ℕ) (p : Progress) (o q : ℕ) (old new : List ℕ) → f ≡ g → o ≡ q → new ≡ old
+pcapng_ending_from : (tail : Tail) (f g : ℕ) (p : SectionProgress) (o q : ℕ) (old new : List ℕ) → f ≡ g → o ≡ q
+    → new ≡ old
     → is_pcapng old ≡ true
     → ending_in p (splits.block_items_from None tail f o new) ≡ ending_from tail g p q old
 unfolding ending_from
 pcapng_ending_from tail f g p o q old new fg oq is there = rw (fg, oq, is, there) refl
 
-pcapng_first_from : (tail : Tail) (f g : ℕ) (p : Progress) (o q : ℕ) (old new : List ℕ) → f ≡ g → o ≡ q → new ≡ old
+pcapng_first_from : (tail : Tail) (f g : ℕ) (p : SectionProgress) (o q : ℕ) (old new : List ℕ) → f ≡ g → o ≡ q
+    → new ≡ old
     → is_pcapng old ≡ true
     → first_in p (splits.block_items_from None tail f o new) ≡ first_from tail g p q old
 unfolding first_from
 pcapng_first_from tail f g p o q old new fg oq is there = rw (fg, oq, is, there) refl
 
 -- The reader that is made gives what the window did.
-pub opened_waits : (R : Type 0) (w v : WindowState) (tail : Tail) (format : Format) (p : Progress)
+pub opened_waits : (R : Type 0) (w v : WindowState) (tail : Tail) (format : Format) (p : SectionProgress)
     → WindowShows w v → WindowKeeps w v
     → (IsTrue w.told → has_format format (coming w))
     → FileWaits (unread_state w tail p) (reader_file_state {R = R} (reader_by (readers.Unread v tail) format) p)
@@ -84,26 +89,26 @@ opened_waits R w v tail format p s k is = grind (
 
 -- the same of what calls answered
 pub opened_by : {R : Type 0} (old unread new : Reader R) (w v : WindowState) (tail : Tail) (format : Format)
-    (p : Progress)
+    (p : SectionProgress)
     → old ≡ readers.Unread w tail → unread ≡ readers.Unread v tail → new ≡ reader_by unread format
     → LooksAtWindow w (Ok format) v → WindowKeeps w v → FileWaits (reader_file_state old p) (reader_file_state new p)
 opened_by {R} old unread new w v tail format p is_old is_unread is_new s k = grind (arith, opened_waits)
 
 -- what every look keeps
-pub unread_keeps : (w v : WindowState) (tail : Tail) (p : Progress) (result : Result Format Fault)
+pub unread_keeps : (w v : WindowState) (tail : Tail) (p : SectionProgress) (result : Result Format Fault)
     → LooksAtWindow w result v → WindowKeeps w v
     → FileKeeps (unread_state w tail p) (unread_state v tail p)
 unread_keeps w v tail p result h k = grind arith
 
 pub opened_keeps : {R : Type 0} (old unread new : Reader R) (w v : WindowState) (tail : Tail) (format : Format)
-    (p : Progress)
+    (p : SectionProgress)
     → old ≡ readers.Unread w tail → unread ≡ readers.Unread v tail → new ≡ reader_by unread format
     → LooksAtWindow w (Ok format) v → WindowKeeps w v → FileKeeps (reader_file_state old p) (reader_file_state new p)
 opened_keeps {R} old unread new w v tail format p is_old is_unread is_new h k = grind arith
 
 -- how far the first four bytes are read
 pub opened_reads : {R : Type 0} (old unread new : Reader R) (w v : WindowState) (tail : Tail) (format : Format)
-    (p : Progress)
+    (p : SectionProgress)
     → old ≡ readers.Unread w tail → unread ≡ readers.Unread v tail → new ≡ reader_by unread format
     → ReachesTo w.most (w.offset + 4) (read_to w) (read_to v)
     → ReachesTo (reader_file_state old p).most ((reader_file_state old p).offset

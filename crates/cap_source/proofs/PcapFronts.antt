@@ -26,13 +26,13 @@ use Rattle.cap_pcap.specs.declared.records.Record.{Record}
 use Rattle.cap_source.proofs.Fronts.{Fronts-same, none-before, not-both}
 use Rattle.cap_source.proofs.Pcaps.{ending_given, items_given, known_header}
 use Rattle.cap_source.proofs.RecordFronts as records
-use Rattle.cap_source.specs.Items.{Progress, ending_from, ending_in, interface_of, is_pcapng, items_from}
+use Rattle.cap_source.specs.Items.{SectionProgress, ending_from, ending_in, interface_of, is_pcapng, items_from}
 use Rattle.cap_source.specs.Items.{items_of_blocks, meta_of, pcap_ending, pcap_ending_with, pcap_items}
 use Rattle.cap_source.specs.declared.feeds.FileEnd.{FileEnd}
 use Rattle.cap_bytes.specs.declared.formats.Format.{Format}
 use Rattle.cap_bytes.specs.declared.formats.Format.TheVariants.{Pcap, Pcapng}
-use Rattle.cap_source.specs.declared.readers.Next.{Next}
-use Rattle.cap_source.specs.declared.readers.Next.TheVariants as nexts
+use Rattle.cap_source.specs.declared.readers.Peeked.{Peeked}
+use Rattle.cap_source.specs.declared.readers.Peeked.TheVariants as peeks
 use Rattle.cap_source.specs.declared.readers.Reader.{Reader}
 use Rattle.cap_source.specs.declared.readers.Reader.TheVariants as readers
 use Rattle.cap_source.specs.inner.FileState.{header_or}
@@ -92,7 +92,7 @@ module _ (header : PcapHeader) (file : ℕ) (r : Record) (old new : ReaderState 
   begins = rw known-new refl
 
   -- a record is given, whose packet comes next
-  pub record-passed : FrontsPass (pcap_fronts old) (Some (nexts.Packet (meta_of file (interface_of header) r) 0))
+  pub record-passed : FrontsPass (pcap_fronts old) (Some (peeks.Packet (meta_of file (interface_of header) r) 0))
       (pcap_fronts new)
   record-passed = record {
     size = ap (λ (n : ℕ). n + length new.coming) g.gives.next
@@ -192,20 +192,21 @@ four-before k bytes few =
     let kind : is_section (take k bytes) ≡ is_section bytes = rw (number-take Big 4 k bytes few) refl in
     λ i. four i && kind i
 
-as-pcap : (tail : Tail) (file : ℕ) (p : Progress) (offset : ℕ) (bytes : List ℕ) → is_pcapng bytes ≡ false
+as-pcap : (tail : Tail) (file : ℕ) (p : SectionProgress) (offset : ℕ) (bytes : List ℕ) → is_pcapng bytes ≡ false
     → (items_from tail file p offset bytes ≡ record_items_of file tail None offset bytes)
     × (ending_from tail file p offset bytes ≡ pcap_ending (record_items_at None tail file offset bytes))
 unfolding items_from ending_from
 as-pcap tail file p offset bytes is = rw is (refl, refl)
 
-as-pcapng : (tail : Tail) (file : ℕ) (p : Progress) (offset : ℕ) (bytes : List ℕ) → is_pcapng bytes ≡ true
+as-pcapng : (tail : Tail) (file : ℕ) (p : SectionProgress) (offset : ℕ) (bytes : List ℕ) → is_pcapng bytes ≡ true
     → (items_from tail file p offset bytes ≡ items_of_blocks file p (block_items_from None tail file offset bytes))
     × (ending_from tail file p offset bytes ≡ ending_in p (block_items_from None tail file offset bytes))
 unfolding items_from ending_from
 as-pcapng tail file p offset bytes is = rw is (refl, refl)
 
 -- The reader that is made gives what the window did.
-module _ (R : Type 0) (w v : WindowState) (tail : Tail) (p : Progress) (s : WindowShows w v) (k : WindowKeeps w v)
+module _ (R : Type 0) (w v : WindowState) (tail : Tail) (p : SectionProgress) (s : WindowShows w v)
+    (k : WindowKeeps w v)
     (t : IsTrue w.told) where
   bytes-same : (end : ℕ) → bytes_before end w.offset (coming w) ≡ bytes_before end v.offset (coming v)
   bytes-same end = λ i. bytes_before end (sym s.offset i) (sym (s.coming_same t) i)
@@ -252,7 +253,8 @@ module _ (R : Type 0) (w v : WindowState) (tail : Tail) (p : Progress) (s : Wind
   }
 
 -- a read fails before the format is known
-pub opening-fails : (w v : WindowState) (tail : Tail) (p : Progress) (file offset : ℕ) → WindowBreaks w file offset v
+pub opening-fails : (w v : WindowState) (tail : Tail) (p : SectionProgress) (file offset : ℕ)
+    → WindowBreaks w file offset v
     → v.offset ≡ w.offset → w.broken ≡ None → FrontsFail (unread_fronts w tail p) offset (unread_fronts v tail p)
 opening-fails w v tail p file offset b same none =
     let at : offset ≡ w.offset = (from_none w.broken ((offset ≡ v.offset) × IsTrue v.failed) none b.first).0 ∙ same in
@@ -266,14 +268,14 @@ opening-fails w v tail p file offset b same none =
     }
 
 pub record-fault : (header : PcapHeader) (old new : ReaderState PcapHeader) (fault : Fault)
-    (next : Option Next) → GivesNextRecord header old (Err fault) new
+    (next : Option Peeked) → GivesNextRecord header old (Err fault) new
     → FrontsAnswer {A = ⊤} (pcap_fronts old) (Err fault) next (pcap_fronts new)
 record-fault header old new (Refused refusal) next g = tt
 record-fault header old new (Read file offset) next g = λ none. record-fails old new file offset g none
 record-fault header old new Write next g = tt
 record-fault header old new Memory next g = tt
 
-pub header-fault : (old new : ReaderState PcapHeader) (fault : Fault) (next : Option Next)
+pub header-fault : (old new : ReaderState PcapHeader) (fault : Fault) (next : Option Peeked)
     → GivesHeader old (Err fault) new → FrontsAnswer {A = ⊤} (pcap_fronts old) (Err fault) next (pcap_fronts new)
 header-fault old new (Refused refusal) next g = tt
 header-fault old new (Read file offset) next g = λ none. record-fails old new file offset g.0 none
@@ -282,7 +284,7 @@ header-fault old new Memory next g = tt
 
 -- what the reader that is made gives, or why none is
 pub opened-answer : {R : Type 0} (old unread new : Reader R) (w v : WindowState) (tail : Tail) (format : Format)
-    (p : Progress)
+    (p : SectionProgress)
     → old ≡ readers.Unread w tail → unread ≡ readers.Unread v tail → new ≡ reader_by unread format
     → LooksAtWindow w (Ok format) v → WindowKeeps w v → IsTrue (reader_fronts old p).told
     → FrontsPass (reader_fronts old p) None (reader_fronts new p)
@@ -293,14 +295,15 @@ opened-answer {R} old unread new w v tail format p is_old is_unread is_new s k t
     (sym (is_new ∙ ap (λ (u : Reader R). reader_by u format) is_unread))
     (opened-passed R w v tail p s.0 k told format (s.1 told)))
 
-opening-fault : (w v : WindowState) (tail : Tail) (p : Progress) (fault : Fault) → LooksAtWindow w (Err fault) v
+opening-fault : (w v : WindowState) (tail : Tail) (p : SectionProgress) (fault : Fault) → LooksAtWindow w (Err fault) v
     → FrontsAnswer {A = ⊤} (unread_fronts w tail p) (Err fault) None (unread_fronts v tail p)
 opening-fault w v tail p (Refused refusal) g = tt
 opening-fault w v tail p (Read file offset) g = λ none. opening-fails w v tail p file offset g.0 g.1 none
 opening-fault w v tail p Write g = tt
 opening-fault w v tail p Memory g = tt
 
-pub opening-answer : {R : Type 0} (old : Reader R) (w v : WindowState) (tail : Tail) (p : Progress) (fault : Fault)
+pub opening-answer : {R : Type 0} (old : Reader R) (w v : WindowState) (tail : Tail) (p : SectionProgress)
+    (fault : Fault)
     → old ≡ readers.Unread w tail → LooksAtWindow w (Err fault) v
     → FrontsAnswer {A = ⊤} (reader_fronts old p) (Err fault) None (unread_fronts v tail p)
 opening-answer {R} old w v tail p fault is g =
@@ -308,7 +311,7 @@ opening-answer {R} old w v tail p fault is g =
     (sym is) (opening-fault w v tail p fault g)
 
 -- whether its device tells its bytes
-pub told-same : {R : Type 0} (reader : Reader R) (p : Progress) → IsTrue (reader_fronts reader p).told
+pub told-same : {R : Type 0} (reader : Reader R) (p : SectionProgress) → IsTrue (reader_fronts reader p).told
     → IsTrue (reader_file_state reader p).told
 told-same (readers.Unread window tail) p t = t
 told-same (readers.Pcap reader) p t = t

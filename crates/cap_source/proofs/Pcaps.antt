@@ -21,11 +21,12 @@ use Rattle.cap_pcap.specs.declared.records.Record.{Record}
 use Rattle.cap_bytes.specs.declared.stops.Stop.{Stop}
 use Rattle.cap_bytes.specs.declared.stops.Stop.TheVariants as stops
 use Rattle.cap_source.specs.Feed as feeds
-use Rattle.cap_source.specs.Items.{Progress, interface_of, meta_of, pcap_items, pcap_ending, pcap_ending_with, is_cut}
+use Rattle.cap_source.specs.Items.{SectionProgress, interface_of, meta_of, pcap_items, pcap_ending, pcap_ending_with}
+use Rattle.cap_source.specs.Items.{is_cut}
 use Rattle.cap_source.specs.inner.FileState.{pcap_state, noted_by, header_or, first_in_pcap, lent_length, part_of}
 use Rattle.cap_source.specs.inner.FileState.{FileLearns, FileWaits}
 use Rattle.cap_source.specs.inner.FileState.{ReadsTo, FileTakes, FileKeeps}
-use Rattle.cap_source.specs.declared.readers.Next.TheVariants as nexts
+use Rattle.cap_source.specs.declared.readers.Peeked.TheVariants as peeks
 
 pub known_header : (h : Option PcapHeader) (header : PcapHeader) (bytes : List ℕ) → h ≡ Some header
     → header_or h bytes ≡ header
@@ -70,11 +71,11 @@ none_stops stop is = rw is refl
 
 -- A record is given, whose packet comes next.
 pub record_learned : (header : PcapHeader) (file : ℕ) (r : Record) (old new : ReaderState PcapHeader)
-    (progress : Progress)
+    (progress : SectionProgress)
     → file ≡ old.file → old.known ≡ Some header
     → GivesRecord header old r new → ReaderKeeps old new
     → (IsTrue old.told → IsSomeAnd new.lent (λ bytes. records_to_come old ≡ given r bytes ∷ records_to_come new))
-    → FileLearns (pcap_state old progress) (nexts.Packet (meta_of file (interface_of header) r) 0)
+    → FileLearns (pcap_state old progress) (peeks.Packet (meta_of file (interface_of header) r) 0)
     (pcap_state new progress)
 record_learned header file r old new progress named known g k taken =
     let known_new : new.known ≡ Some header = g.gives.known_is ∙ known in
@@ -133,12 +134,12 @@ refused_items refusal file i items is = rw is refl
 
 -- The records end.
 pub end_learned : (header : PcapHeader) (cut : Bool) (stop : Stop) (old new : ReaderState PcapHeader)
-    (progress : Progress)
+    (progress : SectionProgress)
     → old.known ≡ Some header → old.stop ≡ None
     → IsEnd stop → GivesStop true (record_fault header.order old.offset old.coming) stop old new
     → IsTrue cut ↔ (new.stop ≡ Some stops.Cut) → ReaderKeeps old new
     → (IsTrue old.told → records_to_come new ≡ records_to_come old)
-    → FileLearns (pcap_state old progress) (nexts.End (pcap_ending_with cut)) (pcap_state new progress)
+    → FileLearns (pcap_state old progress) (peeks.End (pcap_ending_with cut)) (pcap_state new progress)
 end_learned header cut stop old new progress known free ends g was k same =
     let at = from_none old.stop _ free g.first in
     let which = cut_is cut stop (rw (g.stop_is) at was) in
@@ -156,12 +157,13 @@ end_learned header cut stop old new progress known free ends g was k same =
     }
 
 -- A rest is refused.
-pub refusal_learned : (header : PcapHeader) (refusal : Refusal) (old new : ReaderState PcapHeader) (progress : Progress)
+pub refusal_learned : (header : PcapHeader) (refusal : Refusal) (old new : ReaderState PcapHeader)
+    (progress : SectionProgress)
     → old.known ≡ Some header → old.stop ≡ None
     → GivesStop true (record_fault header.order old.offset old.coming) (stops.Refused refusal) old new
     → ReaderKeeps old new
     → (IsTrue old.told → records_to_come old ≡ stopped (stops.Refused refusal) ∷ [])
-    → FileLearns (pcap_state old progress) (nexts.Refused refusal (pcap_ending_with false)) (pcap_state new progress)
+    → FileLearns (pcap_state old progress) (peeks.Refused refusal (pcap_ending_with false)) (pcap_state new progress)
 refusal_learned header refusal old new progress known free g k same =
     let at = from_none old.stop _ free g.first in
     record {
@@ -187,10 +189,10 @@ refused_first : (h : Option PcapHeader) (stop : Option Stop) (offset : ℕ) (byt
 refused_first h stop offset bytes rule unknown free is = rw (unknown, free, is) refl
 
 -- The file's header is refused.
-pub header_refused : (refusal : Refusal) (old new : ReaderState PcapHeader) (p : Progress) → old.stop ≡ None
+pub header_refused : (refusal : Refusal) (old new : ReaderState PcapHeader) (p : SectionProgress) → old.stop ≡ None
     → GivesHeader old (Err (Refused refusal)) new → ReaderKeeps old new
     → (IsTrue old.told → records_to_come old ≡ stopped (stops.Refused refusal) ∷ [])
-    → FileLearns (pcap_state old p) (nexts.Refused refusal (pcap_ending_with false)) (pcap_state new p)
+    → FileLearns (pcap_state old p) (peeks.Refused refusal (pcap_ending_with false)) (pcap_state new p)
 header_refused refusal old new p free g k same =
     let at = from_none old.stop _ free g.0.first in
     record {
@@ -255,7 +257,7 @@ header_free header (Some was) old new is free h =
     × (new ≡ old)) is h.again).1 ∙ free
 
 -- The file's header is read, after which everything is to come as before.
-pub header_waits : (header : PcapHeader) (old new : ReaderState PcapHeader) (p : Progress) → old.stop ≡ None
+pub header_waits : (header : PcapHeader) (old new : ReaderState PcapHeader) (p : SectionProgress) → old.stop ≡ None
     → HasHeader header old new → ReaderKeeps old new
     → (IsTrue old.told → records_to_come new ≡ records_to_come old) → FileWaits (pcap_state old p) (pcap_state new p)
 header_waits header old new p free h k same = record {
@@ -274,7 +276,7 @@ header_waits header old new p free h k same = record {
       };
 }
 
-pub pcap_keeps : (old new : ReaderState PcapHeader) (p : Progress) → ReaderKeeps old new
+pub pcap_keeps : (old new : ReaderState PcapHeader) (p : SectionProgress) → ReaderKeeps old new
     → FileKeeps (pcap_state old p) (pcap_state new p)
 pcap_keeps old new p k = record {
   file = k.file;
@@ -289,7 +291,7 @@ pcap_keeps old new p k = record {
 }
 
 -- How far is read for a record, and for the header.
-pub record_taken : (header : PcapHeader) (old new : ReaderState PcapHeader) (r : Record) (p : Progress)
+pub record_taken : (header : PcapHeader) (old new : ReaderState PcapHeader) (r : Record) (p : SectionProgress)
     → ReachesRecord header old (Ok (Some r)) new
     → new.offset ≡ old.offset + (16 + r.captured) → FileTakes (pcap_state old p) (pcap_state new p)
 record_taken header old new r p h is = (omega (arith, is), rw is h)
@@ -303,7 +305,8 @@ header_by header (Some was) old new is h reads =
     rw (from_some old.known was (λ w. (header ≡ w) × (new ≡ old)) is h.again).1
     (ReachesTo-here old.most old.offset old.read)
 
-pub header_reads : (header : PcapHeader) (old new : ReaderState PcapHeader) (p : Progress) → HasHeader header old new
+pub header_reads : (header : PcapHeader) (old new : ReaderState PcapHeader) (p : SectionProgress)
+    → HasHeader header old new
     → ReachesHeader old (Ok header) new
     → ReadsTo (pcap_state old p) (pcap_state new p)
 header_reads header old new p h reads = header_by header old.known old new refl h reads

@@ -16,16 +16,16 @@ use Rattle.cap_blocks.specs.Grammar.{obsolete_kind, simple_kind, enhanced_kind}
 use Rattle.cap_blocks.specs.OptionList.{options_of}
 use Rattle.cap_blocks.specs.declared.blocks.Block.{Block}
 use Rattle.cap_source.specs.Contents.{of_body, timed_in, simple_in, described, content_in}
-use Rattle.cap_source.specs.Items.{Progress, fresh, first_or, after, behind, items_at_block, items_of_blocks}
+use Rattle.cap_source.specs.Items.{SectionProgress, fresh, first_or, after, behind, items_at_block, items_of_blocks}
 use Rattle.cap_source.specs.Items.{ending_with, ending_in}
 use Rattle.cap_source.specs.Items.{unless_faulty, unless_item, first_in}
 use Rattle.cap_source.specs.inner.Places.{Standing, is_header, is_interface, is_other, is_named_interface, told}
 use Rattle.cap_source.specs.inner.Places.{interfaces_of, known_behind, items_behind, ending_behind, first_behind}
 use Rattle.cap_source.specs.inner.Places.{ItemsByPlaces, EndingByPlaces, FirstByPlaces, NumbersByPlaces}
 use Rattle.cap_source.specs.TimeBases.{interface_in, interface_at, is_named}
-use Rattle.cap_source.specs.declared.contents.Packet.{Packet}
-use Rattle.cap_source.specs.declared.contents.Content.{Content}
-use Rattle.cap_source.specs.declared.contents.Content.TheVariants as contents
+use Rattle.cap_source.specs.declared.contents.BlockPacket.{BlockPacket}
+use Rattle.cap_source.specs.declared.contents.BlockContent.{BlockContent}
+use Rattle.cap_source.specs.declared.contents.BlockContent.TheVariants as contents
 use Rattle.cap_time.specs.declared.resolutions.Interface.{Interface}
 
 -- one more element at the end of a list
@@ -113,7 +113,7 @@ numbers-law before = rw (length-map (filter is_interface (after_last is_header b
     (apart-count is_header is_interface header-apart before)
 
 -- what a block's tests tell of what it says; an interface is its own, and has a name or not
-abbrev Tells : (header interface other : Bool) → Interface → Bool → Content → Type 0
+abbrev Tells : (header interface other : Bool) → Interface → Bool → BlockContent → Type 0
 Tells header interface other own named contents.Section = (header ≡ true) × (interface ≡ false) × (other ≡ false)
 Tells header interface other own named (contents.Interface d) =
     (header ≡ false) × (interface ≡ true) × (other ≡ false) × (d.interface ≡ own) × (d.is_named ≡ named)
@@ -121,7 +121,7 @@ Tells header interface other own named (contents.Packet p) = (header ≡ false) 
 Tells header interface other own named contents.Other = (header ≡ false) × (interface ≡ false) × (other ≡ true)
 
 by_kind : (a b c d e : Bool) (own : Interface) (order : Order) (body : List ℕ) (i : Result Interface Rule)
-    (x y z : Result Packet Rule)
+    (x y z : Result BlockPacket Rule)
     → (a ≡ true → b ≡ false) → IfOk i (λ j. j ≡ own)
     → IfOk (if a then Ok contents.Section else if b then of_body (described order body) i else
     if c then of_body contents.Packet x else if d then of_body contents.Packet y else if e then of_body contents.Packet
@@ -135,7 +135,7 @@ unfolding interface_in
 interface-own before order body = grind arith
 
 -- the same of a block's own tests
-abbrev TellsOf : Standing → Content → Type 0
+abbrev TellsOf : Standing → BlockContent → Type 0
 TellsOf b = Tells (is_header b) (is_interface b) (is_other b) (told b) (is_named b.0.order b.1)
 
 content-tells : (interfaces : List Interface) (b : Standing)
@@ -173,7 +173,8 @@ counted-one : (n m : ℕ) (b : Bool) → n ≡ m + cond b 1 0 → b ≡ true →
 counted-one n m b is one = sym (subst (λ b. n ≡ m + cond b 1 0) one is)
 
 -- two are the same if each of the five is
-same : {p q : Progress} → p.interfaces ≡ q.interfaces → p.base ≡ q.base → p.skipped ≡ q.skipped → p.named ≡ q.named
+same : {p q : SectionProgress} → p.interfaces ≡ q.interfaces → p.base ≡ q.base → p.skipped ≡ q.skipped
+    → p.named ≡ q.named
     → p.first ≡ q.first → p ≡ q
 same a b c d e = λ i. record { interfaces = a i; base = b i; skipped = c i; named = d i; first = e i }
 
@@ -186,34 +187,34 @@ named-as : (b : Standing) (named : Bool) → is_interface b ≡ true → named �
 named-as b named is same = ap (λ i. i && is_named b.0.order b.1) is ∙ sym same
 
 -- so what is known behind it is what it adds to what was known
-step : (before : List Standing) (b : Standing) (content : Content) → TellsOf b content
+step : (before : List Standing) (b : Standing) (content : BlockContent) → TellsOf b content
     → after (known_behind before) content ≡ known_behind (before ++ b ∷ [])
 unfolding known_behind
 step before b content t =
     same (here content t) (base content t) (skipped content t) (named content t) (first content t)
   where
-    here : (content : Content) → TellsOf b content
+    here : (content : BlockContent) → TellsOf b content
         → (after (known_behind before) content).interfaces ≡ interfaces_of (after_last is_header (before ++ b ∷ []))
     here contents.Section t = rw (here-more before b, t.0) refl
     here (contents.Interface i) t = rw (here-more before b, t.0, t.1, t.3) refl
     here (contents.Packet p) t = rw (here-more before b, t.0, t.1) refl
     here contents.Other t = rw (here-more before b, t.0, t.1) refl
 
-    base : (content : Content) → TellsOf b content
+    base : (content : BlockContent) → TellsOf b content
         → (after (known_behind before) content).base ≡ count_by is_interface (before_last is_header (before ++ b ∷ []))
     base contents.Section t = rw (before-more is_header before b, t.0) (numbers-law before)
     base (contents.Interface i) t = rw (before-more is_header before b, t.0) refl
     base (contents.Packet p) t = rw (before-more is_header before b, t.0) refl
     base contents.Other t = rw (before-more is_header before b, t.0) refl
 
-    skipped : (content : Content) → TellsOf b content
+    skipped : (content : BlockContent) → TellsOf b content
         → (after (known_behind before) content).skipped ≡ count_by is_other (before ++ b ∷ [])
     skipped contents.Section t = counted-none _ _ _ (count-more is_other before b) t.2
     skipped (contents.Interface i) t = counted-none _ _ _ (count-more is_other before b) t.2
     skipped (contents.Packet p) t = counted-none _ _ _ (count-more is_other before b) t.2
     skipped contents.Other t = counted-one _ _ _ (count-more is_other before b) t.2
 
-    named : (content : Content) → TellsOf b content
+    named : (content : BlockContent) → TellsOf b content
         → (after (known_behind before) content).named ≡ count_by is_named_interface (before ++ b ∷ [])
     named contents.Section t = counted-none _ _ _ (count-more is_named_interface before b) (unnamed b t.1)
     named (contents.Interface d) t =
@@ -222,7 +223,7 @@ step before b content t =
     named (contents.Packet p) t = counted-none _ _ _ (count-more is_named_interface before b) (unnamed b t.1)
     named contents.Other t = counted-none _ _ _ (count-more is_named_interface before b) (unnamed b t.1)
 
-    first : (content : Content) → TellsOf b content
+    first : (content : BlockContent) → TellsOf b content
         → (after (known_behind before) content).first ≡ slice_get (interfaces_of (before ++ b ∷ [])) 0
     first contents.Section t = rw (interfaces-more before b, t.1) refl
     first (contents.Interface i) t = rw (interfaces-more before b, t.1, t.3)
@@ -233,9 +234,11 @@ step before b content t =
 -- ---- the laws, from any blocks on
 
 -- what comes of a block and of those behind it, in a way that needs these only if the block breaks no rule
-module _ {A : Type 0} (at : Progress → Result Content Rule → A → A) (at-faulty : (p : Progress) (rule : Rule) (x y : A)
+module _ {A : Type 0} (at : SectionProgress → Result BlockContent Rule → A → A)
+    (at-faulty : (p : SectionProgress) (rule : Rule) (x y : A)
     → at p (Err rule) x ≡ at p (Err rule) y) where
-  one : (before : List Standing) (b : Standing) (content : Result Content Rule) (later : Progress → A) (there : A)
+  one : (before : List Standing) (b : Standing) (content : Result BlockContent Rule) (later : SectionProgress → A)
+      (there : A)
       → IfOk content (TellsOf b) → later (known_behind (before ++ b ∷ [])) ≡ there
       → at (known_behind before) content (later (behind (known_behind before) content))
       ≡ at (known_behind before) content there

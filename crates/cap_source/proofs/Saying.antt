@@ -7,13 +7,13 @@ use Rattle.cap_bytes.specs.declared.numbers.Order.{Order}
 use Rattle.cap_source.specs.TimeBases.{interface_in}
 use Rattle.cap_source.specs.Contents.{fitting, timed_in, simple_in, simple_captured, of_interface, of_body, described}
 use Rattle.cap_source.specs.Contents.{content_in}
-use Rattle.cap_source.specs.declared.contents.Content.{Content}
-use Rattle.cap_source.specs.declared.contents.Content.TheVariants as contents
-use Rattle.cap_source.specs.declared.contents.Packet.{Packet}
+use Rattle.cap_source.specs.declared.contents.BlockContent.{BlockContent}
+use Rattle.cap_source.specs.declared.contents.BlockContent.TheVariants as contents
+use Rattle.cap_source.specs.declared.contents.BlockPacket.{BlockPacket}
 use Rattle.cap_time.specs.declared.resolutions.Interface.{Interface}
 
 -- the packet of an enhanced or an obsolete packet block, and that of a simple one
-abbrev pub timed_packet : ℕ → Order → List ℕ → Interface → Packet
+abbrev pub timed_packet : ℕ → Order → List ℕ → Interface → BlockPacket
 timed_packet k order body interface =
     record {
       number = k;
@@ -24,7 +24,7 @@ timed_packet k order body interface =
       place = 20;
     }
 
-abbrev pub simple_packet : Order → List ℕ → Interface → Packet
+abbrev pub simple_packet : Order → List ℕ → Interface → BlockPacket
 simple_packet order body interface =
     record {
       number = 0;
@@ -36,15 +36,16 @@ simple_packet order body interface =
     }
 
 -- What is true of a packet of each interface of a number, whose captured bytes are within the limit.
-abbrev pub OfFound : (Packet → Type 0) → List Interface → ℕ → (Interface → Packet) → Type 0
+abbrev pub OfFound : (BlockPacket → Type 0) → List Interface → ℕ → (Interface → BlockPacket) → Type 0
 OfFound Holds interfaces k p = (i : Interface) → slice_get interfaces k ≡ Some i → (p i).captured ≤ 262144 → Holds (p i)
 
-module _ (Holds : Packet → Type 0) where
-  fitting-holds : (p : Packet) (size : ℕ) → (p.captured ≤ 262144 → Holds p) → IfOk (fitting p size) Holds
+module _ (Holds : BlockPacket → Type 0) where
+  fitting-holds : (p : BlockPacket) (size : ℕ) → (p.captured ≤ 262144 → Holds p) → IfOk (fitting p size) Holds
   unfolding fitting
   fitting-holds p size each = grind arith
 
-  found-holds : (interfaces : List Interface) (k : ℕ) (p : Interface → Packet) (size : ℕ) → OfFound Holds interfaces k p
+  found-holds : (interfaces : List Interface) (k : ℕ) (p : Interface → BlockPacket) (size : ℕ)
+      → OfFound Holds interfaces k p
       → IfOk (of_interface (slice_get interfaces k) (λ i. fitting (p i) size)) Holds
   found-holds interfaces k p size each = grind (arith, slice_get, fitting-holds)
 
@@ -58,15 +59,16 @@ module _ (Holds : Packet → Type 0) where
   unfolding simple_in
   simple-holds interfaces order body each = found-holds interfaces 0 (simple_packet order body) (length body) each
 
-module _ (OfInterface : Interface → Type 0) (OfPacket : Packet → Type 0) where
+module _ (OfInterface : Interface → Type 0) (OfPacket : BlockPacket → Type 0) where
   -- the one of an interface block, the other of a packet's
-  abbrev pub OfContent : Content → Type 0
+  abbrev pub OfContent : BlockContent → Type 0
   OfContent contents.Section = Unit {0}
   OfContent (contents.Interface described) = OfInterface described.interface
   OfContent (contents.Packet p) = OfPacket p
   OfContent contents.Other = Unit {0}
 
-  by_kind : (a b c d e : Bool) (order : Order) (body : List ℕ) (i : Result Interface Rule) (x y z : Result Packet Rule)
+  by_kind : (a b c d e : Bool) (order : Order) (body : List ℕ) (i : Result Interface Rule)
+      (x y z : Result BlockPacket Rule)
       → IfOk i OfInterface → IfOk x OfPacket → IfOk y OfPacket → IfOk z OfPacket
       → IfOk (if a then Ok contents.Section else if b then of_body (described order body) i else
       if c then of_body contents.Packet x else if d then of_body contents.Packet y else if e then of_body

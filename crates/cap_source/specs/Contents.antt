@@ -9,25 +9,25 @@ use Rattle.cap_bytes.specs.declared.numbers.Order.{Order}
 use Rattle.cap_time.specs.declared.resolutions.Interface.{Interface}
 use Rattle.cap_blocks.specs.Grammar.{section_kind, interface_kind, obsolete_kind, simple_kind, enhanced_kind}
 use Rattle.cap_source.specs.TimeBases.{interface_in, is_named}
-use Rattle.cap_source.specs.declared.contents.Content.{Content}
-use Rattle.cap_source.specs.declared.contents.Content.TheVariants as contents
-use Rattle.cap_source.specs.declared.contents.Packet.{Packet}
+use Rattle.cap_source.specs.declared.contents.BlockContent.{BlockContent}
+use Rattle.cap_source.specs.declared.contents.BlockContent.TheVariants as contents
+use Rattle.cap_source.specs.declared.contents.BlockPacket.{BlockPacket}
 
 -- A packet whose captured bytes are within the limit and within a body of that size, or the first rule
 -- that it breaks.
-unfoldable pub fitting : Packet → ℕ → Result Packet Rule
+unfoldable pub fitting : BlockPacket → ℕ → Result BlockPacket Rule
 fitting packet size =
     if nat_lt 262144 packet.captured then Err rules.PacketLong else
     if nat_lt size (packet.place + packet.captured) then Err rules.Captured else Ok packet
 
 -- a packet of the section's interface of a number, if it has that
-abbrev pub of_interface : Option Interface → (Interface → Result Packet Rule) → Result Packet Rule
+abbrev pub of_interface : Option Interface → (Interface → Result BlockPacket Rule) → Result BlockPacket Rule
 of_interface None packet = Err rules.InterfaceUnknown
 of_interface (Some interface) packet = packet interface
 
 -- The packet of an enhanced or an obsolete packet block of that interface.
 -- draft-ietf-opsawg-pcapng, 4.3 and Appendix A.
-unfoldable pub timed_in : List Interface → ℕ → Order → List ℕ → Result Packet Rule
+unfoldable pub timed_in : List Interface → ℕ → Order → List ℕ → Result BlockPacket Rule
 timed_in interfaces number_of order body =
     of_interface (slice_get interfaces number_of) (λ interface.
     fitting (record {
@@ -45,7 +45,7 @@ simple_captured snaplen original = if (snaplen == 0) || nat_lt original snaplen 
 
 -- The packet of a simple packet block, which is of interface 0 and has no time.
 -- draft-ietf-opsawg-pcapng, 4.4.
-unfoldable pub simple_in : List Interface → Order → List ℕ → Result Packet Rule
+unfoldable pub simple_in : List Interface → Order → List ℕ → Result BlockPacket Rule
 simple_in interfaces order body =
     of_interface (slice_get interfaces 0) (λ interface.
     fitting (record {
@@ -57,16 +57,16 @@ simple_in interfaces order body =
       place = 4;
     }) (length body))
 
-abbrev pub of_body : {A : Type 0} → (A → Content) → Result A Rule → Result Content Rule
+abbrev pub of_body : {A : Type 0} → (A → BlockContent) → Result A Rule → Result BlockContent Rule
 of_body content (Ok x) = Ok (content x)
 of_body content (Err rule) = Err rule
 
 -- what an interface block says that gives that interface
-abbrev pub described : Order → List ℕ → Interface → Content
+abbrev pub described : Order → List ℕ → Interface → BlockContent
 described order body interface = contents.Interface (record { interface = interface; is_named = is_named order body })
 
 -- What a block says in a section with these interfaces, or the first rule that its body breaks.
-unfoldable pub content_in : List Interface → ℕ → Order → List ℕ → Result Content Rule
+unfoldable pub content_in : List Interface → ℕ → Order → List ℕ → Result BlockContent Rule
 content_in interfaces kind order body =
     if kind == section_kind then Ok contents.Section else
     if kind == interface_kind then of_body (described order body) (interface_in (length interfaces) order body) else

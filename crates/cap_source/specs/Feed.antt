@@ -125,7 +125,7 @@ KeepsItems old (Err (Read file offset)) new = ⊤
 KeepsItems old (Err Write) new = ⊥
 KeepsItems old (Err Memory) new = SameItems old new
 
--- what `has_packet` returns: whether a packet comes next, or a refusal, which is returned as a fault
+-- what `peek` returns: whether a packet comes next, or a refusal, which is returned as a fault
 abbrev pub FindsPacket : Feed → Result Bool Fault → Feed → Type 0
 FindsPacket old (Ok true) new = (meta : Meta) × Knows old (heads.Packet meta) new
 FindsPacket old (Ok false) new = Knows old heads.End new
@@ -142,8 +142,8 @@ FindsItem old (Err (Read file offset)) new = ⊤
 FindsItem old (Err Write) new = ⊥
 FindsItem old (Err Memory) new = SameItems old new
 
--- what `shows_packet` returns: whether a packet comes next, and is known. If not, nothing is said of what comes next,
--- but it may be known now.
+-- what `try_peek_buffered` returns: whether a packet comes next, and is known. If not, nothing is said of what comes
+-- next, but it may be known now.
 abbrev pub ShowsPacket : Feed → Bool → Feed → Type 0
 ShowsPacket old true new = (meta : Meta) × Knows old (heads.Packet meta) new
 ShowsPacket old false new = (new ≡ old) ⊎ ((head : Head) × Knows old head new)

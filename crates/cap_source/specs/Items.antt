@@ -20,9 +20,9 @@ use Rattle.cap_blocks.specs.Split.{is_section}
 use Rattle.cap_blocks.specs.declared.blocks.Block.{Block}
 use Rattle.cap_source.specs.Contents.{content_in}
 use Rattle.cap_source.specs.Feed.{Item, packet, refused}
-use Rattle.cap_source.specs.declared.contents.Content.{Content}
-use Rattle.cap_source.specs.declared.contents.Content.TheVariants as contents
-use Rattle.cap_source.specs.declared.contents.Packet.{Packet}
+use Rattle.cap_source.specs.declared.contents.BlockContent.{BlockContent}
+use Rattle.cap_source.specs.declared.contents.BlockContent.TheVariants as contents
+use Rattle.cap_source.specs.declared.contents.BlockPacket.{BlockPacket}
 use Rattle.cap_source.specs.declared.feeds.FileEnd.{FileEnd}
 use Rattle.cap_bytes.specs.declared.formats.Format.TheVariants.{Pcap, Pcapng}
 use Rattle.cap_source.specs.declared.packets.Meta.{Meta}
@@ -30,7 +30,7 @@ use Rattle.cap_source.specs.declared.packets.Meta.{Meta}
 -- How far a pcapng file was read: the interfaces of the section that is being read, in order; how many
 -- interface blocks of the file stand before the section; how many of its blocks were skipped; how many of its
 -- interfaces have a name; and its interface of instance 0, once that was read.
-pub record Progress : Type 0 where
+pub record SectionProgress : Type 0 where
   pub interfaces : List Interface
   pub base : ℕ
   pub skipped : ℕ
@@ -38,7 +38,7 @@ pub record Progress : Type 0 where
   pub first : Option Interface
 
 -- nothing was read yet
-abbrev pub fresh : Progress
+abbrev pub fresh : SectionProgress
 fresh = record { interfaces = []; base = 0; skipped = 0; named = 0; first = None }
 
 abbrev pub first_or : Option Interface → Interface → Interface
@@ -46,7 +46,7 @@ first_or None interface = interface
 first_or (Some first) interface = first
 
 -- what a block adds that says this: a section header begins a section without interfaces
-abbrev pub after : Progress → Content → Progress
+abbrev pub after : SectionProgress → BlockContent → SectionProgress
 after progress contents.Section =
     record {
       interfaces = [];
@@ -74,7 +74,7 @@ after progress contents.Other =
     }
 
 -- what is known of a packet in that block, and its captured bytes in the block's body
-abbrev pub meta_in : ℕ → Progress → Block → Packet → Meta
+abbrev pub meta_in : ℕ → SectionProgress → Block → BlockPacket → Meta
 meta_in file progress block p =
     record {
       file = file;
@@ -88,11 +88,11 @@ meta_in file progress block p =
       original = p.original;
     }
 
-abbrev pub frame_in : Packet → List ℕ → List ℕ
+abbrev pub frame_in : BlockPacket → List ℕ → List ℕ
 frame_in p body = take p.captured (drop p.place body)
 
 -- the items of a file from a block on that says this, before those after the block
-abbrev pub items_at_block : ℕ → Progress → Block → List ℕ → Result Content Rule → List Item → List Item
+abbrev pub items_at_block : ℕ → SectionProgress → Block → List ℕ → Result BlockContent Rule → List Item → List Item
 items_at_block file progress block body (Ok contents.Section) rest = rest
 items_at_block file progress block body (Ok (contents.Interface described)) rest = rest
 items_at_block file progress block body (Ok (contents.Packet p)) rest =
@@ -102,7 +102,7 @@ items_at_block file progress block body (Err rule) rest =
     refused (record { file = file; offset = block.offset; rule = rule }) ∷ []
 
 -- how far a file was read after that block
-abbrev pub behind : Progress → Result Content Rule → Progress
+abbrev pub behind : SectionProgress → Result BlockContent Rule → SectionProgress
 behind progress (Ok content) = after progress content
 behind progress (Err rule) = progress
 
@@ -113,7 +113,7 @@ items_of_stop stops.Cut = []
 items_of_stop (stops.Refused refusal) = refused refusal ∷ []
 
 -- the items of the rest of a pcapng file, by the blocks that it splits into
-unfoldable pub items_of_blocks : ℕ → Progress → List (pieces.PieceItem Block) → List Item
+unfoldable pub items_of_blocks : ℕ → SectionProgress → List (pieces.PieceItem Block) → List Item
 items_of_blocks file progress [] = []
 items_of_blocks file progress (pieces.stopped stop ∷ rest) = items_of_stop stop
 items_of_blocks file progress (pieces.given block body ∷ rest) =
@@ -122,7 +122,7 @@ items_of_blocks file progress (pieces.given block body ∷ rest) =
 
 -- how a pcapng file ends that was read so far, whether a rest was dropped, how many interfaces it has, and how many of
 -- them have a name
-abbrev pub ending_with : Progress → Bool → FileEnd
+abbrev pub ending_with : SectionProgress → Bool → FileEnd
 ending_with progress was_cut =
     record {
       ending = record { format = Pcapng; skipped = progress.skipped; was_cut = was_cut };
@@ -136,12 +136,12 @@ is_cut stops.Cut = true
 is_cut (stops.Refused refusal) = false
 
 -- one of two, by whether a block breaks a rule
-abbrev pub unless_faulty : {A : Type 0} → Result Content Rule → A → A → A
+abbrev pub unless_faulty : {A : Type 0} → Result BlockContent Rule → A → A → A
 unless_faulty (Ok content) here later = later
 unless_faulty (Err rule) here later = here
 
 -- how it ends, by the blocks of its rest
-unfoldable pub ending_in : Progress → List (pieces.PieceItem Block) → FileEnd
+unfoldable pub ending_in : SectionProgress → List (pieces.PieceItem Block) → FileEnd
 ending_in progress [] = ending_with progress false
 ending_in progress (pieces.stopped stop ∷ rest) = ending_with progress (is_cut stop)
 ending_in progress (pieces.given block body ∷ rest) =
@@ -149,7 +149,7 @@ ending_in progress (pieces.given block body ∷ rest) =
     unless_faulty content (ending_with progress false) (ending_in (behind progress content) rest)
 
 -- one of two, by whether a block gives an item
-abbrev pub unless_item : {A : Type 0} → Result Content Rule → A → A → A
+abbrev pub unless_item : {A : Type 0} → Result BlockContent Rule → A → A → A
 unless_item (Ok contents.Section) here later = later
 unless_item (Ok (contents.Interface described)) here later = later
 unless_item (Ok (contents.Packet p)) here later = here
@@ -157,7 +157,7 @@ unless_item (Ok contents.Other) here later = later
 unless_item (Err rule) here later = here
 
 -- the interface of instance 0 that stands before the next item or the end, by the blocks of its rest
-unfoldable pub first_in : Progress → List (pieces.PieceItem Block) → Option Interface
+unfoldable pub first_in : SectionProgress → List (pieces.PieceItem Block) → Option Interface
 first_in progress [] = progress.first
 first_in progress (pieces.stopped stop ∷ rest) = progress.first
 first_in progress (pieces.given block body ∷ rest) =
@@ -225,17 +225,17 @@ unless_refused None interface = Some interface
 abbrev pub is_pcapng : List ℕ → Bool
 is_pcapng bytes = nat_le 4 (length bytes) && is_section bytes
 
-unfoldable pub items_from : Tail → ℕ → Progress → ℕ → List ℕ → List Item
+unfoldable pub items_from : Tail → ℕ → SectionProgress → ℕ → List ℕ → List Item
 items_from tail file progress offset bytes =
     if is_pcapng bytes then items_of_blocks file progress (blocks.block_items_from None tail file offset bytes)
     else pcap_items file (interface_of (records.header_at bytes)) (records.pcap_file_items tail file offset bytes)
 
-unfoldable pub ending_from : Tail → ℕ → Progress → ℕ → List ℕ → FileEnd
+unfoldable pub ending_from : Tail → ℕ → SectionProgress → ℕ → List ℕ → FileEnd
 ending_from tail file progress offset bytes =
     if is_pcapng bytes then ending_in progress (blocks.block_items_from None tail file offset bytes)
     else pcap_ending (records.pcap_file_items tail file offset bytes)
 
-unfoldable pub first_from : Tail → ℕ → Progress → ℕ → List ℕ → Option Interface
+unfoldable pub first_from : Tail → ℕ → SectionProgress → ℕ → List ℕ → Option Interface
 first_from tail file progress offset bytes =
     if is_pcapng bytes then first_in progress (blocks.block_items_from None tail file offset bytes)
     else unless_refused (records.pcap_header_fault offset bytes) (interface_of (records.header_at bytes))

@@ -5,11 +5,11 @@ pub mod Fields
 pub mod FileState
 pub mod Fronts
 pub mod Growing
-pub mod KnownView
+pub mod PeekSlotView
 pub mod Laws
 pub mod Listed
 pub mod Places
-pub mod Reached
+pub mod SectionState
 pub mod Readers
 pub mod Walk
 pub mod Written

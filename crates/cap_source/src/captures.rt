@@ -11,19 +11,19 @@ ghost use Rattle.cap_source.specs.inner.FileState.{FileAnswers, FileKeeps, FileT
 ghost use Rattle.cap_source.specs.inner.FileState.{ShowsNext, TakesShown};
 ghost use Rattle.cap_source.specs.inner.Fronts.{FrontsAnswer, FrontsFind, FrontsPass, unread_fronts};
 ghost use Rattle.cap_source.specs.inner.Laws.{captures_lawful};
-ghost use Rattle.cap_source.specs.inner.Reached.{progress_of};
+ghost use Rattle.cap_source.specs.inner.SectionState.{progress_of};
 ghost use Rattle.cap_source.specs.inner.Readers.{reader_file_state, is_there, reader_room};
 
 use crate::feeds::{Ending, FeedHeld, FileEnd, Head, PacketFeed};
-use crate::known::Known;
 use crate::opening::open;
 use crate::packets::Meta;
 use crate::pcap::{ending_of_pcap, next_of_pcap};
 use crate::pcapng::{ending_of_blocks, next_of_blocks};
-use crate::reached::{Reached, nothing_reached};
+use crate::peek_slots::PeekSlot;
 use crate::readers::{
-    Next, Reader, ending_of, failed_of, held_of, last_of, noted_of, number_of, part_of,
+    Peeked, Reader, ending_of, failed_of, held_of, last_of, noted_of, number_of, part_of,
 };
+use crate::section_states::{SectionState, nothing_reached};
 use crate::{pcap, pcapng};
 use cap_bytes::{Fault, Source, Tail, Window};
 use cap_time::Interface;
@@ -34,9 +34,9 @@ use std::alloc::Global;
 #[derive(Drop)]
 pub struct Capture<R: Source> {
     reader: Reader<R>,
-    reached: Reached,
+    reached: SectionState,
     // what comes next, once it was asked for
-    next: Known,
+    next: PeekSlot,
     ghost there: { IsTrue (is_there reader) },
     ghost room: { IsTrue (reader_room reader reached) },
     ghost sound: { IsSoundFile (reader_file_state reader (progress_of reached)) next } by { Prim.hlevel props },
@@ -69,7 +69,7 @@ impl<R: Source> Capture<R> {
         Capture {
             reader: Reader::Unread(Window::new(alloc, reader, file), tail),
             reached: nothing_reached(alloc),
-            next: Known::new(),
+            next: PeekSlot::new(),
         }
     }
 
@@ -130,7 +130,7 @@ impl<R: Source> Capture<R> {
         if self.next.is_some() {
             return Ok(());
         }
-        if self.take_shown() {
+        if self.try_next_buffered() {
             return Ok(());
         }
         self.find()
@@ -139,20 +139,20 @@ impl<R: Source> Capture<R> {
     // Learns which packet comes next, unless that is known, if the window shows it already. Returns whether a packet
     // is known then.
     #[inline(always)]
-    fn shows(&mut self) -> bool
+    fn try_peek(&mut self) -> bool
         ensures answer { ShowsNext (capture_file self.old) self.old.next result (capture_file self.new) self.new.next }
         ensures keeps { FileKeeps (capture_file self.old) (capture_file self.new) }
     {
         if self.next.is_some() {
             return self.next.is_packet();
         }
-        self.take_shown() && self.next.is_packet()
+        self.try_next_buffered() && self.next.is_packet()
     }
 
     // Learns which packet comes next, if the window shows it already. Returns whether it did: if not, nothing has
     // changed.
     #[inline(always)]
-    fn take_shown(&mut self) -> bool
+    fn try_next_buffered(&mut self) -> bool
         requires { self.old.next ≡ None }
         ensures answer { TakesShown (capture_file self.old) result self.new.next (capture_file self.new) }
         ensures reaches { IsTrue result → FileTakes (capture_file self.old) (capture_file self.new) }
@@ -164,10 +164,14 @@ impl<R: Source> Capture<R> {
     {
         // the commonest format is asked for first, in place of a jump by a table
         if let Reader::Pcap(reader) = &mut self.reader {
-            return pcap::take_shown(reader, &mut self.next);
+            return pcap::try_next_buffered(reader, &mut self.next);
         }
         match &mut self.reader {
-            Reader::Pcapng(reader) => pcapng::take_shown(reader, &self.reached, &mut self.next),
+            Reader::Pcapng(reader) => pcapng::try_next_buffered(
+                reader,
+                &self.reached,
+                &mut self.next,
+            ),
             _ => false,
         }
     }
@@ -210,15 +214,15 @@ impl<R: Source> PacketFeed for Capture<R> {
     {
         self.learn()?;
         match self.next.get() {
-            Some(Next::Packet(meta, _)) => Ok(Head::Packet(meta)),
-            Some(Next::Refused(refusal, _)) => Ok(Head::Refused(refusal)),
-            Some(Next::End(_)) => Ok(Head::End),
+            Some(Peeked::Packet(meta, _)) => Ok(Head::Packet(meta)),
+            Some(Peeked::Refused(refusal, _)) => Ok(Head::Refused(refusal)),
+            Some(Peeked::End(_)) => Ok(Head::End),
             None => unreachable!(),
         }
     }
 
     #[inline(always)]
-    fn has_packet(&mut self) -> Result<bool, Fault>
+    fn peek(&mut self) -> Result<bool, Fault>
         ensures answer { FindsPacket (capture_feed self.old) result (capture_feed self.new) }
         ensures keeps { FeedKeeps (capture_feed self.old) (capture_feed self.new) }
         ensures items { IsTrue (capture_feed self.old).told
@@ -230,16 +234,16 @@ impl<R: Source> PacketFeed for Capture<R> {
     {
         self.learn()?;
         match self.next.get() {
-            Some(Next::Packet(_, _)) => Ok(true),
-            Some(Next::Refused(refusal, _)) => Err(Fault::Refused(refusal)),
-            Some(Next::End(_)) => Ok(false),
+            Some(Peeked::Packet(_, _)) => Ok(true),
+            Some(Peeked::Refused(refusal, _)) => Err(Fault::Refused(refusal)),
+            Some(Peeked::End(_)) => Ok(false),
             None => unreachable!(),
         }
     }
 
     #[inline(always)]
-    fn shows_packet(&mut self) -> bool {
-        self.shows()
+    fn try_peek_buffered(&mut self) -> bool {
+        self.try_peek()
     }
 
     #[inline(always)]

@@ -17,7 +17,7 @@ const SIMPLE_HEAD: u32 = 4;
 
 /// What a block says of a packet.
 #[derive(Clone, Copy)]
-pub struct Packet {
+pub struct BlockPacket {
     /// Its interface.
     pub interface: Interface,
     /// Its time in units of the interface's resolution; `None` if it has none.
@@ -34,7 +34,7 @@ pub struct Packet {
 
 /// What an interface block says.
 #[derive(Clone, Copy)]
-pub struct Described {
+pub struct InterfaceDescription {
     /// The interface.
     pub interface: Interface,
     /// Whether it has a name.
@@ -43,13 +43,13 @@ pub struct Described {
 
 /// What a block says.
 #[derive(Clone, Copy)]
-pub enum Content {
+pub enum BlockContent {
     /// A section begins.
     Section,
     /// An interface of the section.
-    Interface(Described),
+    Interface(InterfaceDescription),
     /// A packet.
-    Packet(Packet),
+    Packet(BlockPacket),
     /// Nothing that is read.
     Other,
 }
@@ -57,7 +57,7 @@ pub enum Content {
 // A packet whose captured bytes are within the limit and within the body.
 #[tactic(auto, unfolding(crate::specs::Contents::fitting))]
 #[inline(always)]
-fn fit(packet: Packet, size: usize) -> Result<Packet, Rule>
+fn fit(packet: BlockPacket, size: usize) -> Result<BlockPacket, Rule>
     ensures { result ≡ fitting packet size }
 {
     if packet.captured > PACKET_LIMIT {
@@ -78,7 +78,7 @@ fn timed_packet(
     number: u32,
     order: Order,
     body: &[u8],
-) -> Result<Packet, Rule>
+) -> Result<BlockPacket, Rule>
     requires { 20 ≤ length body.now }
     ensures { result ≡ timed_in interfaces.now number order body.now }
 {
@@ -86,7 +86,7 @@ fn timed_packet(
         Some(interface) => {
             let high = u64::from(u32_at(order, body, 4));
             let low = u64::from(u32_at(order, body, 8));
-            let packet = Packet {
+            let packet = BlockPacket {
                 number,
                 interface: *interface,
                 units: Some(high * 0x1_0000_0000 + low),
@@ -104,9 +104,13 @@ fn timed_packet(
 /// for both, each number is read in both. draft-ietf-opsawg-pcapng, 4.3.
 #[tactic(auto, unfolding(crate::specs::Contents::content_in))]
 #[inline(always)]
-pub fn enhanced_packet(interfaces: &[Interface], order: Order, body: &[u8]) -> Result<Packet, Rule>
+pub fn enhanced_packet(
+    interfaces: &[Interface],
+    order: Order,
+    body: &[u8],
+) -> Result<BlockPacket, Rule>
     requires { 20 ≤ length body.now }
-    ensures { of_body Content.Packet result ≡ content_in interfaces.now enhanced_kind order body.now }
+    ensures { of_body BlockContent.Packet result ≡ content_in interfaces.now enhanced_kind order body.now }
 {
     match order {
         Order::Little => {
@@ -134,14 +138,14 @@ fn simple_captured(snaplen: u32, original: u32) -> u32
 // The packet of a simple packet block, which is of the section's first interface and has no time.
 // draft-ietf-opsawg-pcapng, 4.4.
 #[tactic(auto, unfolding(crate::specs::Contents::simple_in))]
-fn simple_packet(interfaces: &[Interface], order: Order, body: &[u8]) -> Result<Packet, Rule>
+fn simple_packet(interfaces: &[Interface], order: Order, body: &[u8]) -> Result<BlockPacket, Rule>
     requires { 4 ≤ length body.now }
     ensures { result ≡ simple_in interfaces.now order body.now }
 {
     match interfaces.get(0) {
         Some(interface) => {
             let original = u32_at(order, body, 0);
-            let packet = Packet {
+            let packet = BlockPacket {
                 number: 0,
                 interface: *interface,
                 units: None,
@@ -156,14 +160,14 @@ fn simple_packet(interfaces: &[Interface], order: Order, body: &[u8]) -> Result<
 }
 
 // What an interface block says, before which that many stand in its section, or the first rule that it breaks.
-fn read_interface(before: usize, order: Order, body: &[u8]) -> Result<Described, Rule>
+fn read_interface(before: usize, order: Order, body: &[u8]) -> Result<InterfaceDescription, Rule>
     requires least { 8 ≤ length body.now }
     requires padded { length body.now % 4 ≡ 0 }
-    ensures { of_body Content.Interface result ≡ of_body (described order body.now)
+    ensures { of_body BlockContent.Interface result ≡ of_body (described order body.now)
         (interface_in before order body.now) }
 {
     match interface_of(before, order, body) {
-        Ok(interface) => Ok(Described {
+        Ok(interface) => Ok(InterfaceDescription {
             interface,
             is_named: is_named(order, body),
         }),
@@ -180,23 +184,23 @@ pub fn content_of(
     kind: u32,
     order: Order,
     body: &[u8],
-) -> Result<Content, Rule>
+) -> Result<BlockContent, Rule>
     requires least { least_total kind ≤ 12 + length body.now }
     requires padded { length body.now % 4 ≡ 0 }
     ensures { result ≡ content_in interfaces.now kind order body.now }
 {
     match kind {
-        SECTION => Ok(Content::Section),
-        INTERFACE => Ok(Content::Interface(read_interface(interfaces.len(), order, body)?)),
+        SECTION => Ok(BlockContent::Section),
+        INTERFACE => Ok(BlockContent::Interface(read_interface(interfaces.len(), order, body)?)),
         ENHANCED_PACKET => {
             let number = u32_at(order, body, 0);
-            Ok(Content::Packet(timed_packet(interfaces, number, order, body)?))
+            Ok(BlockContent::Packet(timed_packet(interfaces, number, order, body)?))
         }
         OBSOLETE_PACKET => {
             let number = u32::from(u16_at(order, body, 0));
-            Ok(Content::Packet(timed_packet(interfaces, number, order, body)?))
+            Ok(BlockContent::Packet(timed_packet(interfaces, number, order, body)?))
         }
-        SIMPLE_PACKET => Ok(Content::Packet(simple_packet(interfaces, order, body)?)),
-        _ => Ok(Content::Other),
+        SIMPLE_PACKET => Ok(BlockContent::Packet(simple_packet(interfaces, order, body)?)),
+        _ => Ok(BlockContent::Other),
     }
 }

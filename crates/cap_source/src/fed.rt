@@ -6,14 +6,14 @@ ghost use Rattle.cap_blocks.specs.Split.{body_in};
 ghost use Rattle.cap_blocks.specs.inner.Parsing.{ParsesBlockHeader};
 ghost use Rattle.cap_bytes.specs.Items.{stop_by, stop_where};
 ghost use Rattle.cap_source.specs.Items.{is_pcapng};
-ghost use Rattle.cap_source.specs.inner.FedSteps.{BreaksBy, BreaksOff, CourseKeeps, IsSoundCourse, StepsFed, StopsFed};
-ghost use Rattle.cap_source.specs.inner.FedSteps.{SaysWithin, TakesBlockFed, TakesFed, course_of};
+ghost use Rattle.cap_source.specs.inner.FedSteps.{BreaksBy, BreaksOff, PushKeeps, IsSoundPush, StepsFed, StopsFed};
+ghost use Rattle.cap_source.specs.inner.FedSteps.{SaysWithin, TakesBlockFed, TakesFed, push_view};
 
-use crate::contents::{Content, content_of};
+use crate::contents::{BlockContent, content_of};
 use crate::packets::Meta;
 use crate::pcap::meta_of_record;
 use crate::pcapng::meta_of_packet;
-use crate::reached::{Reached, go_on};
+use crate::section_states::{SectionState, go_on};
 use cap_blocks::{Block, body_rule, find_block_header, is_known, is_section};
 use cap_bytes::{Fault, Order, Refusal, Rule, Stop, Tail, u32_at};
 use cap_pcap::{PcapHeader, find_header, find_record};
@@ -35,7 +35,7 @@ pub enum Stage {
 
 /// How far a capture was read that is fed.
 #[derive(Drop)]
-pub struct Course {
+pub struct PushState {
     /// The number of the file.
     pub file: u32,
     /// Whether a record or block that the end of the file cuts is refused, or dropped.
@@ -47,12 +47,12 @@ pub struct Course {
     /// Where the next bytes stand.
     pub stage: Stage,
     /// What is known of its interfaces and blocks.
-    pub reached: Reached,
+    pub reached: SectionState,
 }
 
 /// What some bytes are, which come next of a capture.
 #[derive(Clone, Copy)]
-pub enum FedStep {
+pub enum PushEvent {
     /// That many of them are a header, a part of a block that is skipped, or a block that gives no packet.
     Passed(usize),
     /// A packet, the place of its captured bytes among these, and how many of them its record or block takes.
@@ -64,83 +64,88 @@ pub enum FedStep {
 }
 
 // The capture stops for good.
-fn stop(course: &mut Course, stop: Stop) -> Result<FedStep, Fault>
-    ensures { StopsFed (course_of course.old) stop result (course_of course.new) }
+fn stop(state: &mut PushState, stop: Stop) -> Result<PushEvent, Fault>
+    ensures { StopsFed (push_view state.old) stop result (push_view state.new) }
 {
-    course.stage = Stage::Stopped(stop);
+    state.stage = Stage::Stopped(stop);
     match stop {
-        Stop::End | Stop::Cut => Ok(FedStep::Ends),
+        Stop::End | Stop::Cut => Ok(PushEvent::Ends),
         Stop::Refused(refusal) => Err(Fault::Refused(refusal)),
     }
 }
 
 // What ends a capture if a rule is broken at some bytes: they may be none.
-fn stop_of(course: &Course, inside: bool, bytes: &[u8], rule: Rule) -> Stop
-    ensures { stop_where inside course.now.tail course.now.file course.now.offset bytes.now (Some rule) ≡ Some result }
+fn stop_of(state: &PushState, inside: bool, bytes: &[u8], rule: Rule) -> Stop
+    ensures { stop_where inside state.now.tail state.now.file state.now.offset bytes.now (Some rule) ≡ Some result }
 {
     if inside && bytes.is_empty() {
         return Stop::End;
     }
     let refusal = Refusal {
-        file: course.file,
-        offset: course.offset,
+        file: state.file,
+        offset: state.offset,
         rule,
     };
-    Stop::by(inside, course.tail, refusal)
+    Stop::by(inside, state.tail, refusal)
 }
 
 // Nothing comes of some bytes, since they break a rule: more are wanted, or the capture stops.
-fn break_by(course: &mut Course, rule: Rule, end: Stop) -> Result<FedStep, Fault>
-    ensures { BreaksBy (course_of course.old) rule end result (course_of course.new) }
+fn break_by(state: &mut PushState, rule: Rule, end: Stop) -> Result<PushEvent, Fault>
+    ensures { BreaksBy (push_view state.old) rule end result (push_view state.new) }
 {
-    if !course.ended && matches!(rule, Rule::Cut) {
-        return Ok(FedStep::Short);
+    if !state.ended && matches!(rule, Rule::Cut) {
+        return Ok(PushEvent::Short);
     }
-    stop(course, end)
+    stop(state, end)
 }
 
 // The same where a header, a record or a block may begin.
-fn break_off(course: &mut Course, inside: bool, bytes: &[u8], rule: Rule) -> Result<FedStep, Fault>
-    ensures { BreaksOff (course_of course.old) inside bytes.now rule result (course_of course.new) }
+fn break_off(
+    state: &mut PushState,
+    inside: bool,
+    bytes: &[u8],
+    rule: Rule,
+) -> Result<PushEvent, Fault>
+    ensures { BreaksOff (push_view state.old) inside bytes.now rule result (push_view state.new) }
 {
-    let end = stop_of(course, inside, bytes, rule);
-    break_by(course, rule, end)
+    let end = stop_of(state, inside, bytes, rule);
+    break_by(state, rule, end)
 }
 
 // At the first byte of a pcap file.
-fn step_start(course: &mut Course, bytes: &[u8]) -> Result<FedStep, Fault>
-    requires start { course.old.stage ≡ Stage.Start }
-    requires sound { IsSoundCourse (course_of course.old) }
+fn step_start(state: &mut PushState, bytes: &[u8]) -> Result<PushEvent, Fault>
+    requires start { state.old.stage ≡ Stage.Start }
+    requires sound { IsSoundPush (push_view state.old) }
     requires pcap { is_pcapng bytes.now ≡ false }
-    ensures step { StepsFed (course_of course.old) bytes.now result (course_of course.new) }
-    ensures keeps { CourseKeeps (course_of course.old) (course_of course.new) }
-    ensures sound { IsSoundCourse (course_of course.new) }
+    ensures step { StepsFed (push_view state.old) bytes.now result (push_view state.new) }
+    ensures keeps { PushKeeps (push_view state.old) (push_view state.new) }
+    ensures sound { IsSoundPush (push_view state.new) }
 {
-    match find_header(course.offset, bytes) {
+    match find_header(state.offset, bytes) {
         Ok(header) => {
-            course.offset += 24;
-            course.stage = Stage::Records(header);
-            Ok(FedStep::Passed(24))
+            state.offset += 24;
+            state.stage = Stage::Records(header);
+            Ok(PushEvent::Passed(24))
         }
-        Err(rule) => break_off(course, false, bytes, rule),
+        Err(rule) => break_off(state, false, bytes, rule),
     }
 }
 
 // At a record.
-fn step_record(course: &mut Course, header: PcapHeader, bytes: &[u8]) -> Result<FedStep, Fault>
-    requires record { course.old.stage ≡ Stage.Records header }
-    requires sound { IsSoundCourse (course_of course.old) }
-    ensures step { StepsFed (course_of course.old) bytes.now result (course_of course.new) }
-    ensures keeps { CourseKeeps (course_of course.old) (course_of course.new) }
-    ensures sound { IsSoundCourse (course_of course.new) }
+fn step_record(state: &mut PushState, header: PcapHeader, bytes: &[u8]) -> Result<PushEvent, Fault>
+    requires record { state.old.stage ≡ Stage.Records header }
+    requires sound { IsSoundPush (push_view state.old) }
+    ensures step { StepsFed (push_view state.old) bytes.now result (push_view state.new) }
+    ensures keeps { PushKeeps (push_view state.old) (push_view state.new) }
+    ensures sound { IsSoundPush (push_view state.new) }
 {
-    match find_record(header, course.offset, bytes) {
+    match find_record(header, state.offset, bytes) {
         Ok(record) => {
             let size = 16 + record.captured as usize;
-            course.offset += size as u64;
-            Ok(FedStep::Packet(meta_of_record(course.file, header, record), 16, size))
+            state.offset += size as u64;
+            Ok(PushEvent::Packet(meta_of_record(state.file, header, record), 16, size))
         }
-        Err(rule) => break_off(course, true, bytes, rule),
+        Err(rule) => break_off(state, true, bytes, rule),
     }
 }
 
@@ -157,17 +162,17 @@ fn passed_of(left: u64, bytes: &[u8]) -> usize
 }
 
 // At the header of a block that is skipped.
-fn begin_skip(course: &mut Course, block: Block, bytes: &[u8]) -> FedStep
+fn begin_skip(state: &mut PushState, block: Block, bytes: &[u8]) -> PushEvent
     requires { 12 ≤ block.total }
-    ensures step { result ≡ FedStep.Passed (min (block.total - 4) (length bytes.now)) }
-    ensures stage { course_of course.new ≡ record (course_of course.old) {
+    ensures step { result ≡ PushEvent.Passed (min (block.total - 4) (length bytes.now)) }
+    ensures stage { push_view state.new ≡ record (push_view state.old) {
       stage = Stage.Skipping block (block.total - 4 - min (block.total - 4) (length bytes.now));
     } }
 {
     let left = u64::from(block.total) - 4;
     let passed = passed_of(left, bytes);
-    course.stage = Stage::Skipping(block, left - passed as u64);
-    FedStep::Passed(passed)
+    state.stage = Stage::Skipping(block, left - passed as u64);
+    PushEvent::Passed(passed)
 }
 
 // The body of a block that stands whole.
@@ -181,103 +186,103 @@ fn body_of(block: Block, bytes: &[u8]) -> &[u8]
 }
 
 // Takes what a block says that breaks no rule. There is room for an interface.
-fn take_content(course: &mut Course, block: Block, content: Content) -> FedStep
-    requires sound { IsSoundCourse (course_of course.old) }
-    requires begins { block.offset ≡ course.old.offset }
+fn take_content(state: &mut PushState, block: Block, content: BlockContent) -> PushEvent
+    requires sound { IsSoundPush (push_view state.old) }
+    requires begins { block.offset ≡ state.old.offset }
     requires limit { block.offset + block.total ≤ 2 ^ 40 }
     requires least { 12 ≤ block.total }
     requires within { SaysWithin block (Ok content) }
-    requires room { vec_len course.old.reached.interfaces < vec_capacity course.old.reached.interfaces }
-    ensures step { TakesFed (course_of course.old) block (Ok content) (Ok result) (course_of course.new) }
-    ensures keeps { CourseKeeps (course_of course.old) (course_of course.new) }
-    ensures sound { IsSoundCourse (course_of course.new) }
+    requires room { vec_len state.old.reached.interfaces < vec_capacity state.old.reached.interfaces }
+    ensures step { TakesFed (push_view state.old) block (Ok content) (Ok result) (push_view state.new) }
+    ensures keeps { PushKeeps (push_view state.old) (push_view state.new) }
+    ensures sound { IsSoundPush (push_view state.new) }
 {
     let total = block.total as usize;
     match content {
-        Content::Packet(packet) => {
-            let meta = meta_of_packet(course.file, block, &course.reached, packet);
-            course.offset += u64::from(block.total);
-            course.stage = Stage::Blocks(Some(block.order));
-            FedStep::Packet(meta, 8 + packet.place as usize, total)
+        BlockContent::Packet(packet) => {
+            let meta = meta_of_packet(state.file, block, &state.reached, packet);
+            state.offset += u64::from(block.total);
+            state.stage = Stage::Blocks(Some(block.order));
+            PushEvent::Packet(meta, 8 + packet.place as usize, total)
         }
         content => {
-            go_on(&mut course.reached, content);
-            course.offset += u64::from(block.total);
-            course.stage = Stage::Blocks(Some(block.order));
-            FedStep::Passed(total)
+            go_on(&mut state.reached, content);
+            state.offset += u64::from(block.total);
+            state.stage = Stage::Blocks(Some(block.order));
+            PushEvent::Passed(total)
         }
     }
 }
 
 // Takes what a block says. There is room for an interface.
 fn take_said(
-    course: &mut Course,
+    state: &mut PushState,
     block: Block,
-    said: Result<Content, Rule>,
-) -> Result<FedStep, Fault>
-    requires sound { IsSoundCourse (course_of course.old) }
-    requires begins { block.offset ≡ course.old.offset }
+    said: Result<BlockContent, Rule>,
+) -> Result<PushEvent, Fault>
+    requires sound { IsSoundPush (push_view state.old) }
+    requires begins { block.offset ≡ state.old.offset }
     requires limit { block.offset + block.total ≤ 2 ^ 40 }
     requires least { 12 ≤ block.total }
     requires within { SaysWithin block said }
-    requires room { vec_len course.old.reached.interfaces < vec_capacity course.old.reached.interfaces }
-    ensures step { TakesFed (course_of course.old) block said result (course_of course.new) }
-    ensures keeps { CourseKeeps (course_of course.old) (course_of course.new) }
-    ensures sound { IsSoundCourse (course_of course.new) }
+    requires room { vec_len state.old.reached.interfaces < vec_capacity state.old.reached.interfaces }
+    ensures step { TakesFed (push_view state.old) block said result (push_view state.new) }
+    ensures keeps { PushKeeps (push_view state.old) (push_view state.new) }
+    ensures sound { IsSoundPush (push_view state.new) }
 {
     match said {
-        Ok(content) => Ok(take_content(course, block, content)),
+        Ok(content) => Ok(take_content(state, block, content)),
         Err(rule) => {
             let refusal = Refusal {
-                file: course.file,
+                file: state.file,
                 offset: block.offset,
                 rule,
             };
-            stop(course, Stop::Refused(refusal))
+            stop(state, Stop::Refused(refusal))
         }
     }
 }
 
 // Takes a block that stands whole: room for an interface is found first.
-fn take_block(course: &mut Course, block: Block, bytes: &[u8]) -> Result<FedStep, Fault>
-    requires sound { IsSoundCourse (course_of course.old) }
-    requires begins { block.offset ≡ course.old.offset }
+fn take_block(state: &mut PushState, block: Block, bytes: &[u8]) -> Result<PushEvent, Fault>
+    requires sound { IsSoundPush (push_view state.old) }
+    requires begins { block.offset ≡ state.old.offset }
     requires limit { block.offset + block.total ≤ 2 ^ 40 }
     requires least { 12 ≤ block.total }
     requires whole { block.total ≤ length bytes.now }
     requires allowed { IsTrue (is_total block.kind block.total) }
-    ensures step { TakesBlockFed (course_of course.old) block bytes.now result (course_of course.new) }
-    ensures keeps { CourseKeeps (course_of course.old) (course_of course.new) }
-    ensures sound { IsSoundCourse (course_of course.new) }
+    ensures step { TakesBlockFed (push_view state.old) block bytes.now result (push_view state.new) }
+    ensures keeps { PushKeeps (push_view state.old) (push_view state.new) }
+    ensures sound { IsSoundPush (push_view state.new) }
 {
-    course.reached.interfaces.reserve(1)?;
+    state.reached.interfaces.reserve(1)?;
     let body = body_of(block, bytes);
-    let said = content_of(&course.reached.interfaces, block.kind, block.order, body);
-    take_said(course, block, said)
+    let said = content_of(&state.reached.interfaces, block.kind, block.order, body);
+    take_said(state, block, said)
 }
 
 // At the header of a block that is read whole.
 fn step_whole(
-    course: &mut Course,
+    state: &mut PushState,
     section: Option<Order>,
     block: Block,
     bytes: &[u8],
-) -> Result<FedStep, Fault>
-    requires stage { course.old.stage ≡ Stage.Blocks section }
-    requires sound { IsSoundCourse (course_of course.old) }
-    requires header { ParsesBlockHeader section course.old.offset bytes.now (Ok block) }
+) -> Result<PushEvent, Fault>
+    requires stage { state.old.stage ≡ Stage.Blocks section }
+    requires sound { IsSoundPush (push_view state.old) }
+    requires header { ParsesBlockHeader section state.old.offset bytes.now (Ok block) }
     requires read { IsTrue (is_known_kind block.kind || not (is_some section)) }
-    ensures step { StepsFed (course_of course.old) bytes.now result (course_of course.new) }
-    ensures keeps { CourseKeeps (course_of course.old) (course_of course.new) }
-    ensures sound { IsSoundCourse (course_of course.new) }
+    ensures step { StepsFed (push_view state.old) bytes.now result (push_view state.new) }
+    ensures keeps { PushKeeps (push_view state.old) (push_view state.new) }
+    ensures sound { IsSoundPush (push_view state.new) }
 {
     let inside = section.is_some();
     if bytes.len() < block.total as usize {
-        return break_off(course, inside, bytes, Rule::Cut);
+        return break_off(state, inside, bytes, Rule::Cut);
     }
     match body_rule(block, bytes) {
-        Some(rule) => break_off(course, inside, bytes, rule),
-        None => take_block(course, block, bytes),
+        Some(rule) => break_off(state, inside, bytes, rule),
+        None => take_block(state, block, bytes),
     }
 }
 
@@ -289,87 +294,96 @@ fn is_read_whole(section: Option<Order>, block: Block) -> bool
 }
 
 // At a block.
-fn step_block(course: &mut Course, section: Option<Order>, bytes: &[u8]) -> Result<FedStep, Fault>
-    requires stage { course.old.stage ≡ Stage.Blocks section }
-    requires sound { IsSoundCourse (course_of course.old) }
-    ensures step { StepsFed (course_of course.old) bytes.now result (course_of course.new) }
-    ensures keeps { CourseKeeps (course_of course.old) (course_of course.new) }
-    ensures sound { IsSoundCourse (course_of course.new) }
+fn step_block(
+    state: &mut PushState,
+    section: Option<Order>,
+    bytes: &[u8],
+) -> Result<PushEvent, Fault>
+    requires stage { state.old.stage ≡ Stage.Blocks section }
+    requires sound { IsSoundPush (push_view state.old) }
+    ensures step { StepsFed (push_view state.old) bytes.now result (push_view state.new) }
+    ensures keeps { PushKeeps (push_view state.old) (push_view state.new) }
+    ensures sound { IsSoundPush (push_view state.new) }
 {
-    match find_block_header(section, course.offset, bytes) {
+    match find_block_header(section, state.offset, bytes) {
         Ok(block) => {
             if is_read_whole(section, block) {
-                step_whole(course, section, block, bytes)
+                step_whole(state, section, block, bytes)
             } else {
-                Ok(begin_skip(course, block, bytes))
+                Ok(begin_skip(state, block, bytes))
             }
         }
-        Err(rule) => break_off(course, section.is_some(), bytes, rule),
+        Err(rule) => break_off(state, section.is_some(), bytes, rule),
     }
 }
 
 // The same in a block that is skipped.
-fn break_skip(course: &mut Course, rule: Rule) -> Result<FedStep, Fault>
-    ensures { BreaksBy (course_of course.old) rule
-        (stop_by true course.old.tail course.old.file course.old.offset rule) result (course_of course.new) }
+fn break_skip(state: &mut PushState, rule: Rule) -> Result<PushEvent, Fault>
+    ensures { BreaksBy (push_view state.old) rule
+        (stop_by true state.old.tail state.old.file state.old.offset rule) result (push_view state.new) }
 {
     let refusal = Refusal {
-        file: course.file,
-        offset: course.offset,
+        file: state.file,
+        offset: state.offset,
         rule,
     };
-    let end = Stop::by(true, course.tail, refusal);
-    break_by(course, rule, end)
+    let end = Stop::by(true, state.tail, refusal);
+    break_by(state, rule, end)
 }
 
 // In a block that is skipped, that many bytes before its trailer.
-fn step_skip(course: &mut Course, block: Block, left: u64, bytes: &[u8]) -> Result<FedStep, Fault>
-    requires stage { course.old.stage ≡ Stage.Skipping block left }
-    requires sound { IsSoundCourse (course_of course.old) }
-    ensures step { StepsFed (course_of course.old) bytes.now result (course_of course.new) }
-    ensures keeps { CourseKeeps (course_of course.old) (course_of course.new) }
-    ensures sound { IsSoundCourse (course_of course.new) }
+fn step_skip(
+    state: &mut PushState,
+    block: Block,
+    left: u64,
+    bytes: &[u8],
+) -> Result<PushEvent, Fault>
+    requires stage { state.old.stage ≡ Stage.Skipping block left }
+    requires sound { IsSoundPush (push_view state.old) }
+    ensures step { StepsFed (push_view state.old) bytes.now result (push_view state.new) }
+    ensures keeps { PushKeeps (push_view state.old) (push_view state.new) }
+    ensures sound { IsSoundPush (push_view state.new) }
 {
     let passed = passed_of(left, bytes);
     if passed > 0 {
-        course.stage = Stage::Skipping(block, left - passed as u64);
-        return Ok(FedStep::Passed(passed));
+        state.stage = Stage::Skipping(block, left - passed as u64);
+        return Ok(PushEvent::Passed(passed));
     }
     if bytes.len() < 4 {
-        return break_skip(course, Rule::Cut);
+        return break_skip(state, Rule::Cut);
     }
     if u32_at(block.order, bytes, 0) != block.total {
-        return break_skip(course, Rule::BlockTrailer);
+        return break_skip(state, Rule::BlockTrailer);
     }
-    course.reached.skipped += 1;
-    course.offset += u64::from(block.total);
-    course.stage = Stage::Blocks(Some(block.order));
-    Ok(FedStep::Passed(4))
+    state.reached.skipped += 1;
+    state.offset += u64::from(block.total);
+    state.stage = Stage::Blocks(Some(block.order));
+    Ok(PushEvent::Passed(4))
 }
 
 // At the first byte of a pcapng file.
-fn step_first(course: &mut Course, bytes: &[u8]) -> Result<FedStep, Fault>
-    requires start { course.old.stage ≡ Stage.Start }
-    requires sound { IsSoundCourse (course_of course.old) }
+fn step_first(state: &mut PushState, bytes: &[u8]) -> Result<PushEvent, Fault>
+    requires start { state.old.stage ≡ Stage.Start }
+    requires sound { IsSoundPush (push_view state.old) }
     requires pcapng { is_pcapng bytes.now ≡ true }
-    ensures step { StepsFed (course_of course.old) bytes.now result (course_of course.new) }
-    ensures keeps { CourseKeeps (course_of course.old) (course_of course.new) }
-    ensures sound { IsSoundCourse (course_of course.new) }
+    ensures step { StepsFed (push_view state.old) bytes.now result (push_view state.new) }
+    ensures keeps { PushKeeps (push_view state.old) (push_view state.new) }
+    ensures sound { IsSoundPush (push_view state.new) }
 {
-    course.stage = Stage::Blocks(None);
-    step_block(course, None, bytes)
+    state.stage = Stage::Blocks(None);
+    step_block(state, None, bytes)
 }
 
-impl Course {
+impl PushState {
     /// Looks at the next bytes of the capture.
     ///
     /// Returns `Refused` if they break a rule, and then always; `Memory` if a growth was refused, which leaves it as
     /// it was.
-    pub fn step(&mut self, bytes: &[u8]) -> Result<FedStep, Fault>
-        requires sound { IsSoundCourse (course_of self.old) }
-        ensures step { StepsFed (course_of self.old) bytes.now result (course_of self.new) }
-        ensures keeps { CourseKeeps (course_of self.old) (course_of self.new) }
-        ensures sound { IsSoundCourse (course_of self.new) }
+    pub fn step(&mut self, bytes: &[u8]) -> Result<PushEvent, Fault>
+        requires sound { IsSoundPush (push_view self.old) }
+        ensures step { StepsFed (push_view self.old) bytes.now result (push_view self.new) }
+        ensures keeps { PushKeeps (push_view self.old) (push_view self.new) }
+        ensures sound { IsSoundPush (push_view self.new) }
     {
         match self.stage {
             Stage::Start => {

@@ -3,12 +3,12 @@ ghost use Rattle.std.specs.Prelude.{◌≡◌, ◌≤◌, ◌+◌, ◌-◌, ◌*
 ghost use Rattle.std.specs.Prelude.{vec_capacity, vec_len};
 ghost use Rattle.cap_source.specs.Fed.{fed_items};
 ghost use Rattle.cap_source.specs.Items.{file_items};
-ghost use Rattle.cap_source.specs.inner.FedSteps.{CourseKeeps, IsSoundCourse, LooksFed, course_of};
+ghost use Rattle.cap_source.specs.inner.FedSteps.{PushKeeps, IsSoundPush, LooksFed, push_view};
 ghost use Rattle.cap_source.specs.inner.FedStates.{FeedsBytes, GivesFed, KeepsNothing, spare_room};
 
-use crate::fed::{Course, FedStep, Stage};
+use crate::fed::{PushEvent, PushState, Stage};
 use crate::packets::Meta;
-use crate::reached::nothing_reached;
+use crate::section_states::nothing_reached;
 use cap_bytes::{Fault, Tail};
 use std::alloc::Global;
 use std::marker::Model;
@@ -33,7 +33,7 @@ const SPARE_ROOM: usize = 1 << 20;
 /// more are wanted it gives back what is beyond 1 MiB, and when nothing comes any more, all.
 #[derive(Drop)]
 pub struct FedCapture {
-    course: Course,
+    state: PushState,
     bytes: Vec<u8>,
     // how many of these were passed
     passed: usize,
@@ -45,20 +45,20 @@ pub struct FedCapture {
 impl Model for FedCapture {
     ghost use Rattle.std.specs.Prelude.{drop, slice_range, vec_capacity, vec_len};
     ghost use Rattle.cap_source.specs.Fed.{FedState};
-    ghost use Rattle.cap_source.specs.inner.FedSteps.{course_of};
+    ghost use Rattle.cap_source.specs.inner.FedSteps.{push_view};
     ghost use Rattle.cap_source.specs.inner.FedStates.{IsSoundFed};
 
     ghost Value = { FedState };
 
     ghost view = { λ f. record {
-      course = course_of f.course;
+      state = push_view f.state;
       rest = drop f.passed f.bytes.items;
       frame = slice_range f.bytes.items f.start f.end;
       kept = vec_len f.bytes;
       room = vec_capacity f.bytes;
     } };
 
-    ghost invariant = { λ f. IsSoundFed (course_of f.course) f.start f.end f.passed (vec_len f.bytes) };
+    ghost invariant = { λ f. IsSoundFed (push_view f.state) f.start f.end f.passed (vec_len f.bytes) };
 }
 
 // Drops the first n bytes.
@@ -118,20 +118,20 @@ fn give_back(bytes: &mut Vec<u8>, passed: usize) -> usize
 }
 
 // Looks on, from byte `at` of those on, until a packet comes, more bytes are wanted or the capture ends.
-fn look_on(course: &mut Course, bytes: &[u8], at: &mut usize) -> Result<FedStep, Fault>
-    requires sound { IsSoundCourse (course_of course.old) }
+fn look_on(state: &mut PushState, bytes: &[u8], at: &mut usize) -> Result<PushEvent, Fault>
+    requires sound { IsSoundPush (push_view state.old) }
     requires within { at.old ≤ length bytes.now }
-    ensures looks { LooksFed (course_of course.old) (drop at.old bytes.now) result (course_of course.new)
+    ensures looks { LooksFed (push_view state.old) (drop at.old bytes.now) result (push_view state.new)
         (drop at.new bytes.now) }
-    ensures keeps { CourseKeeps (course_of course.old) (course_of course.new) }
-    ensures sound { IsSoundCourse (course_of course.new) }
+    ensures keeps { PushKeeps (push_view state.old) (push_view state.new) }
+    ensures sound { IsSoundPush (push_view state.new) }
     ensures further { at.old ≤ at.new }
     ensures within { at.new ≤ length bytes.now }
 {
     loop {
-        let step = course.step(bytes.split_at(*at).1)?;
+        let step = state.step(bytes.split_at(*at).1)?;
         match step {
-            FedStep::Passed(n) => *at += n,
+            PushEvent::Passed(n) => *at += n,
             _ => return Ok(step),
         }
     }
@@ -141,11 +141,11 @@ impl FedCapture {
     /// The capture of that number, of which nothing was fed yet. `tail` says what becomes of a cut end.
     pub fn new(alloc: Global, file: u32, tail: Tail) -> FedCapture
         ensures items { (later : List ℕ) → fed_items result later ≡ file_items tail file later }
-        ensures open { result.course.ended ≡ false }
+        ensures open { result.state.ended ≡ false }
         ensures nothing { KeepsNothing result }
     {
         FedCapture {
-            course: Course {
+            state: PushState {
                 file,
                 tail,
                 ended: false,
@@ -165,10 +165,10 @@ impl FedCapture {
     ///
     /// Returns `Memory` if a growth was refused for them, which are some: then nothing was fed.
     pub fn feed(&mut self, bytes: &[u8]) -> Result<(), Fault>
-        requires open { self.old.course.ended ≡ false }
+        requires open { self.old.state.ended ≡ false }
         ensures { FeedsBytes self.old bytes.now result self.new }
     {
-        if let Stage::Stopped(_) = self.course.stage {
+        if let Stage::Stopped(_) = self.state.stage {
             self.keep_nothing();
             return Ok(());
         }
@@ -181,7 +181,7 @@ impl FedCapture {
 
     // Drops all bytes.
     fn keep_nothing(&mut self)
-        ensures course { self.new.course ≡ self.old.course }
+        ensures state { self.new.state ≡ self.old.state }
         ensures nothing { KeepsNothing self.new }
     {
         drop_all(&mut self.bytes);
@@ -192,21 +192,21 @@ impl FedCapture {
 
     /// No more bytes come.
     pub fn end(&mut self)
-        ensures course { self.new.course ≡ record self.old.course { ended = true } }
+        ensures state { self.new.state ≡ record self.old.state { ended = true } }
         ensures rest { self.new.rest ≡ self.old.rest }
         ensures frame { self.new.frame ≡ self.old.frame }
         ensures kept { self.new.kept ≡ self.old.kept }
         ensures room { self.new.room ≡ self.old.room }
     {
-        let course = &mut self.course;
-        course.ended = true;
+        let state = &mut self.state;
+        state.ended = true;
     }
 
     /// Whether that was said.
     pub fn has_ended(&self) -> bool
-        ensures { result ≡ self.now.course.ended }
+        ensures { result ≡ self.now.state.ended }
     {
-        self.course.ended
+        self.state.ended
     }
 
     /// How many bytes it keeps of those that were fed.
@@ -231,24 +231,24 @@ impl FedCapture {
     pub fn next(&mut self) -> Result<Fed, Fault>
         ensures { GivesFed self.old result self.new }
     {
-        match look_on(&mut self.course, &self.bytes, &mut self.passed) {
-            Ok(FedStep::Packet(meta, place, size)) => {
+        match look_on(&mut self.state, &self.bytes, &mut self.passed) {
+            Ok(PushEvent::Packet(meta, place, size)) => {
                 self.start = self.passed + place;
                 self.end = self.start + meta.captured as usize;
                 self.passed += size;
                 Ok(Fed::Packet(meta))
             }
-            Ok(FedStep::Short) => {
+            Ok(PushEvent::Short) => {
                 self.start = 0;
                 self.end = 0;
                 self.passed = give_back(&mut self.bytes, self.passed);
                 Ok(Fed::More)
             }
-            Ok(FedStep::Ends) => {
+            Ok(PushEvent::Ends) => {
                 self.keep_nothing();
                 Ok(Fed::End)
             }
-            Ok(FedStep::Passed(_)) => unreachable!(),
+            Ok(PushEvent::Passed(_)) => unreachable!(),
             Err(Fault::Refused(refusal)) => {
                 self.keep_nothing();
                 Err(Fault::Refused(refusal))

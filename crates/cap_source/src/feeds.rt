@@ -68,7 +68,7 @@ pub trait PacketFeed: Drop {
 
     /// Whether a packet comes next, which is known then: what `head` returns, without a copy of the packet. A refusal
     /// is returned as a fault, again and again.
-    fn has_packet(&mut self) -> Result<bool, Fault>
+    fn peek(&mut self) -> Result<bool, Fault>
         ensures answer { FindsPacket (feed self.old) result (feed self.new) }
         ensures keeps { FeedKeeps (feed self.old) (feed self.new) }
         ensures items { IsTrue (feed self.old).told
@@ -76,7 +76,7 @@ pub trait PacketFeed: Drop {
 
     /// Whether a packet comes next that is known already, or that is at hand without a read: it is known then. `false`
     /// says nothing of what comes next. It can't fail, so whoever takes many packets asks it first.
-    fn shows_packet(&mut self) -> bool
+    fn try_peek_buffered(&mut self) -> bool
         ensures answer { ShowsPacket (feed self.old) result (feed self.new) }
         ensures keeps { FeedKeeps (feed self.old) (feed self.new) }
         ensures items { IsTrue (feed self.old).told → SameItems (feed self.old) (feed self.new) };

@@ -7,15 +7,15 @@ mod fed;
 mod fed_captures;
 mod feeds;
 mod interfaces;
-mod known;
 pub mod laws;
 mod listed;
 mod opening;
 mod packets;
 mod pcap;
 mod pcapng;
-mod reached;
+mod peek_slots;
 mod readers;
+mod section_states;
 mod walks;
 
 pub use crate::captures::Capture;

@@ -87,7 +87,7 @@ impl PacketFeed for Listed {
         }
     }
 
-    fn has_packet(&mut self) -> Result<bool, Fault> {
+    fn peek(&mut self) -> Result<bool, Fault> {
         match self.head()? {
             Head::Packet(_) => Ok(true),
             Head::Refused(refusal) => Err(Fault::Refused(refusal)),
@@ -95,7 +95,7 @@ impl PacketFeed for Listed {
         }
     }
 
-    fn shows_packet(&mut self) -> bool {
+    fn try_peek_buffered(&mut self) -> bool {
         let head = match self.next {
             Some(head) => head,
             None => self.head_here(),

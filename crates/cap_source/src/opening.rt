@@ -2,12 +2,12 @@
 ghost use Rattle.std.specs.Prelude.{◌≡◌, ◌+◌, false, IsTrue, IfOk, None, Some};
 ghost use Rattle.cap_bytes.specs.inner.Reach.{Reaches, ReachesTo};
 ghost use Rattle.cap_bytes.specs.inner.Window as windows;
-ghost use Rattle.cap_source.specs.Items.{Progress};
+ghost use Rattle.cap_source.specs.Items.{SectionProgress};
 ghost use Rattle.cap_source.specs.inner.FileState.{FileKeeps};
 ghost use Rattle.cap_source.specs.inner.Fronts.{FrontsAnswer, reader_fronts};
 ghost use Rattle.cap_source.specs.inner.Readers.{reader_file_state, is_there, IsReadyReader, is_stopped, OpensReader};
 ghost use Rattle.cap_source.specs.inner.Readers.{LooksAtWindow, reader_by, reader_room};
-ghost use Rattle.cap_source.specs.declared.reached.Reached.{Reached};
+ghost use Rattle.cap_source.specs.declared.section_states.SectionState.{SectionState};
 
 use crate::readers::Reader;
 use cap_blocks::{BlockReader, is_section};
@@ -52,16 +52,17 @@ pub fn open<R: Source>(reader: &mut Reader<R>) -> Result<(), Fault>
     requires free { is_stopped reader.old ≡ false }
     ensures there { IsTrue (is_there reader.new) }
     ensures ready { IfOk result (λ _. IsReadyReader reader.new) }
-    ensures answer { (progress : Progress) → OpensReader (reader_file_state reader.old progress) result
+    ensures answer { (progress : SectionProgress) → OpensReader (reader_file_state reader.old progress) result
         (reader_file_state reader.new progress) }
-    ensures reaches { (progress : Progress) → IfOk result (λ _. ReachesTo (reader_file_state reader.old progress).most
+    ensures reaches { (progress : SectionProgress)
+        → IfOk result (λ _. ReachesTo (reader_file_state reader.old progress).most
         ((reader_file_state reader.old progress).offset + 4) (reader_file_state reader.old progress).read
         (reader_file_state reader.new progress).read) }
-    ensures keeps { (progress : Progress)
+    ensures keeps { (progress : SectionProgress)
         → FileKeeps (reader_file_state reader.old progress) (reader_file_state reader.new progress) }
-    ensures fronts { (progress : Progress) → IsTrue (reader_fronts reader.old progress).told
+    ensures fronts { (progress : SectionProgress) → IsTrue (reader_fronts reader.old progress).told
         → FrontsAnswer (reader_fronts reader.old progress) result None (reader_fronts reader.new progress) }
-    ensures room { (reached : Reached) → IsTrue (reader_room reader.old reached)
+    ensures room { (reached : SectionState) → IsTrue (reader_room reader.old reached)
         → IsTrue (reader_room reader.new reached) }
 {
     match reader {

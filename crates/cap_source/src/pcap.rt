@@ -1,13 +1,13 @@
 //! What comes next of a pcap file.
 ghost use Rattle.std.specs.Prelude.{◌≡◌, IsTrue, IfOk, None, Some, false};
-ghost use Rattle.cap_source.specs.Items.{Progress, resolution_of_unit, interface_of, pcap_ending_with, meta_of};
+ghost use Rattle.cap_source.specs.Items.{SectionProgress, resolution_of_unit, interface_of, pcap_ending_with, meta_of};
 ghost use Rattle.cap_source.specs.inner.FileState.{FileAnswers, TakesShown, FileKeeps, IfTaken, FileTakes, noted_by};
 ghost use Rattle.cap_source.specs.inner.FileState.{pcap_state};
 ghost use Rattle.cap_source.specs.inner.Fronts.{FrontsAnswer, FrontsPass, pcap_fronts};
 
 use crate::feeds::{Ending, FileEnd};
-use crate::known::Known;
 use crate::packets::Meta;
+use crate::peek_slots::PeekSlot;
 use cap_bytes::{Fault, Format, Source};
 use cap_pcap::{PcapHeader, PcapReader, Record};
 use cap_time::{Interface, Resolution, Unit};
@@ -80,13 +80,13 @@ pub fn noted_of_pcap<R: Source>(reader: &PcapReader<R>) -> Option<Interface>
 /// Puts the packet that comes next of a pcap file into `known`, if the window shows its record already, as it does most
 /// of them. Returns whether it did: if not, nothing has changed.
 #[inline(always)]
-pub fn take_shown<R: Source>(reader: &mut PcapReader<R>, known: &mut Known) -> bool
+pub fn try_next_buffered<R: Source>(reader: &mut PcapReader<R>, known: &mut PeekSlot) -> bool
     requires unknown { known.old ≡ None }
-    ensures answer { (progress : Progress) → TakesShown (pcap_state reader.old progress) result known.new
+    ensures answer { (progress : SectionProgress) → TakesShown (pcap_state reader.old progress) result known.new
         (pcap_state reader.new progress) }
-    ensures reaches { (progress : Progress) → IsTrue result
+    ensures reaches { (progress : SectionProgress) → IsTrue result
         → FileTakes (pcap_state reader.old progress) (pcap_state reader.new progress) }
-    ensures keeps { (progress : Progress) → FileKeeps (pcap_state reader.old progress)
+    ensures keeps { (progress : SectionProgress) → FileKeeps (pcap_state reader.old progress)
         (pcap_state reader.new progress) }
     ensures fronts { IsTrue reader.old.told → IsTrue result
         → IfTaken known.new (FrontsPass (pcap_fronts reader.old) known.new (pcap_fronts reader.new)) }
@@ -96,7 +96,7 @@ pub fn take_shown<R: Source>(reader: &mut PcapReader<R>, known: &mut Known) -> b
         return false;
     };
     let file = reader.window().file();
-    match reader.take_shown(header) {
+    match reader.try_next_buffered(header) {
         Some(record) => {
             let meta = meta_of_record(file, header, record);
             known.set_packet(meta, 0);
@@ -110,16 +110,16 @@ pub fn take_shown<R: Source>(reader: &mut PcapReader<R>, known: &mut Known) -> b
 fn next_record_of<R: Source>(
     reader: &mut PcapReader<R>,
     header: PcapHeader,
-    known: &mut Known,
+    known: &mut PeekSlot,
 ) -> Result<(), Fault>
     requires unknown { known.old ≡ None }
     requires header { reader.old.known ≡ Some header }
     requires free { reader.old.stop ≡ None }
-    ensures answer { (progress : Progress) → FileAnswers (pcap_state reader.old progress) result known.new
+    ensures answer { (progress : SectionProgress) → FileAnswers (pcap_state reader.old progress) result known.new
         (pcap_state reader.new progress) }
-    ensures reaches { (progress : Progress) → IfOk result
+    ensures reaches { (progress : SectionProgress) → IfOk result
         (λ _. IfTaken known.new (FileTakes (pcap_state reader.old progress) (pcap_state reader.new progress))) }
-    ensures keeps { (progress : Progress) → FileKeeps (pcap_state reader.old progress)
+    ensures keeps { (progress : SectionProgress) → FileKeeps (pcap_state reader.old progress)
         (pcap_state reader.new progress) }
     ensures fronts { IsTrue reader.old.told
         → FrontsAnswer (pcap_fronts reader.old) result known.new (pcap_fronts reader.new) }
@@ -143,14 +143,17 @@ fn next_record_of<R: Source>(
 }
 
 /// Puts into `known` what comes next of a pcap file.
-pub fn next_of_pcap<R: Source>(reader: &mut PcapReader<R>, known: &mut Known) -> Result<(), Fault>
+pub fn next_of_pcap<R: Source>(
+    reader: &mut PcapReader<R>,
+    known: &mut PeekSlot,
+) -> Result<(), Fault>
     requires unknown { known.old ≡ None }
     requires free { reader.old.stop ≡ None }
-    ensures answer { (progress : Progress) → FileAnswers (pcap_state reader.old progress) result known.new
+    ensures answer { (progress : SectionProgress) → FileAnswers (pcap_state reader.old progress) result known.new
         (pcap_state reader.new progress) }
-    ensures reaches { (progress : Progress) → IfOk result
+    ensures reaches { (progress : SectionProgress) → IfOk result
         (λ _. IfTaken known.new (FileTakes (pcap_state reader.old progress) (pcap_state reader.new progress))) }
-    ensures keeps { (progress : Progress) → FileKeeps (pcap_state reader.old progress)
+    ensures keeps { (progress : SectionProgress) → FileKeeps (pcap_state reader.old progress)
         (pcap_state reader.new progress) }
     ensures fronts { IsTrue reader.old.told
         → FrontsAnswer (pcap_fronts reader.old) result known.new (pcap_fronts reader.new) }

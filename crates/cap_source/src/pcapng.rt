@@ -8,19 +8,19 @@ ghost use Rattle.cap_source.specs.inner.FileState.{FileAnswers, TakesShown, File
 ghost use Rattle.cap_source.specs.inner.FileState.{pcapng_state};
 ghost use Rattle.cap_source.specs.inner.FileState.{next_at};
 ghost use Rattle.cap_source.specs.inner.Fronts.{FrontsAnswer, FrontsPass, pcapng_fronts};
-ghost use Rattle.cap_source.specs.inner.Reached.{progress_of, counted_blocks, has_room};
+ghost use Rattle.cap_source.specs.inner.SectionState.{progress_of, counted_blocks, has_room};
 
-use crate::contents::{Content, Packet, content_of, enhanced_packet};
+use crate::contents::{BlockContent, BlockPacket, content_of, enhanced_packet};
 use crate::feeds::{Ending, FileEnd};
-use crate::known::Known;
 use crate::packets::Meta;
-use crate::reached::{Reached, go_on};
+use crate::peek_slots::PeekSlot;
+use crate::section_states::{SectionState, go_on};
 use cap_blocks::{Block, BlockReader, is_known};
 use cap_bytes::{Fault, Format, Refusal, Rule, Source};
 use cap_time::Interface;
 
 /// How a pcapng file ended of which that much was read.
-pub fn ending_of_blocks(reached: &Reached, was_cut: bool) -> FileEnd
+pub fn ending_of_blocks(reached: &SectionState, was_cut: bool) -> FileEnd
     requires { counted_blocks (progress_of reached.now) ≤ 2 ^ 40 }
     ensures { result ≡ ending_with (progress_of reached.now) was_cut }
 {
@@ -43,7 +43,7 @@ fn read_content<R: Source>(
     reader: &BlockReader<R>,
     block: Block,
     interfaces: &[Interface],
-) -> Result<Content, Rule>
+) -> Result<BlockContent, Rule>
     requires known { is_some reader.now.lent ≡ is_known_kind block.kind }
     requires allowed { IsTrue (is_total block.kind block.total) }
     requires size { IfSome reader.now.lent (λ body. length body + 12 ≡ block.total) }
@@ -52,12 +52,12 @@ fn read_content<R: Source>(
     if is_known(block.kind) {
         content_of(interfaces, block.kind, block.order, reader.body())
     } else {
-        Ok(Content::Other)
+        Ok(BlockContent::Other)
     }
 }
 
 /// What a block tells of its packet.
-pub fn meta_of_packet(file: u32, block: Block, reached: &Reached, packet: Packet) -> Meta
+pub fn meta_of_packet(file: u32, block: Block, reached: &SectionState, packet: BlockPacket) -> Meta
     requires { reached.now.base < 2 ^ 63 }
     ensures { result ≡ meta_in file (progress_of reached.now) block packet }
 {
@@ -77,11 +77,11 @@ pub fn meta_of_packet(file: u32, block: Block, reached: &Reached, packet: Packet
 // Takes what a block says: a packet or a refusal comes next, which is put into `known`, or the file goes on after the
 // block, and nothing is.
 fn take_content(
-    reached: &mut Reached,
+    reached: &mut SectionState,
     file: u32,
     block: Block,
-    content: Result<Content, Rule>,
-    known: &mut Known,
+    content: Result<BlockContent, Rule>,
+    known: &mut PeekSlot,
 )
     requires room { vec_len reached.old.interfaces < vec_capacity reached.old.interfaces }
     requires limit { counted_blocks (progress_of reached.old) < 2 ^ 40 }
@@ -90,7 +90,7 @@ fn take_content(
     ensures behind { progress_of reached.new ≡ behind (progress_of reached.old) content }
 {
     match content {
-        Ok(Content::Packet(packet)) => {
+        Ok(BlockContent::Packet(packet)) => {
             known.set_packet(meta_of_packet(file, block, reached, packet), packet.place);
         }
         Ok(content) => {
@@ -103,10 +103,10 @@ fn take_content(
 /// Puts what comes next of a pcapng file into `known`, if it is a packet in an enhanced packet block that the window
 /// shows already, as most are. Returns whether it did: if not, nothing has changed.
 #[inline(always)]
-pub fn take_shown<R: Source>(
+pub fn try_next_buffered<R: Source>(
     reader: &mut BlockReader<R>,
-    reached: &Reached,
-    known: &mut Known,
+    reached: &SectionState,
+    known: &mut PeekSlot,
 ) -> bool
     requires unknown { known.old ≡ None }
     requires counted { counted_blocks (progress_of reached.now) ≤ 2 ^ 40 }
@@ -136,14 +136,14 @@ pub fn take_shown<R: Source>(
 // Puts into `known` what comes next after an enhanced packet block that says this.
 #[inline(always)]
 fn set_packet(
-    reached: &Reached,
+    reached: &SectionState,
     file: u32,
     block: Block,
-    said: Result<Packet, Rule>,
-    known: &mut Known,
+    said: Result<BlockPacket, Rule>,
+    known: &mut PeekSlot,
 )
     requires { counted_blocks (progress_of reached.now) ≤ 2 ^ 40 }
-    ensures { known.new ≡ next_at file (progress_of reached.now) block (of_body Content.Packet said) }
+    ensures { known.new ≡ next_at file (progress_of reached.now) block (of_body BlockContent.Packet said) }
 {
     match said {
         Ok(packet) => {
@@ -156,7 +156,7 @@ fn set_packet(
 // Puts the refusal of a block into `known`. It isn't inlined, so that a packet is written where it is kept without a
 // look at what a refusal keeps there.
 #[inline(never)]
-fn refuse(reached: &Reached, file: u32, block: Block, rule: Rule, known: &mut Known)
+fn refuse(reached: &SectionState, file: u32, block: Block, rule: Rule, known: &mut PeekSlot)
     requires { counted_blocks (progress_of reached.now) ≤ 2 ^ 40 }
     ensures { known.new ≡ next_at file (progress_of reached.now) block (Err rule) }
 {
@@ -174,8 +174,8 @@ fn refuse(reached: &Reached, file: u32, block: Block, rule: Rule, known: &mut Kn
 // interface.
 fn take_block<R: Source>(
     reader: &mut BlockReader<R>,
-    reached: &mut Reached,
-    known: &mut Known,
+    reached: &mut SectionState,
+    known: &mut PeekSlot,
 ) -> Result<(), Fault>
     requires room { vec_len reached.old.interfaces < vec_capacity reached.old.interfaces }
     requires unknown { known.old ≡ None }
@@ -215,8 +215,8 @@ fn take_block<R: Source>(
 // The same, if room for an interface is found first: the block isn't taken without.
 fn step<R: Source>(
     reader: &mut BlockReader<R>,
-    reached: &mut Reached,
-    known: &mut Known,
+    reached: &mut SectionState,
+    known: &mut PeekSlot,
 ) -> Result<(), Fault>
     requires unknown { known.old ≡ None }
     requires counted { counted_blocks (progress_of reached.old) ≤ reader.old.offset }
@@ -241,8 +241,8 @@ fn step<R: Source>(
 /// Puts into `known` what comes next of a pcapng file.
 pub fn next_of_blocks<R: Source>(
     reader: &mut BlockReader<R>,
-    reached: &mut Reached,
-    known: &mut Known,
+    reached: &mut SectionState,
+    known: &mut PeekSlot,
 ) -> Result<(), Fault>
     requires unknown { known.old ≡ None }
     requires counted { counted_blocks (progress_of reached.old) ≤ reader.old.offset }

@@ -1,16 +1,16 @@
 //! What a reader of a file of either format is, and what it lends.
 ghost use Rattle.std.specs.Prelude.{◌≡◌, ◌≤◌, IsTrue, IsSome, Some};
 ghost use Rattle.cap_source.specs.Feed.{IsLast, IsPacket};
-ghost use Rattle.cap_source.specs.Items.{Progress};
+ghost use Rattle.cap_source.specs.Items.{SectionProgress};
 ghost use Rattle.cap_source.specs.inner.FileState.{next_head, lent_end, lent_length, next_frame, ending_by};
-ghost use Rattle.cap_source.specs.inner.Reached.{progress_of};
+ghost use Rattle.cap_source.specs.inner.SectionState.{progress_of};
 ghost use Rattle.cap_source.specs.inner.Readers.{reader_file_state, is_there, lent_of};
 
 use crate::feeds::{FileEnd, Head};
-use crate::known::Known;
 use crate::packets::Meta;
 use crate::pcap::noted_of_pcap;
-use crate::reached::Reached;
+use crate::peek_slots::PeekSlot;
+use crate::section_states::SectionState;
 use cap_blocks::BlockReader;
 use cap_bytes::{Refusal, Source, Tail, Window};
 use cap_pcap::PcapReader;
@@ -19,7 +19,7 @@ use cap_time::Interface;
 /// What comes next of a file, as its reader finds it. A `Head` tells less of it: not where a packet's bytes begin, nor
 /// how the file ends.
 #[derive(Clone, Copy)]
-pub enum Next {
+pub enum Peeked {
     /// A packet. Its captured bytes begin at that place of what the reader lends.
     Packet(Meta, u32),
     /// A refusal.
@@ -57,7 +57,7 @@ fn lent_of<R: Source>(reader: &Reader<R>) -> &[u8]
 }
 
 /// The captured bytes of a packet that comes next.
-pub fn part_of<'a, R: Source>(reader: &'a Reader<R>, next: &Known) -> &'a [u8]
+pub fn part_of<'a, R: Source>(reader: &'a Reader<R>, next: &PeekSlot) -> &'a [u8]
     requires packet { IsPacket (next_head next.now) }
     requires lent { lent_end next.now ≤ lent_length (lent_of reader.now) }
     ensures { result.now ≡ next_frame next.now (lent_of reader.entry.now) }
@@ -67,23 +67,23 @@ pub fn part_of<'a, R: Source>(reader: &'a Reader<R>, next: &Known) -> &'a [u8]
 }
 
 /// How a file ended of which the end comes next.
-pub fn ending_of(next: Option<Next>) -> FileEnd
+pub fn ending_of(next: Option<Peeked>) -> FileEnd
     requires { next_head next ≡ Some Head.End }
     ensures { (later : FileEnd) → result ≡ ending_by next later }
 {
     match next {
-        Some(Next::End(ending)) => ending,
+        Some(Peeked::End(ending)) => ending,
         _ => unreachable!(),
     }
 }
 
 /// How a file ended, or was refused, of which the end or a refusal comes next.
-pub fn last_of(next: Option<Next>) -> FileEnd
+pub fn last_of(next: Option<Peeked>) -> FileEnd
     requires { IsLast (next_head next) }
     ensures { (later : FileEnd) → result ≡ ending_by next later }
 {
     match next {
-        Some(Next::End(ending)) | Some(Next::Refused(_, ending)) => ending,
+        Some(Peeked::End(ending)) | Some(Peeked::Refused(_, ending)) => ending,
         _ => unreachable!(),
     }
 }
@@ -91,7 +91,7 @@ pub fn last_of(next: Option<Next>) -> FileEnd
 /// The number of a file.
 pub fn number_of<R: Source>(reader: &Reader<R>) -> u32
     requires { IsTrue (is_there reader.now) }
-    ensures { (progress : Progress) → result ≡ (reader_file_state reader.now progress).file }
+    ensures { (progress : SectionProgress) → result ≡ (reader_file_state reader.now progress).file }
 {
     match reader {
         Reader::Unread(window, _) => window.file(),
@@ -102,7 +102,7 @@ pub fn number_of<R: Source>(reader: &Reader<R>) -> u32
 }
 
 /// The first interface of a file, as far as it was read.
-pub fn noted_of<R: Source>(reader: &Reader<R>, reached: &Reached) -> Option<Interface>
+pub fn noted_of<R: Source>(reader: &Reader<R>, reached: &SectionState) -> Option<Interface>
     requires { IsTrue (is_there reader.now) }
     ensures { result ≡ (reader_file_state reader.now (progress_of reached.now)).noted }
 {
@@ -117,7 +117,7 @@ pub fn noted_of<R: Source>(reader: &Reader<R>, reached: &Reached) -> Option<Inte
 /// How many bytes are kept of a file.
 pub fn held_of<R: Source>(reader: &Reader<R>) -> u64
     requires { IsTrue (is_there reader.now) }
-    ensures { (progress : Progress) → result ≡ (reader_file_state reader.now progress).held }
+    ensures { (progress : SectionProgress) → result ≡ (reader_file_state reader.now progress).held }
 {
     match reader {
         Reader::Unread(window, _) => window.held(),
@@ -130,7 +130,7 @@ pub fn held_of<R: Source>(reader: &Reader<R>) -> u64
 /// Whether a file's device has failed.
 pub fn failed_of<R: Source>(reader: &Reader<R>) -> bool
     requires { IsTrue (is_there reader.now) }
-    ensures { (progress : Progress) → result ≡ (reader_file_state reader.now progress).failed }
+    ensures { (progress : SectionProgress) → result ≡ (reader_file_state reader.now progress).failed }
 {
     match reader {
         Reader::Unread(window, _) => window.failed(),

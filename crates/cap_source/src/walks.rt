@@ -17,7 +17,7 @@ pub fn next_packet<F: PacketFeed>(feed: &mut F) -> Result<Option<Meta>, Fault>
     ensures items { IsTrue (F.feed feed.old).told
         → ShowsItem (F.feed feed.old) result (F.feed feed.new) }
 {
-    if feed.has_packet()? {
+    if feed.peek()? {
         Ok(Some(*feed.packet()))
     } else {
         Ok(None)

@@ -17,7 +17,7 @@ use Rattle.cap_join.specs.declared.datagrams.Datagram.{Datagram}
 use Rattle.cap_join.specs.declared.datagrams.Stamped.{Stamped}
 use Rattle.cap_talks.specs.table.Rows.{TalksState, frames_in, bytes_in, is_refused, talk_limit}
 use Rattle.cap_talks.specs.table.Rows as talks
-use Rattle.cap_talks.specs.table.Talks.{frames_of, units_bytes, talk_key, rows_of}
+use Rattle.cap_talks.specs.table.Conversations.{frames_of, units_bytes, talk_key, rows_of}
 use Rattle.cap_talks.specs.declared.table.units.CountedUnit.{CountedUnit}
 use Rattle.cap_talks.proofs.Frames.{frames-counted}
 use Rattle.cap_talks.proofs.Steps.{one-class}
@@ -27,9 +27,9 @@ use Rattle.cap_talks.specs.inner.table.Adding.{datagram_unit, datagram_class, is
 use Rattle.cap_join.specs.Completed.{if_complete, completed_of}
 use Rattle.cap_talks.specs.table.Classes.{class_of, sum_of}
 use Rattle.cap_talks.specs.inner.table.Looking.{is_plain}
-use Rattle.cap_class.specs.Taken.{Taken, plain, datagram, fragment, look, stamped_of, events_of}
+use Rattle.cap_class.specs.Taken.{Taken, plain, datagram, fragment, classify, stamped_of, events_of}
 use Rattle.std.specs.Prelude.{Err}
-use Rattle.cap_talks.specs.declared.table.talks.TalksFault.{TalksFault}
+use Rattle.cap_talks.specs.declared.table.conversations.ConversationsFault.{ConversationsFault}
 use Rattle.cap_talks.specs.inner.table.Tallies.{Joins, LimitBy, TallyState, TallyStands, IsSoundTally, WaitingFits}
 use Rattle.cap_talks.specs.inner.table.Tallies.{Looks, one_if_waiting}
 use Rattle.cap_talks.specs.inner.table.Tallies.{counted_one, with_frames, with_group}
@@ -76,7 +76,7 @@ limit-is t x xs next u h is = λ i. is_over (h.talks.rows i) (sym is i)
 
 module _ (t : TallyState) (x : Taken) (none : t.waiting ≡ None) where
   -- a packet of a class
-  pub looks-plain : (c : Class) → ((place : ℕ) → look place x ≡ plain c) → (counts : ClassCounts)
+  pub looks-plain : (c : Class) → ((place : ℕ) → classify place x ≡ plain c) → (counts : ClassCounts)
       → counts ≡ with_frames c 1 t.classes
       → Looks t x false (record t { place = t.place + 1; classes = counts })
   looks-plain c is counts same = λ xs h. (
@@ -87,7 +87,7 @@ module _ (t : TallyState) (x : Taken) (none : t.waiting ≡ None) where
         (is (length xs)) next),
   )
 
-  pub sound-plain : IsSoundTally t → t.place < 2 ^ 62 → (c : Class) → ((place : ℕ) → look place x ≡ plain c)
+  pub sound-plain : IsSoundTally t → t.place < 2 ^ 62 → (c : Class) → ((place : ℕ) → classify place x ≡ plain c)
       → (counts : ClassCounts) → counts ≡ with_frames c 1 t.classes
       → IsSoundTally (record t { place = t.place + 1; classes = counts })
   sound-plain s few c is counts same = record {
@@ -105,7 +105,7 @@ module _ (t : TallyState) (x : Taken) (none : t.waiting ≡ None) where
   }
 
   -- a whole datagram
-  module _ (header : HeaderFields) (captured : List ℕ) (is : (place : ℕ) → look place x ≡ datagram header captured)
+  module _ (header : HeaderFields) (captured : List ℕ) (is : (place : ℕ) → classify place x ≡ datagram header captured)
       (u : TalksState) (k : JoinerState)
       (new : (us : List CountedUnit) → talks.TalksStandFor t.talks us
       → talks.TalksStandFor u (us ++ listed (whole_unit header captured (stamped_of t.place x.meta))))
@@ -149,7 +149,7 @@ module _ (t : TallyState) (x : Taken) (none : t.waiting ≡ None) where
     }
 
   -- a fragment that is kept
-  module _ (p : ℕ → Piece) (is : (place : ℕ) → look place x ≡ fragment (p place)) (k : JoinerState)
+  module _ (p : ℕ → Piece) (is : (place : ℕ) → classify place x ≡ fragment (p place)) (k : JoinerState)
       (put : (es : List Event) → joiners.JoinerStandsFor t.joiner es
       → joiners.JoinerStandsFor k (arrives x.clock (p t.place) ∷ es)) where
     unit-kept : (xs : List Taken)
@@ -228,7 +228,7 @@ numbers-whole header captured s h = grind arith
 
 -- ---- answers
 
-pub limit-by : (fault : TalksFault) (a b : Bool) → a ≡ b → LimitBy (Err fault) a → LimitBy (Err fault) b
+pub limit-by : (fault : ConversationsFault) (a b : Bool) → a ≡ b → LimitBy (Err fault) a → LimitBy (Err fault) b
 limit-by fault a b same h = subst (LimitBy (Err fault)) same h
 
 pub kept-of : (put : Put) (ps : List Piece) → put ≡ puts.Kept → IsAnswer put ps → completes ps ≡ false
@@ -337,16 +337,16 @@ enough-for t d xs next is h = enough-waiting t.place t.joined t.classes t.talks 
 
 -- a datagram waits: the packet that comes next is a fragment
 pub waiting-kept : (t : TallyState) (d : Datagram) (xs : List Taken) (x : Taken) → t.waiting ≡ Some d
-    → TallyStands t xs (Some x) → is_plain (look (length xs) x) ≡ false
+    → TallyStands t xs (Some x) → is_plain (classify (length xs) x) ≡ false
 waiting-kept t d xs x waits s = by t.waiting waits s.joins
   where
-    by : (w : Option Datagram) → w ≡ Some d → Joins w t.joiner xs (Some x) → is_plain (look (length xs) x) ≡ false
+    by : (w : Option Datagram) → w ≡ Some d → Joins w t.joiner xs (Some x) → is_plain (classify (length xs) x) ≡ false
     by None is j = absurd (clash is)
       where
         clash : None ≡ Some d → ⊥
         clash e = cc
     by (Some e) is j = same j.packet j.piece j.is_next j.is_fragment
       where
-        same : (y : Taken) (p : Piece) → Some x ≡ Some y → look (length xs) y ≡ fragment p
-            → is_plain (look (length xs) x) ≡ false
+        same : (y : Taken) (p : Piece) → Some x ≡ Some y → classify (length xs) y ≡ fragment p
+            → is_plain (classify (length xs) x) ≡ false
         same y p next look_is = grind arith

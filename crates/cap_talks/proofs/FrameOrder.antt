@@ -5,7 +5,8 @@ use Rattle.std.proofs.lemmas.Cmp.{then_total, on_total, back_total, nat_cmp_tota
 use Rattle.cap_talks.specs.declared.table.units.TimedFrame.{TimedFrame}
 use Rattle.cap_time.specs.inner.StampLaws.{stamp_cmp_total}
 use Rattle.cap_time.proofs.Chosen.{chosen, chosen-assoc, chosen-alone}
-use Rattle.cap_talks.specs.table.Talks.{by_time, by_time_down, earlier_frame, later_frame, least_frame, greatest_frame}
+use Rattle.cap_talks.specs.table.Conversations.{by_time, by_time_down, earlier_frame, later_frame, least_frame}
+use Rattle.cap_talks.specs.table.Conversations.{greatest_frame}
 use Rattle.cap_talks.specs.declared.table.units.CountedUnit.{CountedUnit}
 
 pub by_time_total : IsTotalOrder by_time

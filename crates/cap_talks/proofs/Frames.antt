@@ -8,12 +8,12 @@ use Rattle.cap_join.specs.Fragments.{Piece}
 use Rattle.cap_join.specs.History.{joined_pieces, open_groups_after}
 use Rattle.cap_join.specs.Joiners.{open_limit}
 use Rattle.cap_join.specs.declared.datagrams.Stamped.{Stamped}
-use Rattle.cap_talks.specs.table.Talks.{frames_of}
+use Rattle.cap_talks.specs.table.Conversations.{frames_of}
 use Rattle.cap_talks.specs.declared.table.units.CountedUnit.{CountedUnit}
 use Rattle.cap_talks.proofs.Recount.{some_of}
 use Rattle.cap_talks.proofs.Steps.{classes-plain, classes-datagram, classes-kept, classes-completed}
 use Rattle.cap_talks.specs.table.Classes.{class_of, classes, group_class, times}
-use Rattle.cap_class.specs.Taken.{Taken, Look, plain, datagram, fragment, look, events_of, stamped_of}
+use Rattle.cap_class.specs.Taken.{Taken, Classification, plain, datagram, fragment, classify, events_of, stamped_of}
 use Rattle.cap_talks.specs.table.CountedUnits.{whole_unit, group_unit, first_unit, unit_by, unit_at, listed}
 use Rattle.cap_talks.specs.table.CountedUnits.{counted_units}
 use Rattle.cap_class.specs.declared.classes.Class.TheVariants as class
@@ -33,14 +33,15 @@ frames_of-more : (us vs : List CountedUnit) → frames_of (us ++ vs) ≡ frames_
 frames_of-more [] vs = omega arith
 frames_of-more (u ∷ us) vs = omega (arith, frames_of-more us vs)
 
-units-more : (x : Taken) (xs : List Taken) (l : Look) → look (length xs) x ≡ l
+units-more : (x : Taken) (xs : List Taken) (l : Classification) → classify (length xs) x ≡ l
     → frames_of (counted_units (x ∷ xs)) ≡ frames_of (counted_units xs) + frames_of
     (listed (unit_by l (stamped_of (length xs) x.meta) x.clock (events_of xs)))
 unfolding counted_units unit_at
 units-more x xs l is = grind (arith, frames_of-more, listed)
 
 module _ (x : Taken) (xs : List Taken) where
-  with_look : (l : Look) → look (length xs) x ≡ l → frames_of (counted_units xs) ≤ times class.Counted (classes xs)
+  with_look : (l : Classification) → classify (length xs) x ≡ l
+      → frames_of (counted_units xs) ≤ times class.Counted (classes xs)
       → frames_of (counted_units (x ∷ xs)) ≤ times class.Counted (classes (x ∷ xs))
   with_look (plain c) is h =
       omega (arith, units-more x xs (plain c) is, ap (times class.Counted) (classes-plain x xs c is), h)
@@ -76,4 +77,4 @@ module _ (x : Taken) (xs : List Taken) where
 pub frames-counted : (xs : List Taken) → frames_of (counted_units xs) ≤ times class.Counted (classes xs)
 unfolding counted_units classes
 frames-counted [] = omega arith
-frames-counted (x ∷ xs) = with_look x xs (look (length xs) x) refl (frames-counted xs)
+frames-counted (x ∷ xs) = with_look x xs (classify (length xs) x) refl (frames-counted xs)

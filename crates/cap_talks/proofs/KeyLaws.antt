@@ -11,9 +11,9 @@ use Rattle.cap_time.specs.inner.Orderings.{both_by}
 use Rattle.cap_talks.proofs.Talking.{same_end-self, and_true}
 use Rattle.cap_talks.specs.inner.table.Keys.{same_end-is, and_left, and_right}
 use Rattle.cap_talks.specs.inner.table.Laws.{KeyLaw}
-use Rattle.cap_talks.specs.table.Talks.{is_forward, same_end, same_talk}
+use Rattle.cap_talks.specs.table.Conversations.{is_forward, same_end, same_talk}
 use Rattle.cap_talks.specs.table.Units.{end_cmp}
-use Rattle.cap_talks.specs.declared.table.units.End.{End}
+use Rattle.cap_talks.specs.declared.table.units.Endpoint.{Endpoint}
 
 end_total : IsTotalOrder end_cmp
 end_total = then_total (on_total (λ e. e.address) nat_cmp_total) (on_total (λ e. e.port) (options_total nat_cmp_total))
@@ -40,7 +40,7 @@ right_absorbs x y h = grind arith
 and_turned : (x y : Bool) → (x && y) ≡ (y && x)
 and_turned x y = grind arith
 
-same_of : (a b : End) → a ≡ b → same_end a b ≡ true
+same_of : (a b : Endpoint) → a ≡ b → same_end a b ≡ true
 same_of a b e = sym (ap (same_end a) e) ∙ same_end-self a
 
 pub key_law : KeyLaw

@@ -12,7 +12,7 @@ use Rattle.cap_join.specs.ByteMap.{completes, covers_below, holds, block_count}
 use Rattle.cap_join.proofs.Grouping.{covers_below-some}
 use Rattle.cap_join.specs.Fragments.{Piece, piece_of, end_of}
 use Rattle.cap_join.specs.declared.datagrams.Stamped.{Stamped}
-use Rattle.cap_class.specs.Taken.{Taken, Look, plain, datagram, fragment, look_by, look_in, look}
+use Rattle.cap_class.specs.Taken.{Taken, Classification, plain, datagram, fragment, classify_by, classify_in, classify}
 
 -- a fragment after which more follow, or that doesn't begin at 0
 lone : (p : Piece) → (p.more || not (p.start == 0)) ≡ true → completes (p ∷ []) ≡ false
@@ -44,22 +44,23 @@ part : (bytes : List ℕ) (f : Fragment) → fragment_of bytes ≡ Some f → (f
 unfolding fragment_of
 part bytes f g = part_by bytes f (is_fragment bytes) refl g
 
-IsPart : Look → Type 0
+IsPart : Classification → Type 0
 IsPart (plain c) = Unit {0}
 IsPart (datagram header captured) = Unit {0}
 IsPart (fragment p) = completes (p ∷ []) ≡ false
 
 part_of-by : (o : Option Fragment) (bytes : List ℕ) (h : HeaderFields) (x : List ℕ) (s : Stamped) → fields_of bytes ≡ h
-    → h.fragment ≡ o → IsPart (look_by o h x s)
+    → h.fragment ≡ o → IsPart (classify_by o h x s)
 unfolding fields_of piece_of IsPart
 part_of-by o bytes h x s e g = grind (arith, lone, part)
 
-part_in : (r : Reading) (bytes : List ℕ) (whole : Bool) (s : Stamped) → read_of bytes whole ≡ r → IsPart (look_in r s)
+part_in : (r : Reading) (bytes : List ℕ) (whole : Bool) (s : Stamped) → read_of bytes whole ≡ r
+    → IsPart (classify_in r s)
 unfolding IsPart
 part_in (found h x) bytes whole s e = part_of-by h.fragment bytes h x s (found_fields bytes whole h x e) refl
 part_in bad bytes whole s e = tt
 part_in cut bytes whole s e = tt
 
-pub no-lone : (place : ℕ) (x : Taken) (p : Piece) → look place x ≡ fragment p → completes (p ∷ []) ≡ false
-unfolding look IsPart
+pub no-lone : (place : ℕ) (x : Taken) (p : Piece) → classify place x ≡ fragment p → completes (p ∷ []) ≡ false
+unfolding classify IsPart
 no-lone place x p is = grind (arith, part_in)

@@ -19,12 +19,12 @@ use Rattle.cap_talks.specs.inner.table.Packed.{IsNarrowEnd, is_end_number, is_pa
 use Rattle.cap_talks.specs.inner.table.Packed.{unpacked_talks}
 use Rattle.cap_talks.specs.inner.table.Packed.{are_packed}
 use Rattle.cap_talks.specs.table.Rows.{is_refused, talk_limit, with_unit, with_talk, or_empty, row_at, row_in}
-use Rattle.cap_talks.specs.table.Talks.{talk_key, row_of, same_talk}
+use Rattle.cap_talks.specs.table.Conversations.{talk_key, row_of, same_talk}
 use Rattle.cap_talks.specs.declared.table.keys.PackedKey.{PackedKey}
 use Rattle.cap_talks.specs.declared.table.rows.TalkKey.{TalkKey}
 use Rattle.cap_talks.specs.declared.table.rows.TalkRow.{TalkRow}
 use Rattle.cap_talks.specs.declared.table.units.CountedUnit.{CountedUnit}
-use Rattle.cap_talks.specs.declared.table.units.End.{End}
+use Rattle.cap_talks.specs.declared.table.units.Endpoint.{Endpoint}
 use Rattle.cap_talks.proofs.Talking.{same_talk-self, and_true}
 
 number_of_port : (n : ℕ) → port_number (port_of n) ≡ n
@@ -48,7 +48,7 @@ port_of_number : (p : Option ℕ) → port_of (port_number p) ≡ p
 port_of_number p = grind arith
 
 -- and an end is what its number is read as
-end_of_number : (end : End) → IsNarrowEnd end → end_at_number (end_number end) ≡ end
+end_of_number : (end : Endpoint) → IsNarrowEnd end → end_at_number (end_number end) ≡ end
 end_of_number end n =
     let below = port_below end.port n.port in
     let address : end_number end / 131072 ≡ end.address = div-mul-add end.address 131072 (port_number end.port) below in
@@ -116,7 +116,7 @@ values-packed [] = refl
 values-packed (e ∷ es) = ap (λ rows. e.1 ∷ rows) (values-packed es)
 
 -- Every key of a table is packed: after a row is set, and after one is put of a key that is.
-end-narrow : (end : End) → IsNarrowEnd end → is_end_number (end_number end) ≡ true
+end-narrow : (end : Endpoint) → IsNarrowEnd end → is_end_number (end_number end) ≡ true
 end-narrow end n =
     let below = port_below end.port n.port in
     let address = div-mul-add end.address 131072 (port_number end.port) below in

@@ -11,42 +11,43 @@ use Rattle.cap_join.specs.Fragments.{Piece, piece_of}
 use Rattle.cap_join.specs.declared.datagrams.Stamped.{Stamped}
 use Rattle.cap_talks.specs.table.Classes.{class_by, class_in, classes_in, group_class, has_place, is_class, times}
 use Rattle.cap_join.specs.Completed.{one_at, occurs, occurs_in, comes}
-use Rattle.cap_class.specs.Taken.{Taken, Look, plain, datagram, fragment, look_by, look_in, look, events_of}
+use Rattle.cap_class.specs.Taken.{Taken, Classification, plain, datagram, fragment, classify_by, classify_in, classify}
+use Rattle.cap_class.specs.Taken.{events_of}
 use Rattle.cap_class.specs.declared.classes.Class.{Class}
 use Rattle.cap_class.specs.declared.classes.Class.TheVariants as class
 
 -- ---- places
 
 -- what each of some packets is by itself
-abbrev pub looks : List Taken → List Look
+abbrev pub looks : List Taken → List Classification
 looks [] = []
-looks (x ∷ xs) = look (length xs) x ∷ looks xs
+looks (x ∷ xs) = classify (length xs) x ∷ looks xs
 
 -- how many fragments of those have a place
-abbrev pub here : ℕ → List Look → ℕ
+abbrev pub here : ℕ → List Classification → ℕ
 here n [] = 0
 here n (plain c ∷ ls) = here n ls
 here n (datagram header captured ∷ ls) = here n ls
 here n (fragment p ∷ ls) = one_at p.stamped.place n + here n ls
 
 -- A fragment has that place.
-abbrev HasPlace : ℕ → Look → Type 0
+abbrev HasPlace : ℕ → Classification → Type 0
 HasPlace n (plain c) = Unit {0}
 HasPlace n (datagram header captured) = Unit {0}
 HasPlace n (fragment p) = p.stamped.place ≡ n
 
 place_by : (o : Option Fragment) (header : HeaderFields) (captured : List ℕ) (s : Stamped)
-    → HasPlace s.place (look_by o header captured s)
+    → HasPlace s.place (classify_by o header captured s)
 unfolding piece_of
 place_by o header captured s = grind arith
 
-place_in : (r : Reading) (s : Stamped) → HasPlace s.place (look_in r s)
+place_in : (r : Reading) (s : Stamped) → HasPlace s.place (classify_in r s)
 place_in (found header captured) s = place_by header.fragment header captured s
 place_in bad s = tt
 place_in cut s = tt
 
-pub place_of : (place : ℕ) (x : Taken) → HasPlace place (look place x)
-unfolding look
+pub place_of : (place : ℕ) (x : Taken) → HasPlace place (classify place x)
+unfolding classify
 place_of place x = grind (arith, place_in)
 
 pub here_few : (n : ℕ) (xs : List Taken) → (n < length xs → here n (looks xs) ≤ 1)
@@ -65,7 +66,7 @@ comes_here n (x ∷ xs) = grind (arith, comes_here n xs)
 -- ---- a group among some packets
 
 -- how many fragments of those are in a group
-abbrev pub hits : List Piece → List Look → ℕ
+abbrev pub hits : List Piece → List Classification → ℕ
 hits ps [] = 0
 hits ps (plain c ∷ ls) = hits ps ls
 hits ps (datagram header captured ∷ ls) = hits ps ls
@@ -79,14 +80,14 @@ pub present : (n : ℕ) (ps : List Piece) → has_place n ps ≡ true → 1 ≤ 
 present n [] h = absurd (true≢false (sym h))
 present n (p ∷ ps) h = grind (arith, present n ps)
 
-hits_none : (ls : List Look) → hits [] ls ≡ 0
+hits_none : (ls : List Classification) → hits [] ls ≡ 0
 hits_none [] = refl
 hits_none (plain c ∷ ls) = hits_none ls
 hits_none (datagram header captured ∷ ls) = hits_none ls
 hits_none (fragment p ∷ ls) = omega (arith, hits_none ls)
 
 -- one more fragment, whose place no other of the group has
-hits_more : (p : Piece) (ps : List Piece) (ls : List Look) → has_place p.stamped.place ps ≡ false
+hits_more : (p : Piece) (ps : List Piece) (ls : List Classification) → has_place p.stamped.place ps ≡ false
     → hits (p ∷ ps) ls ≡ here p.stamped.place ls + hits ps ls
 hits_more p ps [] alone = omega arith
 hits_more p ps (plain c ∷ ls) alone = hits_more p ps ls alone
@@ -94,7 +95,8 @@ hits_more p ps (datagram header captured ∷ ls) alone = hits_more p ps ls alone
 hits_more p ps (fragment q ∷ ls) alone = grind (arith, hits_more p ps ls alone)
 
 -- a group whose fragments came, each once, has as many as there are
-pub hits_all : (ps : List Piece) (ls : List Look) → ((n : ℕ) → occurs n ps ≤ here n ls) → ((n : ℕ) → here n ls ≤ 1)
+pub hits_all : (ps : List Piece) (ls : List Classification) → ((n : ℕ) → occurs n ps ≤ here n ls)
+    → ((n : ℕ) → here n ls ≤ 1)
     → hits ps ls ≡ length ps
 hits_all [] ls came once = hits_none ls
 hits_all (p ∷ ps) ls came once = grind (arith, hits_all ps ls, absent, hits_more)
@@ -114,13 +116,13 @@ unjoined n groups h = ap (λ (g : Option (List Piece)). option_map_or group_clas
 pub classes_looks : (groups : List (List Piece)) (xs : List Taken)
     → classes_in groups xs ≡ map (class_by groups) (looks xs)
 classes_looks groups [] = refl
-classes_looks groups (x ∷ xs) = ap (λ cs. class_by groups (look (length xs) x) ∷ cs) (classes_looks groups xs)
+classes_looks groups (x ∷ xs) = ap (λ cs. class_by groups (classify (length xs) x) ∷ cs) (classes_looks groups xs)
 
 abbrev pub some_of : Class → Class → ℕ → ℕ
 some_of c k n = if is_class c k then n else 0
 
 -- if a group is completed, its fragments go from the unjoined ones to the class of its datagram
-pub recount : (c : Class) (ps : List Piece) (groups : List (List Piece)) (ls : List Look)
+pub recount : (c : Class) (ps : List Piece) (groups : List (List Piece)) (ls : List Classification)
     → ((n : ℕ) → has_place n ps ≡ true → class_in groups n ≡ class.Unjoined)
     → times c (map (class_by (ps ∷ groups)) ls) + some_of c class.Unjoined (hits ps ls)
     ≡ times c (map (class_by groups) ls) + some_of c (group_class ps) (hits ps ls)

@@ -7,12 +7,13 @@ use Rattle.cap_time.specs.Stamp.{stamp_cmp}
 use Rattle.cap_time.specs.inner.StampLaws.{stamp_cmp_total}
 use Rattle.cap_time.specs.declared.stamps.Stamp.{Stamp}
 use Rattle.cap_time.proofs.Chosen.{not_trans}
-use Rattle.cap_talks.specs.table.Talks.{Talk, earlier_frame, later_frame, frame_time, place_or, same_talk}
+use Rattle.cap_talks.specs.table.Conversations.{Conversation, earlier_frame, later_frame, frame_time, place_or}
+use Rattle.cap_talks.specs.table.Conversations.{same_talk}
 use Rattle.cap_talks.specs.table.Rows.{row_frame, are_in_order, is_in_order, are_all_in_order, is_after, row_at, row_in}
 use Rattle.cap_talks.specs.table.Rows.{with_frames, with_unit, with_talk}
 use Rattle.cap_talks.specs.declared.table.rows.TalkKey.{TalkKey}
 use Rattle.cap_talks.specs.declared.table.rows.TalkRow.{TalkRow}
-use Rattle.cap_talks.specs.declared.table.talks.TalksFault.{TalksFault}
+use Rattle.cap_talks.specs.declared.table.conversations.ConversationsFault.{ConversationsFault}
 use Rattle.cap_talks.specs.declared.table.units.CountedUnit.{CountedUnit}
 use Rattle.cap_talks.specs.declared.table.units.TimedFrame.{TimedFrame}
 
@@ -44,24 +45,26 @@ row-kept : (row : TalkRow) (unit : CountedUnit) → is_in_order row ≡ true →
 row-kept row unit own others = grind (arith, frames-kept, same_frame)
 
 -- each of some rows is in order, and so is that of no unit
-pub row_in-order : (rows : List Talk) (place : ℕ) → are_all_in_order rows ≡ true
+pub row_in-order : (rows : List Conversation) (place : ℕ) → are_all_in_order rows ≡ true
     → is_in_order (row_in rows place) ≡ true
 row_in-order [] place all = refl
 row_in-order (talk ∷ rows) zero all = grind arith
 row_in-order (talk ∷ rows) (suc place) all = grind (arith, row_in-order rows place)
 
-row_at-order : (key : TalkKey) (rows : List Talk) → are_all_in_order rows ≡ true → is_in_order (row_at key rows) ≡ true
+row_at-order : (key : TalkKey) (rows : List Conversation) → are_all_in_order rows ≡ true
+    → is_in_order (row_at key rows) ≡ true
 row_at-order key [] all = refl
 row_at-order key (talk ∷ rows) all = grind (arith, row_at-order key rows)
 
 -- a row that is put in a row's place, or after the others
-inserted : (key : TalkKey) (row : TalkRow) (rows : List Talk) → is_in_order row ≡ true → are_all_in_order rows ≡ true
+inserted : (key : TalkKey) (row : TalkRow) (rows : List Conversation) → is_in_order row ≡ true
+    → are_all_in_order rows ≡ true
     → are_all_in_order (insert_entry same_talk rows key row) ≡ true
 inserted key row [] own all = grind arith
 inserted key row (talk ∷ rows) own all = grind (arith, inserted key row rows)
 
 -- the rows stay in order, whatever is answered
-pub order-kept : (result : Result (Unit {0}) TalksFault) (old new : List Talk) (unit : CountedUnit)
+pub order-kept : (result : Result (Unit {0}) ConversationsFault) (old new : List Conversation) (unit : CountedUnit)
     → OnOk result (new ≡ with_talk old unit) → OnErr result (new ≡ old)
     → are_in_order unit.first unit.last ≡ true → are_all_in_order old ≡ true → are_all_in_order new ≡ true
 order-kept result old new unit more kept others all = grind (arith, row-kept, row_at-order, inserted)

@@ -5,13 +5,13 @@ use Rattle.std.specs.Prelude.{OnOk, OnErr}
 use Rattle.std.specs.Map.{lookup}
 use Rattle.std.proofs.lemmas.Bool.{ltb-true}
 use Rattle.indexmap.specs.IndexMap.{insert_entry}
-use Rattle.cap_talks.specs.table.Talks.{Talk, talk_key, row_of, same_talk}
+use Rattle.cap_talks.specs.table.Conversations.{Conversation, talk_key, row_of, same_talk}
 use Rattle.cap_talks.specs.table.Rows.{is_limit, is_refused, sum_of_rows, frames_of_row, frames_in, bytes_of_row}
 use Rattle.cap_talks.specs.table.Rows.{bytes_in}
 use Rattle.cap_talks.specs.table.Rows.{with_unit, or_empty, row_at, with_talk}
 use Rattle.cap_talks.specs.declared.table.rows.TalkKey.{TalkKey}
 use Rattle.cap_talks.specs.declared.table.rows.TalkRow.{TalkRow}
-use Rattle.cap_talks.specs.declared.table.talks.TalksFault.{TalksFault}
+use Rattle.cap_talks.specs.declared.table.conversations.ConversationsFault.{ConversationsFault}
 use Rattle.cap_talks.specs.declared.table.units.CountedUnit.{CountedUnit}
 
 pub on_ok : {T E P Q : Type 0} (r : Result T E) → (P → Q) → OnOk r P → OnOk r Q
@@ -20,12 +20,12 @@ on_ok r f p = grind arith
 -- What rows count, each by the same measure, of which an empty row has none.
 module _ (count : TalkRow → ℕ) (empty : count (row_of []) ≡ 0) where
   -- a conversation's row counts no more than all
-  row-within : (key : TalkKey) (rows : List Talk) → count (row_at key rows) ≤ sum_of_rows count rows
+  row-within : (key : TalkKey) (rows : List Conversation) → count (row_at key rows) ≤ sum_of_rows count rows
   row-within key [] = omega (arith, empty)
   row-within key (talk ∷ rows) = grind (arith, row-within key rows)
 
   -- a row that counts so much more than the one that it is put for
-  sum-more : (key : TalkKey) (w : TalkRow) (n : ℕ) (rows : List Talk) → count w ≡ count (row_at key rows) + n
+  sum-more : (key : TalkKey) (w : TalkRow) (n : ℕ) (rows : List Conversation) → count w ≡ count (row_at key rows) + n
       → sum_of_rows count (insert_entry same_talk rows key w) ≡ sum_of_rows count rows + n
   sum-more key w n [] h = omega (arith, h, empty)
   sum-more key w n (talk ∷ rows) h = by (same_talk key talk.0) h (sum-more key w n rows)
@@ -44,23 +44,23 @@ frames_with row unit = grind arith
 bytes_with : (row : TalkRow) (unit : CountedUnit) → bytes_of_row (with_unit row unit) ≡ bytes_of_row row + unit.bytes
 bytes_with row unit = grind arith
 
-pub frames-within : (key : TalkKey) (rows : List Talk) → frames_of_row (row_at key rows) ≤ frames_in rows
+pub frames-within : (key : TalkKey) (rows : List Conversation) → frames_of_row (row_at key rows) ≤ frames_in rows
 frames-within key rows = row-within frames_of_row refl key rows
 
-pub bytes-within : (key : TalkKey) (rows : List Talk) → bytes_of_row (row_at key rows) ≤ bytes_in rows
+pub bytes-within : (key : TalkKey) (rows : List Conversation) → bytes_of_row (row_at key rows) ≤ bytes_in rows
 bytes-within key rows = row-within bytes_of_row refl key rows
 
 -- one unit more
-pub frames_in-more : (rows : List Talk) (unit : CountedUnit)
+pub frames_in-more : (rows : List Conversation) (unit : CountedUnit)
     → frames_in (with_talk rows unit) ≡ frames_in rows + unit.frames
 frames_in-more rows unit = search (sum-more, frames_with)
 
-pub bytes_in-more : (rows : List Talk) (unit : CountedUnit)
+pub bytes_in-more : (rows : List Conversation) (unit : CountedUnit)
     → bytes_in (with_talk rows unit) ≡ bytes_in rows + unit.bytes
 bytes_in-more rows unit = search (sum-more, bytes_with)
 
 -- how many rows there are then
-length-more : (key : TalkKey) (w : TalkRow) (rows : List Talk)
+length-more : (key : TalkKey) (w : TalkRow) (rows : List Conversation)
     → length (insert_entry same_talk rows key w) ≡ length rows + cond (is_some (lookup (same_talk key) rows)) 0 1
 length-more key w [] = refl
 length-more key w (talk ∷ rows) = by (same_talk key talk.0) (length-more key w rows)
@@ -72,7 +72,8 @@ length-more key w (talk ∷ rows) = by (same_talk key talk.0) (length-more key w
     by t rest = grind arith
 
 -- the table stays within its limit, whatever is answered
-pub few-kept : (limit : ℕ) (result : Result (Unit {0}) TalksFault) (old new : List Talk) (unit : CountedUnit)
+pub few-kept : (limit : ℕ) (result : Result (Unit {0}) ConversationsFault) (old new : List Conversation)
+    (unit : CountedUnit)
     → OnOk result (new ≡ with_talk old unit)
     → is_limit result ≡ is_refused limit old (talk_key unit) → OnErr result (new ≡ old) → length old ≤ limit
     → length new ≤ limit

@@ -14,13 +14,14 @@ use Rattle.cap_talks.proofs.Recount.{unjoined, classes_looks, some_of, recount}
 use Rattle.cap_talks.specs.table.Classes.{class_of, class_by, class_in, classes, classes_in, counts_of, group_class}
 use Rattle.cap_talks.specs.table.Classes.{groups_of, has_place, sum_of, times, OneClass}
 use Rattle.cap_join.specs.Completed.{completed_of, occurs, occurs_in}
-use Rattle.cap_class.specs.Taken.{Taken, Look, plain, datagram, fragment, look, events_with_look, events_of}
+use Rattle.cap_class.specs.Taken.{Taken, Classification, plain, datagram, fragment, classify, events_classified}
+use Rattle.cap_class.specs.Taken.{events_of}
 use Rattle.cap_class.specs.declared.classes.Class.{Class}
 use Rattle.cap_class.specs.declared.classes.Class.TheVariants as class
 
 -- by what the packet is
-classes-are : (x : Taken) (xs : List Taken) (l : Look) → look (length xs) x ≡ l
-    → classes (x ∷ xs) ≡ map (class_by (completed_of open_limit (events_with_look l x.clock (events_of xs))))
+classes-are : (x : Taken) (xs : List Taken) (l : Classification) → classify (length xs) x ≡ l
+    → classes (x ∷ xs) ≡ map (class_by (completed_of open_limit (events_classified l x.clock (events_of xs))))
     (l ∷ looks xs)
 unfolding classes events_of
 classes-are x xs l is = grind (arith, classes_looks, looks)
@@ -30,12 +31,12 @@ unfolding classes
 classes-before xs = classes_looks (groups_of xs) xs
 
 -- a packet of a class, or a whole datagram
-pub classes-plain : (x : Taken) (xs : List Taken) (c : Class) → look (length xs) x ≡ plain c
+pub classes-plain : (x : Taken) (xs : List Taken) (c : Class) → classify (length xs) x ≡ plain c
     → classes (x ∷ xs) ≡ c ∷ classes xs
 classes-plain x xs c is = classes-are x xs (plain c) is ∙ ap (λ cs. c ∷ cs) (sym (classes-before xs))
 
 pub classes-datagram : (x : Taken) (xs : List Taken) (header : HeaderFields) (captured : List ℕ)
-    → look (length xs) x ≡ datagram header captured
+    → classify (length xs) x ≡ datagram header captured
     → classes (x ∷ xs) ≡ class_of (transport_of header.key.protocol captured header.data_length) ∷ classes xs
 unfolding completed_of
 classes-datagram x xs header captured is =
@@ -44,7 +45,7 @@ classes-datagram x xs header captured is =
 
 -- ---- fragments
 
-module _ (x : Taken) (xs : List Taken) (p : Piece) (is : look (length xs) x ≡ fragment p) where
+module _ (x : Taken) (xs : List Taken) (p : Piece) (is : classify (length xs) x ≡ fragment p) where
   abbrev pub joined : List Piece
   joined = joined_pieces x.clock p (open_groups_after open_limit (events_of xs))
 
@@ -64,7 +65,7 @@ module _ (x : Taken) (xs : List Taken) (p : Piece) (is : look (length xs) x ≡ 
       ∙ ap (λ cs. class.Unjoined ∷ cs) (sym (classes-before xs))
 
   here_now : (n : ℕ) → here n (fragment p ∷ looks xs) ≤ 1
-  here_now n = subst (λ (l : Look). here n (l ∷ looks xs) ≤ 1) is (here_once n (x ∷ xs))
+  here_now n = subst (λ (l : Classification). here n (l ∷ looks xs) ≤ 1) is (here_once n (x ∷ xs))
 
   now : completes joined ≡ true → (n : ℕ) → occurs n joined + occurs_in n (groups_of xs)
       ≤ here n (fragment p ∷ looks xs)

@@ -3,7 +3,7 @@ use Rattle.std.proofs.Common.{List, [], ◌∷◌, ◌++◌, refl, sym, ap, subs
 use Rattle.cap_talks.proofs.RowSums.{frames_in-more, bytes_in-more}
 use Rattle.cap_talks.proofs.Talking.{rows-more, frames-more, bytes-more}
 use Rattle.cap_talks.specs.table.Rows.{frames_in, bytes_in}
-use Rattle.cap_talks.specs.table.Talks.{rows_of}
+use Rattle.cap_talks.specs.table.Conversations.{rows_of}
 use Rattle.cap_talks.specs.inner.table.Laws.{SumLaw}
 use Rattle.cap_talks.specs.declared.table.units.CountedUnit.{CountedUnit}
 

@@ -11,7 +11,7 @@ use Rattle.cap_talks.specs.table.TakenText.{files_part_in, body_text_in, text_of
 use Rattle.cap_talks.specs.table.TakenText.{joined_facts}
 use Rattle.cap_talks.specs.table.TakenText.{taken_bytes, truncated_of}
 use Rattle.cap_class.specs.Taken.{Taken}
-use Rattle.cap_talks.specs.table.Talks.{rows_of}
+use Rattle.cap_talks.specs.table.Conversations.{rows_of}
 use Rattle.cap_talks.specs.table.TalkLines.{talk_texts_in, talks_facts}
 use Rattle.cap_talks.specs.inner.table.Tallies.{TallyState, TallyStands, tally_text_in}
 use Rattle.cap_talks.specs.inner.table.Totals.{TotalsState, TotalsStand}

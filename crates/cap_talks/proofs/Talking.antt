@@ -7,21 +7,23 @@ use Rattle.std.specs.Map.{lookup}
 use Rattle.indexmap.specs.IndexMap.{insert_entry}
 use Rattle.std.proofs.lemmas.Bool.{eq-eqb}
 use Rattle.cap_talks.proofs.FrameOrder.{least-more, greatest-more}
-use Rattle.cap_talks.specs.table.Talks.{Talk, is_forward, backward, earlier_frame, later_frame, least_frame}
-use Rattle.cap_talks.specs.table.Talks.{greatest_frame, frame_time, place_or, talk_key, frames_of, units_bytes, row_of}
-use Rattle.cap_talks.specs.table.Talks.{same_end, same_talk, units_of_talk, keys_of, rows_of}
+use Rattle.cap_talks.specs.table.Conversations.{Conversation, is_forward, backward, earlier_frame, later_frame}
+use Rattle.cap_talks.specs.table.Conversations.{least_frame}
+use Rattle.cap_talks.specs.table.Conversations.{greatest_frame, frame_time, place_or, talk_key, frames_of, units_bytes}
+use Rattle.cap_talks.specs.table.Conversations.{row_of}
+use Rattle.cap_talks.specs.table.Conversations.{same_end, same_talk, units_of_talk, keys_of, rows_of}
 use Rattle.cap_talks.specs.inner.table.Keys.{same_talk-is}
 use Rattle.cap_talks.specs.table.Rows.{row_frame, with_unit, or_empty, with_talk}
 use Rattle.cap_talks.specs.declared.table.rows.TalkKey.{TalkKey}
 use Rattle.cap_talks.specs.declared.table.rows.TalkRow.{TalkRow}
 use Rattle.cap_talks.specs.declared.table.units.TimedFrame.{TimedFrame}
 use Rattle.cap_talks.specs.declared.table.units.CountedUnit.{CountedUnit}
-use Rattle.cap_talks.specs.declared.table.units.End.{End}
+use Rattle.cap_talks.specs.declared.table.units.Endpoint.{Endpoint}
 
 pub and_true : (x y : Bool) → x ≡ true → y ≡ true → (x && y) ≡ true
 and_true x y h k = ap (λ b. b && y) h ∙ k
 
-pub same_end-self : (a : End) → same_end a a ≡ true
+pub same_end-self : (a : Endpoint) → same_end a a ≡ true
 same_end-self a = grind (arith, and_true, eq-eqb)
 
 pub same_talk-self : (a : TalkKey) → same_talk a a ≡ true
@@ -205,7 +207,7 @@ other_row : (k : TalkKey) (units : List CountedUnit) (u : CountedUnit) → same_
 other_row k units u is = grind (arith, filter-more, append-nil)
 
 -- Rows of some conversations.
-abbrev rows_at : List CountedUnit → List TalkKey → List Talk
+abbrev rows_at : List CountedUnit → List TalkKey → List Conversation
 rows_at units ks = map (λ key. (key, row_of (units_of_talk key units))) ks
 
 -- a unit of no conversation among them

@@ -19,7 +19,8 @@ use Rattle.cap_talks.proofs.Steps.{classes-plain, classes-datagram, classes-kept
 use Rattle.cap_talks.specs.inner.table.Adding.{datagram_unit, datagram_class}
 use Rattle.cap_talks.specs.table.Classes.{class_of, classes, counts_of, group_class, groups_of, joined_transport, times}
 use Rattle.cap_join.specs.Completed.{completed_of}
-use Rattle.cap_class.specs.Taken.{Taken, Look, plain, datagram, fragment, look, stamped_of, events_with_look}
+use Rattle.cap_class.specs.Taken.{Taken, Classification, plain, datagram, fragment, classify, stamped_of}
+use Rattle.cap_class.specs.Taken.{events_classified}
 use Rattle.cap_class.specs.Taken.{events_of}
 use Rattle.cap_talks.specs.inner.table.Tallies.{TallyState, TallyStands, counted_one, with_frames, with_group}
 use Rattle.cap_talks.specs.table.CountedUnits.{whole_unit, group_unit, first_unit, unit_by, unit_at, listed}
@@ -31,22 +32,22 @@ use Rattle.cap_talks.specs.declared.table.classes.ClassCounts.{ClassCounts}
 
 -- ---- by what a packet is
 
-pub events-are : (x : Taken) (xs : List Taken) (l : Look) → look (length xs) x ≡ l
-    → events_of (x ∷ xs) ≡ events_with_look l x.clock (events_of xs)
+pub events-are : (x : Taken) (xs : List Taken) (l : Classification) → classify (length xs) x ≡ l
+    → events_of (x ∷ xs) ≡ events_classified l x.clock (events_of xs)
 unfolding events_of
-events-are x xs l is = ap (λ (k : Look). events_with_look k x.clock (events_of xs)) is
+events-are x xs l is = ap (λ (k : Classification). events_classified k x.clock (events_of xs)) is
 
-pub unit-is : (x : Taken) (xs : List Taken) (l : Look) → look (length xs) x ≡ l
+pub unit-is : (x : Taken) (xs : List Taken) (l : Classification) → classify (length xs) x ≡ l
     → unit_at xs x ≡ unit_by l (stamped_of (length xs) x.meta) x.clock (events_of xs)
 unfolding unit_at
-unit-is x xs l is = ap (λ (k : Look). unit_by k (stamped_of (length xs) x.meta) x.clock (events_of xs)) is
+unit-is x xs l is = ap (λ (k : Classification). unit_by k (stamped_of (length xs) x.meta) x.clock (events_of xs)) is
 
 units-are : (x : Taken) (xs : List Taken) → counted_units (x ∷ xs) ≡ counted_units xs ++ listed (unit_at xs x)
 unfolding counted_units
 units-are x xs = refl
 
-joined-is : (x : Taken) (xs : List Taken) (l : Look) → look (length xs) x ≡ l
-    → joined_in (x ∷ xs) ≡ counted_in (completed_of open_limit (events_with_look l x.clock (events_of xs)))
+joined-is : (x : Taken) (xs : List Taken) (l : Classification) → classify (length xs) x ≡ l
+    → joined_in (x ∷ xs) ≡ counted_in (completed_of open_limit (events_classified l x.clock (events_of xs)))
 joined-is x xs l is = ap (λ es. counted_in (completed_of open_limit es)) (events-are x xs l is)
 
 append-none : {A : Type 0} (xs : List A) → xs ++ [] ≡ xs
@@ -102,7 +103,7 @@ Stands-none t j h k next = record { place = refl; classes = refl; joined = refl;
 
 module _ (place joined : ℕ) (counts : ClassCounts) (t : TalksState) (j : JoinerState) (xs : List Taken) (x : Taken)
     (h : TallyStands (state place counts joined t j None) xs (Some x)) where
-  pub Stands-plain : (c : Class) → look (length xs) x ≡ plain c → (next : Option Taken)
+  pub Stands-plain : (c : Class) → classify (length xs) x ≡ plain c → (next : Option Taken)
       → TallyStands (state (place + 1) (with_frames c 1 counts) joined t j None) (x ∷ xs) next
   Stands-plain c is next = record {
     place = omega (arith, h.place);
@@ -114,7 +115,7 @@ module _ (place joined : ℕ) (counts : ClassCounts) (t : TalksState) (j : Joine
     joins = subst (joiners.JoinerStandsFor j) (sym (events-are x xs (plain c) is)) h.joins;
   }
 
-  pub Stands-datagram : (header : HeaderFields) (captured : List ℕ) → look (length xs) x ≡ datagram header captured
+  pub Stands-datagram : (header : HeaderFields) (captured : List ℕ) → classify (length xs) x ≡ datagram header captured
       → (u : TalksState) (k : JoinerState)
       → talks.TalksStandFor u (counted_units xs ++ listed (whole_unit header captured (stamped_of (length xs) x.meta)))
       → joiners.JoinerStandsFor k (flushes header.key ∷ events_of xs)
@@ -135,7 +136,7 @@ module _ (place joined : ℕ) (counts : ClassCounts) (t : TalksState) (j : Joine
         joins = subst (joiners.JoinerStandsFor k) (sym (events-are x xs (datagram header captured) is)) flushed;
       }
 
-  pub Stands-kept : (p : Piece) → look (length xs) x ≡ fragment p
+  pub Stands-kept : (p : Piece) → classify (length xs) x ≡ fragment p
       → completes (joined_pieces x.clock p (open_groups_after open_limit (events_of xs))) ≡ false → (k : JoinerState)
       → joiners.JoinerStandsFor k (arrives x.clock p ∷ events_of xs) → (next : Option Taken)
       → TallyStands (state (place + 1) (with_frames class.Unjoined 1 counts) joined t k None) (x ∷ xs) next
@@ -158,7 +159,7 @@ module _ (place joined : ℕ) (counts : ClassCounts) (t : TalksState) (j : Joine
     joins = subst (joiners.JoinerStandsFor k) (sym (events-are x xs (fragment p) is)) put;
   }
 
-  pub Stands-waiting : (p : Piece) → look (length xs) x ≡ fragment p → (k : JoinerState) (d : Datagram)
+  pub Stands-waiting : (p : Piece) → classify (length xs) x ≡ fragment p → (k : JoinerState) (d : Datagram)
       → joiners.JoinerStandsFor k (arrives x.clock p ∷ events_of xs)
       → completes (joined_pieces x.clock p (open_groups_after open_limit (events_of xs))) ≡ true
       → IsDatagramOf d (joined_pieces x.clock p (open_groups_after open_limit (events_of xs)))

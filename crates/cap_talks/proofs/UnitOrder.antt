@@ -9,7 +9,7 @@ use Rattle.cap_join.specs.inner.Groups.{IsDatagramOf}
 use Rattle.cap_join.specs.declared.datagrams.Datagram.{Datagram}
 use Rattle.cap_join.specs.declared.datagrams.Stamped.{Stamped}
 use Rattle.cap_talks.specs.table.Rows.{are_in_order, IsUnitInOrder}
-use Rattle.cap_talks.specs.declared.table.units.End.{End}
+use Rattle.cap_talks.specs.declared.table.units.Endpoint.{Endpoint}
 use Rattle.cap_talks.specs.declared.table.units.TimedFrame.{TimedFrame}
 use Rattle.cap_time.specs.Stamp.{stamp_cmp}
 use Rattle.cap_time.specs.inner.StampLaws.{stamp_cmp_total}
@@ -20,7 +20,7 @@ use Rattle.cap_talks.specs.inner.table.Adding.{datagram_unit}
 use Rattle.cap_class.specs.Taken.{Taken}
 use Rattle.cap_talks.specs.inner.table.Tallies.{TallyState, Joins, TallyStands}
 
-by_ends : (protocol frames bytes : ℕ) (first last : Option TimedFrame) (ends : Option (End × End))
+by_ends : (protocol frames bytes : ℕ) (first last : Option TimedFrame) (ends : Option (Endpoint × Endpoint))
     → are_in_order first last ≡ true
     → (frames ≡ 1 → first ≡ last) → IfSome (option_map (unit_of protocol frames bytes first last) ends) IsUnitInOrder
 by_ends protocol frames bytes first last None order one = tt

@@ -6,15 +6,15 @@ use Rattle.cap_join.specs.History.{Event, arrives, open_groups_after, step}
 use Rattle.cap_join.specs.Joiners.{JoinerState, JoinerStandsFor, open_limit}
 use Rattle.cap_join.specs.declared.datagrams.Datagram.{Datagram}
 use Rattle.cap_talks.specs.table.CountedUnits.{given_up_in}
-use Rattle.cap_class.specs.Taken.{Taken, fragment, look, events_of, events_with_look}
+use Rattle.cap_class.specs.Taken.{Taken, fragment, classify, events_of, events_classified}
 use Rattle.cap_talks.specs.inner.table.Tallies.{TallyState, WaitsFor, TallyStands, IsSoundTally, one_if_waiting}
 use Rattle.cap_talks.proofs.LoneFragments.{no-lone}
 use Rattle.cap_talks.proofs.Room.{few-open, waiting-room}
 
-events-are : (x : Taken) (xs : List Taken) (p : Piece) → look (length xs) x ≡ fragment p
+events-are : (x : Taken) (xs : List Taken) (p : Piece) → classify (length xs) x ≡ fragment p
     → events_of (x ∷ xs) ≡ arrives x.clock p ∷ events_of xs
 unfolding events_of
-events-are x xs p is = ap (λ l. events_with_look l x.clock (events_of xs)) is
+events-are x xs p is = ap (λ l. events_classified l x.clock (events_of xs)) is
 
 state-after : (limit : ℕ) (e : Event) (es : List Event)
     → open_groups_after limit (e ∷ es) ≡ step limit e (open_groups_after limit es)

@@ -1,4 +1,4 @@
-pub mod Talks
+pub mod Conversations
 pub mod Units
 pub mod Rows
 pub mod TalkLines

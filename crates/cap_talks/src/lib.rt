@@ -6,6 +6,6 @@ mod table;
 mod talks;
 
 pub use crate::table::{
-    CountedUnit, End, Held, Step, Table, TalkKey, TalkRow, TimedFrame, packet_class, talk_laws,
+    CountedUnit, Endpoint, Held, Step, Table, TalkKey, TalkRow, TimedFrame, packet_class, talk_laws,
 };
 pub use crate::talks::{file_lines, file_lines_in, report, report_in};

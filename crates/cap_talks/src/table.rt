@@ -3,13 +3,13 @@
 
 mod adding;
 mod classes;
+mod conversations;
 mod keys;
 mod laws;
 mod report_lines;
 mod rows;
 mod tables;
 mod talk_lines;
-mod talks;
 mod tallies;
 mod totals;
 mod units;
@@ -18,4 +18,4 @@ pub use crate::table::classes::packet_class;
 pub use crate::table::laws::talk_laws;
 pub use crate::table::rows::{TalkKey, TalkRow};
 pub use crate::table::tables::{Held, Step, Table};
-pub use crate::table::units::{CountedUnit, End, TimedFrame};
+pub use crate::table::units::{CountedUnit, Endpoint, TimedFrame};

@@ -123,7 +123,7 @@ fn always_memory_blocks_in_order(rt: HostRuntime) {
 // A block comes, and the window shows more.
 fn gives_block<R: Source>(rt: &impl Abort, reader: &mut BlockReader<R>) {
     holds!(rt; matches!(reader.next_block(), Ok(Some(_))));
-    holds!(rt; reader.window().shows(8));
+    holds!(rt; reader.window().has_buffered(8));
 }
 
 // The window shows a packet after two blocks, and then none.

@@ -223,10 +223,10 @@ fn always_memory_a_window_shows_the_next_bytes_or_the_end(rt: HostRuntime) {
 fn always_memory_a_window_shows_what_was_read(rt: HostRuntime) {
     let pieces = Pieces::new(counted(&rt, rt.alloc(), 10), 4, None);
     let mut window = Window::new(rt.alloc(), pieces, 3);
-    holds!(&rt; !window.shows(1));
+    holds!(&rt; !window.has_buffered(1));
     same!(&rt; need(&mut window, 3), Ok(true));
-    holds!(&rt; window.shows(4));
-    holds!(&rt; !window.shows(5));
+    holds!(&rt; window.has_buffered(4));
+    holds!(&rt; !window.has_buffered(5));
 }
 
 // Reads 10 bytes by a window: shows 4, drops them, and skips 6.

@@ -288,7 +288,7 @@ fn a_piece_stops_where_its_writer_is_full(rt: HostRuntime) {
 // The fault that comes of a feed of at most four packets.
 fn fault_of<F: PacketFeed>(feed: &mut F) -> Option<Fault> {
     for _ in 0..4 {
-        match feed.has_packet() {
+        match feed.peek() {
             Ok(true) => feed.pass(),
             Ok(false) => return None,
             Err(fault) => return Some(fault),

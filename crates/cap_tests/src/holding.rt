@@ -68,7 +68,7 @@ fn holds_little<F: PacketFeed>(rt: &impl Abort, feed: &F) {
 // The one packet comes after the skipped block, and then the end; never is more held.
 fn gives_packet_behind<F: PacketFeed>(rt: &impl Abort, mut feed: F) {
     holds_little(rt, &feed);
-    same!(rt; feed.has_packet(), Ok(true));
+    same!(rt; feed.peek(), Ok(true));
     holds_little(rt, &feed);
     same!(rt; (feed.packet().offset, feed.packet().skipped), (67_108_924, 1));
     feed.pass();

@@ -7,7 +7,9 @@ use cap_bytes::{Fault, Order, Pieces, Refusal, Rule, Sink, Source, Tail};
 use cap_line::LineFault;
 use cap_merge::{Merged, merge_files};
 use cap_source::{Capture, Format, PacketFeed};
-use cap_tool::{Left, Outcome, convert_and_count, join_and_count, left_lines, merge_and_count};
+use cap_tool::{
+    DroppedInfo, Outcome, convert_and_count, join_and_count, left_lines, merge_and_count,
+};
 use std::alloc::Global;
 use std::process::Abort;
 
@@ -41,7 +43,7 @@ fn merge<R: Source, W: Sink>(
     alloc: Global,
     sources: Vec<R>,
     writer: &mut W,
-) -> Result<Left, Fault> {
+) -> Result<DroppedInfo, Fault> {
     holds!(rt; !sources.is_empty());
     holds!(rt; sources.len() <= 32);
     let format = Format::Pcapng;
@@ -62,7 +64,7 @@ fn join<R: Source, W: Sink>(
     alloc: Global,
     sources: Vec<R>,
     writer: &mut W,
-) -> Result<Left, Fault> {
+) -> Result<DroppedInfo, Fault> {
     holds!(rt; !sources.is_empty());
     holds!(rt; sources.len() <= 32);
     let format = Format::Pcapng;
@@ -78,10 +80,10 @@ fn join<R: Source, W: Sink>(
 }
 
 // What is answered of files that are merged or joined.
-fn wanted(row: &Row) -> Result<Left, Fault> {
+fn wanted(row: &Row) -> Result<DroppedInfo, Fault> {
     let (_, ending, skipped, named, ran_back) = *row;
     ending?;
-    Ok(Left {
+    Ok(DroppedInfo {
         skipped,
         named,
         ran_back,
@@ -133,7 +135,7 @@ fn converts(rt: &impl Abort, alloc: Global, file: File, format: Format, kept_bac
     let order = Order::Little;
     let answer = convert_and_count(alloc, source, Tail::Refuse, order, format, &mut writer);
     let (skipped, named) = kept_back;
-    let left_out = Left {
+    let left_out = DroppedInfo {
         skipped,
         named,
         ran_back: 0,
@@ -150,7 +152,7 @@ fn always_memory_files_are_converted_with_a_count(rt: HostRuntime) {
 
 // A packet is passed, and then so many have run backward.
 fn passes(rt: &impl Abort, feed: &mut Merged<Capture<Pieces>>, backward: u64) {
-    same!(rt; feed.has_packet(), Ok(true));
+    same!(rt; feed.peek(), Ok(true));
     feed.pass();
     same!(rt; feed.backward(), backward);
 }
@@ -203,7 +205,7 @@ const TOLD: [(Outcome, [u128; 3], &str); 12] = [
 // What is printed of what is left.
 fn tells(rt: &impl Abort, outcome: &Outcome, counts: [u128; 3], text: &str) {
     let [skipped, named, ran_back] = counts;
-    let left = Left {
+    let left = DroppedInfo {
         skipped,
         named,
         ran_back,

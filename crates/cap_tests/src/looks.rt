@@ -5,7 +5,7 @@ use crate::checks::{holds, same};
 use crate::link::meta_of;
 use crate::link::vectors::PACKET;
 use crate::runs::{DATA, FRAGMENTS, Run};
-use cap_class::{Seen, look, stamped_of};
+use cap_class::{Classified, classify, stamped_of};
 use cap_join::Put;
 use cap_source::Meta;
 use std::process::Abort;
@@ -47,7 +47,7 @@ fn the_worked_fragments_join(rt: HostRuntime) {
 #[test]
 fn a_whole_datagram_is_seen(rt: HostRuntime) {
     let meta = meta_of(&rt, 101, 30);
-    let Seen::Datagram(header, captured) = look(&meta, &PACKET) else {
+    let Classified::Datagram(header, captured) = classify(&meta, &PACKET) else {
         panic!(&rt; "no datagram");
     };
     same!(&rt; header.data_length(), 10);

@@ -104,7 +104,7 @@ const MERGED: [(Side, Side, &[Came], Option<(u32, u64)>); 6] = [
 
 // The file and the clock of the packet that comes, which has no bytes and is passed.
 fn next_of(rt: &impl Abort, feed: &mut Merged<Listed>) -> (u32, Option<Stamp>) {
-    same!(rt; feed.has_packet(), Ok(true));
+    same!(rt; feed.peek(), Ok(true));
     let meta = *feed.packet();
     same!(rt; feed.head(), Ok(Head::Packet(meta)));
     let clock = feed.clock();
@@ -146,7 +146,7 @@ fn found_at(end: Head) -> Result<bool, Fault> {
 
 // Next comes that end, again and again.
 fn ends_by<F: PacketFeed>(rt: &impl Abort, feed: &mut F, end: Head) {
-    same!(rt; feed.has_packet(), found_at(end));
+    same!(rt; feed.peek(), found_at(end));
     same!(rt; feed.head(), Ok(end));
     same!(rt; feed.head(), Ok(end), "again");
 }

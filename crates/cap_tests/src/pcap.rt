@@ -203,16 +203,16 @@ fn shows_two<R: Source>(rt: &impl Abort, reader: &mut PcapReader<R>, header: Pca
     requires { reader.old.known ≡ Some header }
     ensures known { reader.new.known ≡ reader.old.known }
 {
-    same!(rt; reader.take_shown(header), Some(record(24, 2_500_000, 4, 4)));
+    same!(rt; reader.try_next_buffered(header), Some(record(24, 2_500_000, 4, 4)));
     same!(rt; reader.frame(), [1, 2, 3, 4].as_slice());
-    same!(rt; reader.take_shown(header), Some(record(44, 3_000_005, 2, 60)));
+    same!(rt; reader.try_next_buffered(header), Some(record(44, 3_000_005, 2, 60)));
 }
 
 // Both records are shown, and then none, and none comes.
 fn shows_all<R: Source>(rt: &impl Abort, reader: &mut PcapReader<R>) {
     let header = tells_header(rt, reader);
     shows_two(rt, reader, header);
-    same!(rt; reader.take_shown(header), None);
+    same!(rt; reader.try_next_buffered(header), None);
     ends(rt, reader);
 }
 

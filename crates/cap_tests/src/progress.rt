@@ -3,7 +3,7 @@
 use crate::checks::{holds, same};
 use crate::files::room_of;
 use cap_bytes::{Device, Pieces, Sink, Source};
-use cap_tool::{Progress, Watched, progress_line};
+use cap_tool::{Progress, ProgressDevice, progress_line};
 use std::process::Abort;
 
 // Bytes that are read, of how many, after how many milliseconds, and the line.
@@ -64,7 +64,7 @@ fn gives_three_and_fails<R: Source>(rt: &impl Abort, source: &mut R) {
 fn a_watched_reader_does_what_its_inner_one_does(rt: HostRuntime) {
     let progress = Progress::new(&rt, None, true, Some(4));
     let bytes = b"capt".to_vec(rt.alloc()).expect(&rt, "memory");
-    let mut source = Watched::new(Pieces::new(bytes, 3, Some(2)), &progress);
+    let mut source = ProgressDevice::new(Pieces::new(bytes, 3, Some(2)), &progress);
     gives_three_and_fails(&rt, &mut source);
 }
 
@@ -78,7 +78,7 @@ fn takes_three_and_fails<W: Sink>(rt: &impl Abort, sink: &mut W) {
 #[test]
 fn a_watched_writer_does_what_its_inner_one_does(rt: HostRuntime) {
     let progress = Progress::new(&rt, None, true, Some(4));
-    let mut sink = Watched::new(room_of(&rt, rt.alloc(), 3), &progress);
+    let mut sink = ProgressDevice::new(room_of(&rt, rt.alloc(), 3), &progress);
     takes_three_and_fails(&rt, &mut sink);
     same!(&rt; sink.into_inner().bytes(), b"cap".as_slice());
 }

@@ -3,7 +3,7 @@ ghost use Rattle.std.specs.Prelude.{◌≤◌, ◌<ℤ◌, ◌^◌, pos, IfSome}
 ghost use Rattle.cap_time.specs.Stamp.{seconds_of};
 
 use crate::checks::holds;
-use cap_class::{Seen, look, stamped_of};
+use cap_class::{Classified, classify, stamped_of};
 use cap_ip::{Header, HeaderOr};
 use cap_join::{JoinFault, Joiner, Put, Stamped};
 use cap_source::Meta;
@@ -109,7 +109,7 @@ impl Run {
     /// Puts the fragment that a packet without a clock is seen as.
     pub(crate) fn put_seen(&mut self, rt: &impl Abort, meta: &Meta, frame: &[u8]) -> Put {
         holds!(rt; self.place < 1_000);
-        let Seen::Fragment(header, data) = look(meta, frame) else {
+        let Classified::Fragment(header, data) = classify(meta, frame) else {
             panic!(rt; "no fragment");
         };
         let stamped = stamped_of(self.place, meta.time(), meta);

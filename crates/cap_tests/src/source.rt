@@ -56,8 +56,8 @@ fn comes<F: PacketFeed>(rt: &impl Abort, feed: &mut F, head: Head) {
 
 // A packet comes next, which is at hand then.
 fn finds<F: PacketFeed>(rt: &impl Abort, feed: &mut F, meta: Meta) {
-    same!(rt; feed.has_packet(), Ok(true));
-    holds!(rt; feed.shows_packet());
+    same!(rt; feed.peek(), Ok(true));
+    holds!(rt; feed.try_peek_buffered());
     comes(rt, feed, Head::Packet(meta));
 }
 
@@ -116,7 +116,7 @@ fn holds_window<F: PacketFeed>(rt: &impl Abort, feed: &F) {
 fn gives_one<R: Source>(rt: &impl Abort, feed: &mut Capture<R>) {
     has_interface(rt, feed);
     takes_carried(rt, feed, 24, Format::Pcap);
-    same!(rt; feed.has_packet(), Ok(false));
+    same!(rt; feed.peek(), Ok(false));
     comes(rt, feed, Head::End);
     holds_window(rt, feed);
 }
@@ -230,8 +230,8 @@ fn lists_none<F: PacketFeed>(rt: &impl Abort, feed: &mut F) {
         offset: 2,
         rule: Rule::Cut,
     };
-    same!(rt; feed.has_packet(), Err(Fault::Refused(refusal)));
-    holds!(rt; !feed.shows_packet());
+    same!(rt; feed.peek(), Err(Fault::Refused(refusal)));
+    holds!(rt; !feed.try_peek_buffered());
 }
 
 // The list's packets come, and then its refusal.
@@ -250,15 +250,15 @@ fn a_list(rt: HostRuntime) {
 
 // A packet is at hand once it was asked for, and is passed.
 fn passes_first<F: PacketFeed>(rt: &impl Abort, feed: &mut F) {
-    holds!(rt; !feed.shows_packet());
-    same!(rt; feed.has_packet(), Ok(true));
-    holds!(rt; feed.shows_packet());
+    holds!(rt; !feed.try_peek_buffered());
+    same!(rt; feed.peek(), Ok(true));
+    holds!(rt; feed.try_peek_buffered());
     feed.pass();
 }
 
 // The next one is at hand without that.
 fn passes_shown<F: PacketFeed>(rt: &impl Abort, feed: &mut F) {
-    holds!(rt; feed.shows_packet());
+    holds!(rt; feed.try_peek_buffered());
     same!(rt; *feed.packet(), carried(rt, 44, Format::Pcap));
     same!(rt; feed.frame(), [1, 2, 3, 4].as_slice());
     feed.pass();
@@ -266,9 +266,9 @@ fn passes_shown<F: PacketFeed>(rt: &impl Abort, feed: &mut F) {
 
 // No packet is at hand, and none comes.
 fn shows_none<F: PacketFeed>(rt: &impl Abort, feed: &mut F) {
-    holds!(rt; !feed.shows_packet());
-    same!(rt; feed.has_packet(), Ok(false));
-    holds!(rt; !feed.shows_packet());
+    holds!(rt; !feed.try_peek_buffered());
+    same!(rt; feed.peek(), Ok(false));
+    holds!(rt; !feed.try_peek_buffered());
 }
 
 // Both packets are at hand after one read.

@@ -6,7 +6,8 @@ use crate::files::bytes_of;
 use cap_bytes::{Fault, Refusal, Rule, Tracked};
 use cap_line::{Job, LineFault};
 use cap_tool::{
-    Buffered, Cause, FileId, FileType, Left, Opener, Outcome, Stop, System, Told, run_words,
+    Buffered, Cause, DroppedInfo, FileId, FileType, Opener, Outcome, RunStop, System, Told,
+    run_words,
 };
 use std::alloc::Global;
 use std::cell::RefCell;
@@ -107,7 +108,7 @@ impl<'a> System for Desk<'a> {
 
     ghost makes = { λ d job ids result. Unit {0} };
 
-    ghost settles = { λ d name answer result. result ≡ answer };
+    ghost commits = { λ d name answer result. result ≡ answer };
 
     fn has_no_input(&self) -> bool {
         false
@@ -122,9 +123,9 @@ impl<'a> System for Desk<'a> {
         job: &Job<'_>,
         _inputs: &[Option<FileId>],
         _size: Option<u64>,
-    ) -> Result<(Buffered<Sheet<'a>>, ()), Stop> {
+    ) -> Result<(Buffered<Sheet<'a>>, ()), RunStop> {
         if job.whole {
-            return Err(Stop::create(Cause::Unknown));
+            return Err(RunStop::create(Cause::Unknown));
         }
         let sheet = Sheet {
             written: self.written,
@@ -132,11 +133,15 @@ impl<'a> System for Desk<'a> {
         Ok((Buffered::new(self.alloc, 64, sheet)?, ()))
     }
 
-    fn settle(&self, _name: (), answer: Result<Left, Stop>) -> Result<Left, Stop> {
+    fn commit(
+        &self,
+        _name: (),
+        answer: Result<DroppedInfo, RunStop>,
+    ) -> Result<DroppedInfo, RunStop> {
         answer
     }
 
-    fn tell(&self, stop: Stop, _job: Option<&Job<'_>>, _said: &[u8], _told: &Told) -> Outcome {
+    fn tell(&self, stop: RunStop, _job: Option<&Job<'_>>, _said: &[u8], _told: &Told) -> Outcome {
         stop.outcome
     }
 }

@@ -4,28 +4,29 @@ use Rattle.std.specs.Prelude.{◌⊎◌, []}
 use Rattle.cap_bytes.specs.declared.faults.Fault.TheVariants as faults
 use Rattle.cap_check.specs.Checking.{Opened}
 use Rattle.cap_line.specs.declared.jobs.Job.{Job}
-use Rattle.cap_commands.specs.declared.left.Left.{Left}
+use Rattle.cap_commands.specs.declared.left.DroppedInfo.{DroppedInfo}
 use Rattle.cap_tool.specs.Outlets.{Outgoing}
 use Rattle.cap_tool.specs.Outcomes.{ends_by}
 use Rattle.cap_tool.specs.Runs.{Runs, RunsJob, RunsWhich, StopsFirst, ended_as, is_check}
 use Rattle.cap_tool.specs.declared.outcomes.Outcome.TheVariants as outcomes
-use Rattle.cap_tool.specs.declared.outcomes.Stop.{Stop}
+use Rattle.cap_tool.specs.declared.outcomes.RunStop.{RunStop}
 use Rattle.cap_tool.specs.declared.regular.FileId.{FileId}
 
 -- what was run is what its task says
 pub runs-which : {R W N : Type 0} (gives : List ℕ → Option R → Type 0) (known : R → Opened)
-    (makes : List (Option FileId) → Result (W × N) Stop → Type 0) (sent : W → Outgoing)
-    (settles : N → Result Left Stop → Result Left Stop → Type 0) (lacks_input : Bool) (job : Job)
-    (result : Result Left Stop) (answer which : Bool)
+    (makes : List (Option FileId) → Result (W × N) RunStop → Type 0) (sent : W → Outgoing)
+    (commits : N → Result DroppedInfo RunStop → Result DroppedInfo RunStop → Type 0) (lacks_input : Bool) (job : Job)
+    (result : Result DroppedInfo RunStop) (answer which : Bool)
     → answer ≡ is_check job.task → answer ≡ which
-    → StopsFirst gives makes lacks_input job result ⊎ RunsWhich which gives known makes sent settles job result
-    → Runs gives known makes sent settles lacks_input job result
-runs-which gives known makes sent settles lacks_input job result answer which is taken ran =
-    subst (λ b. StopsFirst gives makes lacks_input job result ⊎ RunsWhich b gives known makes sent settles job result)
+    → StopsFirst gives makes lacks_input job result ⊎ RunsWhich which gives known makes sent commits job result
+    → Runs gives known makes sent commits lacks_input job result
+runs-which gives known makes sent commits lacks_input job result answer which is taken ran =
+    subst (λ b. StopsFirst gives makes lacks_input job result ⊎ RunsWhich b gives known makes sent commits job result)
     (sym taken ∙ is) ran
 
 -- A job was done, and why its run stopped is known better.
-pub RunsJob-as : (job : Job) (fails : List Bool) (files : List (List ℕ)) (old : List ℕ) (ended known : Result Left Stop)
+pub RunsJob-as : (job : Job) (fails : List Bool) (files : List (List ℕ)) (old : List ℕ)
+    (ended known : Result DroppedInfo RunStop)
     (new waiting : List ℕ) → ended_as known ≡ ended_as ended
     → RunsJob job fails files old ended new waiting → RunsJob job fails files old known new waiting
 RunsJob-as job fails files old ended known new waiting same ran = record {

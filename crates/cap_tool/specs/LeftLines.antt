@@ -1,6 +1,6 @@
 -- The lines that tell what a command that writes a capture leaves out, or leaves as it was.
 use Rattle.std.specs.Prelude.{ℕ, ◌==◌, ◌&&◌, List, [], ◌++◌, codes, decimal, if◌then◌else◌}
-use Rattle.cap_commands.specs.declared.left.Left.{Left}
+use Rattle.cap_commands.specs.declared.left.DroppedInfo.{DroppedInfo}
 use Rattle.cap_tool.specs.declared.outcomes.Outcome.{Outcome}
 use Rattle.cap_tool.specs.declared.outcomes.Outcome.TheVariants as outcomes
 
@@ -21,13 +21,13 @@ dropped_text skipped named =
     ++ (if (skipped == 0) && (named == 0) then [] else codes "\n")
 
 -- the lines of what is left
-abbrev pub left_text : Left → List ℕ
+abbrev pub left_text : DroppedInfo → List ℕ
 left_text left =
     dropped_text left.skipped left.named
     ++ count_text (codes "ran back: ") left.ran_back (codes " packet\n") (codes " packets\n")
 
 -- these, if all was done
-abbrev pub left_told : Outcome → Left → List ℕ
+abbrev pub left_told : Outcome → DroppedInfo → List ℕ
 left_told outcomes.Done left = left_text left
 left_told outcomes.Differ left = []
 left_told outcomes.NotWhole left = []

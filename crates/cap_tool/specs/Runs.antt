@@ -14,25 +14,25 @@ use Rattle.cap_tool.specs.Outcomes.{ends_by}
 use Rattle.cap_tool.specs.Outlets.{Outgoing}
 use Rattle.cap_tool.specs.Streams.{StopsAtDash, StopsOpening}
 use Rattle.cap_commands.specs.declared.jobs.Finding.{Finding}
-use Rattle.cap_commands.specs.declared.left.Left.{Left}
+use Rattle.cap_commands.specs.declared.left.DroppedInfo.{DroppedInfo}
 use Rattle.cap_tool.specs.declared.outcomes.Outcome.{Outcome}
 use Rattle.cap_tool.specs.declared.outcomes.Outcome.TheVariants as outcomes
-use Rattle.cap_tool.specs.declared.outcomes.Stop.{Stop}
+use Rattle.cap_tool.specs.declared.outcomes.RunStop.{RunStop}
 use Rattle.cap_tool.specs.declared.regular.FileId.{FileId}
 
 -- how a run ended, without the cause
-abbrev pub ended_as : {A : Type 0} → Result A Stop → Result (Unit {0}) Outcome
+abbrev pub ended_as : {A : Type 0} → Result A RunStop → Result (Unit {0}) Outcome
 ended_as (Ok done) = Ok tt
 ended_as (Err stop) = Err stop.outcome
 
 -- the outcome of a run that ended so
-abbrev pub outcome_after : {A : Type 0} → Result A Stop → Outcome
+abbrev pub outcome_after : {A : Type 0} → Result A RunStop → Outcome
 outcome_after (Ok done) = outcomes.Done
 outcome_after (Err stop) = stop.outcome
 
 -- A run ends by what its command returned, and nothing waits in the writer's buffer; or what waited could not be
 -- written, and it ends so.
-abbrev pub EndsBy : Result Finding Fault → List ℕ → Result Left Stop → Type 0
+abbrev pub EndsBy : Result Finding Fault → List ℕ → Result DroppedInfo RunStop → Type 0
 EndsBy answer waiting ended =
     ((ended_as ended ≡ ends_by answer) × (waiting ≡ []))
     ⊎ (ended_as ended ≡ Err (outcomes.Fault faults.Write))
@@ -40,7 +40,7 @@ EndsBy answer waiting ended =
 -- A job was done over files of those bytes, of which a read can fail or not: it wrote what it writes, and the run ended
 -- by what it returned and found.
 pub record RunsJob (job : Job) (fails : List Bool) (files : List (List ℕ)) (old : List ℕ)
-    (ended : Result Left Stop) (new waiting : List ℕ) : Type 0 where
+    (ended : Result DroppedInfo RunStop) (new waiting : List ℕ) : Type 0 where
   pub answer : Result Finding Fault
   pub does : Does job fails files (found_in answer) old (done_of answer) new
   pub finds : IfOk answer (Finds job files)
@@ -53,7 +53,7 @@ names_of job = map (λ n. n.now) job.files.items
 -- A run stopped before its job was begun: standard input, which a job names, is closed; a file can't be opened; the
 -- output can't be created; or there was no memory.
 abbrev pub StopsFirst : {R M : Type 0} → (List ℕ → Option R → Type 0)
-    → (List (Option FileId) → Result M Stop → Type 0) → Bool → Job → Result Left Stop → Type 0
+    → (List (Option FileId) → Result M RunStop → Type 0) → Bool → Job → Result DroppedInfo RunStop → Type 0
 StopsFirst gives makes lacks_input job (Ok done) = ⊥
 StopsFirst gives makes lacks_input job (Err stop) =
     (IsTrue lacks_input × StopsAtDash (names_of job) stop.outcome)
@@ -61,42 +61,42 @@ StopsFirst gives makes lacks_input job (Err stop) =
     ⊎ ((ids : List (Option FileId)) × makes ids (Err stop))
 
 -- A job other than `check` was done: its files were opened, each as its opener gives it, and its output was created;
--- if these tell their bytes, the job was done over them; and the output was settled by how that ended.
+-- if these tell their bytes, the job was done over them; and the output was committed by how that ended.
 pub record RunsFiles {R W N : Type 0} (gives : List ℕ → Option R → Type 0) (known : R → Opened)
-    (makes : List (Option FileId) → Result (W × N) Stop → Type 0) (sent : W → Outgoing)
-    (settles : N → Result Left Stop → Result Left Stop → Type 0) (job : Job)
-    (result : Result Left Stop) : Type 0 where
+    (makes : List (Option FileId) → Result (W × N) RunStop → Type 0) (sent : W → Outgoing)
+    (commits : N → Result DroppedInfo RunStop → Result DroppedInfo RunStop → Type 0) (job : Job)
+    (result : Result DroppedInfo RunStop) : Type 0 where
   pub readers : List R
   pub ids : List (Option FileId)
   pub writer : W
   pub name : N
   pub written : W
-  pub ended : Result Left Stop
+  pub ended : Result DroppedInfo RunStop
   pub opened : AreGiven gives (names_of job) (map Some readers)
   pub all : length readers ≡ length (names_of job)
   pub made : makes ids (Ok (writer, name))
   pub runs : IsTrue (list_all (λ r. (known r).told) readers) → IsTrue (sent writer).told
       → RunsJob job (map (λ r. (known r).can_fail) readers) (map (λ r. (known r).bytes) readers) (sent writer).held
       ended (sent written).held (sent written).waiting
-  pub settled : settles name ended result
+  pub committed : commits name ended result
 
 -- A `check` was done: its output was created; if that tells its bytes, the files were opened and checked, one after
--- another, and the run ended by what was found; and the output was settled by how that ended.
+-- another, and the run ended by what was found; and the output was committed by how that ended.
 pub record RunsChecks {R W N : Type 0} (gives : List ℕ → Option R → Type 0) (known : R → Opened)
-    (makes : List (Option FileId) → Result (W × N) Stop → Type 0) (sent : W → Outgoing)
-    (settles : N → Result Left Stop → Result Left Stop → Type 0) (job : Job)
-    (result : Result Left Stop) : Type 0 where
+    (makes : List (Option FileId) → Result (W × N) RunStop → Type 0) (sent : W → Outgoing)
+    (commits : N → Result DroppedInfo RunStop → Result DroppedInfo RunStop → Type 0) (job : Job)
+    (result : Result DroppedInfo RunStop) : Type 0 where
   pub writer : W
   pub name : N
   pub written : W
   pub answer : Result Finding Fault
-  pub ended : Result Left Stop
+  pub ended : Result DroppedInfo RunStop
   pub made : makes [] (Ok (writer, name))
   pub checks : IsTrue (sent writer).told
       → ChecksNames gives known (form_by job.json) (tail_of job.allow_cut) (names_of job) (sent writer).held answer
       (sent written).held
   pub ends : IsTrue (sent writer).told → EndsBy answer (sent written).waiting ended
-  pub settled : settles name ended result
+  pub committed : commits name ended result
 
 -- whether a task is `check`
 abbrev pub is_check : Task → Bool
@@ -105,15 +105,16 @@ is_check _ = false
 
 -- a job was done, by whether it is `check`
 abbrev pub RunsWhich : {R W N : Type 0} → Bool → (List ℕ → Option R → Type 0) → (R → Opened)
-    → (List (Option FileId) → Result (W × N) Stop → Type 0) → (W → Outgoing)
-    → (N → Result Left Stop → Result Left Stop → Type 0) → Job → Result Left Stop → Type 0
+    → (List (Option FileId) → Result (W × N) RunStop → Type 0) → (W → Outgoing)
+    → (N → Result DroppedInfo RunStop → Result DroppedInfo RunStop → Type 0) → Job → Result DroppedInfo RunStop → Type 0
 RunsWhich true = RunsChecks
 RunsWhich false = RunsFiles
 
 -- A job was run: it stopped before it was begun, or it was done.
 abbrev pub Runs : {R W N : Type 0} → (List ℕ → Option R → Type 0) → (R → Opened)
-    → (List (Option FileId) → Result (W × N) Stop → Type 0) → (W → Outgoing)
-    → (N → Result Left Stop → Result Left Stop → Type 0) → Bool → Job → Result Left Stop → Type 0
-Runs gives known makes sent settles lacks_input job result =
+    → (List (Option FileId) → Result (W × N) RunStop → Type 0) → (W → Outgoing)
+    → (N → Result DroppedInfo RunStop → Result DroppedInfo RunStop → Type 0) → Bool → Job → Result DroppedInfo RunStop
+    → Type 0
+Runs gives known makes sent commits lacks_input job result =
     StopsFirst gives makes lacks_input job result
-    ⊎ RunsWhich (is_check job.task) gives known makes sent settles job result
+    ⊎ RunsWhich (is_check job.task) gives known makes sent commits job result

@@ -5,7 +5,7 @@ use Rattle.std.specs.Str.{bytes_eq}
 use Rattle.cap_bytes.specs.declared.faults.Fault.TheVariants as faults
 use Rattle.cap_tool.specs.declared.outcomes.Outcome.{Outcome}
 use Rattle.cap_tool.specs.declared.outcomes.Outcome.TheVariants as outcomes
-use Rattle.cap_tool.specs.declared.outcomes.Stop.{Stop}
+use Rattle.cap_tool.specs.declared.outcomes.RunStop.{RunStop}
 use Rattle.cap_tool.specs.declared.streams.Input.{Input}
 use Rattle.cap_tool.specs.declared.streams.Input.TheVariants as inputs
 use Rattle.cap_tool.specs.declared.streams.Output.{Output}
@@ -31,7 +31,7 @@ IsStandardOut (outputs.File file) = ⊥
 IsStandardOut (outputs.Standard standard) = Unit {0}
 
 -- the output could not be created
-abbrev pub StopsCreating : Stop → Type 0
+abbrev pub StopsCreating : RunStop → Type 0
 StopsCreating stop = stop.outcome ≡ outcomes.Create
 
 -- the file of one of those names, which is `-`, can't be read

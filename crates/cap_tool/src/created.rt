@@ -3,10 +3,10 @@ ghost use Rattle.std.specs.Prelude.{IfErr, IfOk, false, option_map};
 ghost use Rattle.cap_tool.specs.Created.{IsCreated};
 ghost use Rattle.cap_tool.specs.Streams.{StopsCreating};
 
-use crate::outcomes::Stop;
+use crate::outcomes::RunStop;
 use crate::regular::FileId;
 use crate::streams::{Output, check_output, check_terminal, create_output};
-use crate::whole::{Beside, create_beside};
+use crate::whole::{AtomicOutput, create_beside};
 use cap_line::Job;
 use std::alloc::Global;
 use std::fs::File;
@@ -19,7 +19,7 @@ fn create_named<R: Files<File = File>>(
     standard: Stdout,
     name: Option<&str>,
     inputs: &[Option<FileId>],
-) -> Result<(Output, Option<Beside>), Stop>
+) -> Result<(Output, Option<AtomicOutput>), RunStop>
     ensures created { IfOk result (IsCreated false (option_map (λ n. n.now) name.entry) standard) }
     ensures stops { IfErr result StopsCreating }
 {
@@ -37,7 +37,7 @@ pub fn create_for<R: Files<File = File>>(
     job: &Job<'_>,
     standard: Stdout,
     inputs: &[Option<FileId>],
-) -> Result<(Output, Option<Beside>), Stop>
+) -> Result<(Output, Option<AtomicOutput>), RunStop>
     ensures created { IfOk result (IsCreated job.now.whole (option_map (λ n. n.now) job.now.out) standard) }
     ensures stops { IfErr result StopsCreating }
 {

@@ -4,7 +4,7 @@ ghost use Rattle.cap_tool.specs.Hints.{IsHintLine, is_of_file, is_of_files, is_o
 
 use crate::causes::Cause;
 use crate::kinds::{Kind, kind_at};
-use crate::outcomes::{Outcome, Stop};
+use crate::outcomes::{Outcome, RunStop};
 use crate::regular::{path_of, regular_at};
 use cap_bytes::{Fault, Refusal, Rule};
 use cap_line::{Job, LineFault, Task, escape};
@@ -211,7 +211,7 @@ fn names_line(alloc: Global, fault: LineFault) -> Option<String>
 pub fn hint<R: Files<File = File>>(
     files: &R,
     alloc: Global,
-    stop: &Stop,
+    stop: &RunStop,
     job: Option<&Job<'_>>,
 ) -> Option<String>
     ensures file { IsSome result → IsTrue (is_of_file stop.now.outcome) }

@@ -9,18 +9,18 @@ use crate::hints::hint;
 use crate::left::{Told, left_lines};
 use crate::objects::tell_in;
 use crate::openers::Opener;
-use crate::outcomes::{Outcome, Stop, status_of, tell};
+use crate::outcomes::{Outcome, RunStop, status_of, tell};
 use crate::outlets::Buffered;
 use crate::progress::Progress;
+use crate::progress_devices::ProgressDevice;
 use crate::regular::{FileId, FileType};
 use crate::runs::{run_words, tell_unread};
-use crate::shared::{Shared, SharedOutput};
+use crate::shared::{OutputHandle, SharedOutput};
 use crate::streams::{Input, Output};
 use crate::systems::System;
-use crate::watched::Watched;
-use crate::whole::Beside;
+use crate::whole::AtomicOutput;
 use cap_bytes::{Tracked, put_all};
-use cap_commands::Left;
+use cap_commands::DroppedInfo;
 use cap_line::{Job, LineFault};
 use cap_print::Form;
 use std::alloc::Global;
@@ -82,20 +82,23 @@ impl<'a, R: Files<File = File> + Clock + AllocGlobal> Opener for Host<'a, R> {
     ghost use Rattle.cap_bytes.specs.Tracked.{tracked_inner};
     ghost use Rattle.cap_tool.specs.CheckedNames.{IsOpenedBy};
     ghost use Rattle.cap_tool.specs.Host.{host_is_closed};
-    ghost use Rattle.cap_tool.specs.Watched.{watched_inner};
+    ghost use Rattle.cap_tool.specs.ProgressDevice.{progress_inner};
 
-    type Reader = Watched<'a, Tracked<Input>, R>;
+    type Reader = ProgressDevice<'a, Tracked<Input>, R>;
 
     ghost gives = { λ h name reader. IsOpenedBy (host_is_closed h) name
-        (option_map (λ w. tracked_inner (watched_inner w)) reader) };
+        (option_map (λ w. tracked_inner (progress_inner w)) reader) };
 
-    fn open(&self, name: &str) -> Result<(Watched<'a, Tracked<Input>, R>, FileType), Cause> {
+    fn open(&self, name: &str) -> Result<(ProgressDevice<'a, Tracked<Input>, R>, FileType), Cause> {
         if self.is_closed && name == "-" {
             return Err(Cause::Closed);
         }
         let input = Input::open(self.rt, self.streams.input, name)?;
         let file_type = input.file_type(self.rt);
-        Ok((Watched::new(Tracked::new(input), self.progress), file_type))
+        Ok((
+            ProgressDevice::new(Tracked::new(input), self.progress),
+            file_type,
+        ))
     }
 }
 
@@ -122,11 +125,12 @@ fn tell_job(
 fn explain<R: Files<File = File> + AllocGlobal>(
     rt: &R,
     job: Option<&Job<'_>>,
-    stop: &Stop,
+    stop: &RunStop,
     told: &Told,
     faults: &mut Tracked<Stderr>,
 ) {
     let lines = left_lines(&stop.outcome, &told.left);
+    // a standard error that fails doesn't change how the run ends
     let _ = put_all(faults, lines.as_slice());
     if let Some(line) = hint(rt, rt.alloc(), stop, job) {
         let _ = put_all(faults, line.as_bytes());
@@ -137,18 +141,18 @@ impl<'a, R: Files<File = File> + Clock + AllocGlobal> System for Host<'a, R> {
     ghost use Rattle.std.specs.Prelude.{MatchResult};
     ghost use Rattle.cap_bytes.specs.declared.faults.Fault.TheVariants.{Memory};
     ghost use Rattle.cap_tool.specs.declared.outcomes.Outcome.TheVariants as Outcome;
-    ghost use Rattle.cap_tool.specs.Host.{Settles, host_is_closed};
+    ghost use Rattle.cap_tool.specs.Host.{Commits, host_is_closed};
 
-    type Writer = Watched<'a, Shared<'a>, R>;
+    type Writer = ProgressDevice<'a, OutputHandle<'a>, R>;
 
-    type Name = Option<Beside>;
+    type Name = Option<AtomicOutput>;
 
     ghost lacks_input = { λ h. host_is_closed h };
 
     ghost makes = { λ h job ids result. MatchResult result (λ made. is_some made.1 ≡ (job.whole && is_some job.out))
         (λ stop. (stop.outcome ≡ Outcome.Create) ⊎ (stop.outcome ≡ Outcome.Fault Memory)) };
 
-    ghost settles = { λ h name answer result. Settles (is_some name) answer result };
+    ghost commits = { λ h name answer result. Commits (is_some name) answer result };
 
     fn has_no_input(&self) -> bool {
         self.is_closed
@@ -163,7 +167,13 @@ impl<'a, R: Files<File = File> + Clock + AllocGlobal> System for Host<'a, R> {
         job: &Job<'_>,
         inputs: &[Option<FileId>],
         size: Option<u64>,
-    ) -> Result<(Watched<'a, Shared<'a>, R>, Option<Beside>), Stop> {
+    ) -> Result<
+        (
+            ProgressDevice<'a, OutputHandle<'a>, R>,
+            Option<AtomicOutput>,
+        ),
+        RunStop,
+    > {
         let alloc = self.rt.alloc();
         let (output, beside) = create_for(self.rt, alloc, job, self.streams.output, inputs)?;
         let screen = screen_of(self.rt, self.streams.faults, &output);
@@ -174,30 +184,34 @@ impl<'a, R: Files<File = File> + Clock + AllocGlobal> System for Host<'a, R> {
                 if let Some(beside) = beside {
                     beside.remove(self.rt);
                 }
-                return Err(Stop::from(outcome));
+                return Err(RunStop::from(outcome));
             }
         }
         self.progress.begin(screen, is_terminal, size);
         Ok((
-            Watched::new(Shared::new(self.output), self.progress),
+            ProgressDevice::new(OutputHandle::new(self.output), self.progress),
             beside,
         ))
     }
 
-    fn settle(&self, name: Option<Beside>, answer: Result<Left, Stop>) -> Result<Left, Stop> {
+    fn commit(
+        &self,
+        name: Option<AtomicOutput>,
+        answer: Result<DroppedInfo, RunStop>,
+    ) -> Result<DroppedInfo, RunStop> {
         self.progress.wipe();
         match name {
-            Some(beside) => beside.settle(self.rt, answer),
+            Some(beside) => beside.commit(self.rt, answer),
             None => answer,
         }
     }
 
-    fn tell(&self, stop: Stop, job: Option<&Job<'_>>, said: &[u8], told: &Told) -> Outcome {
+    fn tell(&self, stop: RunStop, job: Option<&Job<'_>>, said: &[u8], told: &Told) -> Outcome {
         let mut faults = Tracked::new(self.streams.faults);
         let mut output = Tracked::new(self.streams.output);
         let outcome = tell_job(stop.outcome, said, job, &mut output, &mut faults);
         if told.counts {
-            let stop = Stop {
+            let stop = RunStop {
                 outcome,
                 cause: stop.cause,
             };

@@ -6,7 +6,7 @@ ghost use Rattle.cap_tool.specs.LeftLines.{count_text, dropped_text, left_text, 
 ghost use Rattle.cap_tool.specs.LeftLines.{names_label as names_label_text};
 
 use crate::outcomes::Outcome;
-use cap_commands::Left;
+use cap_commands::DroppedInfo;
 use cap_print::Line;
 
 /// What is told of a job beside how it ended.
@@ -15,7 +15,7 @@ pub struct Told {
     /// Whether it is told what the job leaves out, or why it isn't done.
     pub counts: bool,
     /// What it leaves out, if that is told.
-    pub left: Left,
+    pub left: DroppedInfo,
 }
 
 // Puts a label and a count before what was put, and what is counted after it, unless the count is 0.
@@ -64,7 +64,7 @@ fn names_label(skipped: u128) -> &'static [u8]
 }
 
 // `not carried on: 3 blocks, names of 1 interface`, `ran back: 1 packet`
-fn count_lines(left: &Left) -> Line
+fn count_lines(left: &DroppedInfo) -> Line
     ensures { text_in result ≡ left_text left.now }
 {
     let mut line = Line::new();
@@ -81,7 +81,7 @@ fn count_lines(left: &Left) -> Line
 
 /// The lines that tell what is left after a run that is done: `not carried on: 3 blocks, names of 1 interface` and `ran
 /// back: 2 packets`, each unless it would tell of none. There is none after any other run.
-pub fn left_lines(outcome: &Outcome, left: &Left) -> Line
+pub fn left_lines(outcome: &Outcome, left: &DroppedInfo) -> Line
     ensures { text_in result ≡ left_told outcome.now left.now }
 {
     match outcome {

@@ -4,8 +4,8 @@
 
 mod causes;
 mod checks;
-mod closed;
 mod created;
+mod errno_writers;
 mod hints;
 mod host;
 mod kinds;
@@ -15,41 +15,41 @@ mod openers;
 mod outcomes;
 mod outlets;
 mod progress;
+mod progress_devices;
 mod regular;
-mod remembered;
+mod reserved_stdio;
 mod runs;
 mod shared;
 mod streams;
 mod systems;
-mod watched;
 mod whole;
 
 pub use crate::causes::Cause;
 pub use crate::checks::check_named;
-pub use crate::closed::{Closed, check_input};
 pub use crate::created::create_for;
+pub use crate::errno_writers::ErrnoWriter;
 pub use crate::hints::hint;
 pub use crate::host::{StandardStreams, run};
 pub use crate::kinds::{Kind, kind_at, kind_of};
 pub use crate::left::{Told, left_lines};
 pub use crate::objects::{outcome_object, tell_in};
 pub use crate::openers::Opener;
-pub use crate::outcomes::{Outcome, Stop, end_of, outcome_line, status_of, tell};
+pub use crate::outcomes::{Outcome, RunStop, end_of, outcome_line, status_of, tell};
 pub use crate::outlets::{Buffered, Outlet};
 pub use crate::progress::{Progress, progress_line};
+pub use crate::progress_devices::ProgressDevice;
 pub use crate::regular::{FileId, FileType, Regular};
-pub use crate::remembered::Remembered;
+pub use crate::reserved_stdio::{ReservedStdio, check_input};
 pub use crate::runs::{do_job, run_job, run_words, tell_unread};
-pub use crate::shared::{Shared, SharedOutput};
+pub use crate::shared::{OutputHandle, SharedOutput};
 pub use crate::streams::{
     Input, Inputs, Output, check_output, check_terminal, create_output, open_all,
 };
 pub use crate::systems::System;
-pub use crate::watched::Watched;
-pub use crate::whole::{Beside, create_beside};
+pub use crate::whole::{AtomicOutput, create_beside};
 pub use cap_commands::{
-    Differences, Done, Finding, Left, blocks_json_to, blocks_to, convert_and_count, convert_to,
-    diff_in, diff_to, digests_to, fault_line, job_to, join_and_count, join_to, join_to_pcap,
-    list_json_to, list_to, merge_and_count, merge_to, merge_to_pcap,
+    Differences, Done, DroppedInfo, Finding, blocks_json_to, blocks_to, convert_and_count,
+    convert_to, diff_in, diff_to, digests_to, fault_line, job_to, join_and_count, join_to,
+    join_to_pcap, list_json_to, list_to, merge_and_count, merge_to, merge_to_pcap,
 };
 pub use cap_line::{Job, LineFault, parse};

@@ -220,6 +220,7 @@ fn tell_object<O: Sink, E: Sink>(
         },
         _ => outcome,
     };
+    // if this fails, no stream is left to report it on
     let _ = put_told_object(&ending, said, paths, faults);
     ending
 }

@@ -34,42 +34,42 @@ pub enum Outcome {
 
 /// Why a run ended other than by `Outcome::Done`.
 #[derive(Debug, PartialEq, Eq, Drop)]
-pub struct Stop {
+pub struct RunStop {
     /// How it ended.
     pub outcome: Outcome,
     /// Why it ended so.
     pub cause: Cause,
 }
 
-impl From<Outcome> for Stop {
+impl From<Outcome> for RunStop {
     ghost use Rattle.cap_tool.specs.declared.causes.Cause.TheVariants.{Unknown};
 
     ghost from_gives = { λ outcome stop. stop ≡ record { outcome = outcome; cause = Unknown } };
 
-    fn from(outcome: Outcome) -> Stop {
-        Stop {
+    fn from(outcome: Outcome) -> RunStop {
+        RunStop {
             outcome,
             cause: Cause::Unknown,
         }
     }
 }
 
-impl Stop {
+impl RunStop {
     /// A run whose output can't be created.
-    pub fn create(cause: Cause) -> Stop
+    pub fn create(cause: Cause) -> RunStop
         ensures { result ≡ record { outcome = Outcome.Create; cause = cause } }
     {
-        Stop {
+        RunStop {
             outcome: Outcome::Create,
             cause,
         }
     }
 
     /// A run in which memory was refused.
-    pub fn memory() -> Stop
+    pub fn memory() -> RunStop
         ensures { result ≡ record { outcome = Outcome.Fault Fault.Memory; cause = Cause.Memory } }
     {
-        Stop {
+        RunStop {
             outcome: Outcome::Fault(Fault::Memory),
             cause: Cause::Memory,
         }
@@ -201,6 +201,7 @@ pub fn tell<O: Sink, E: Sink>(
         },
         _ => outcome,
     };
+    // if this fails, no stream is left to report it on
     let _ = put_told(&ending, said, faults);
     ending
 }

@@ -1,8 +1,8 @@
 //! What a run writes to: a device in whose buffer bytes may wait until it is flushed.
 ghost use Rattle.std.specs.Prelude.{◌≡◌, ◌<◌, ◌⊎◌, ℕ, List, [], IsTrue, IsErr, IfErr, IfOk, OnOk};
 
+use crate::errno_writers::ErrnoWriter;
 use crate::outcomes::Outcome;
-use crate::remembered::Remembered;
 use cap_bytes::{Broken, Device, Fault, Sink};
 use std::alloc::Global;
 use std::io;
@@ -28,7 +28,7 @@ pub trait Outlet: Sink {
 /// bytes.
 #[derive(Drop)]
 pub struct Buffered<W: Write + Drop> {
-    writer: BufWriter<Remembered<W>>,
+    writer: BufWriter<ErrnoWriter<W>>,
     failed: bool,
 }
 
@@ -42,7 +42,7 @@ impl<W: Write + Drop> Buffered<W> {
         ensures waiting { IfOk result (λ made. buffered_waiting made ≡ []) }
         ensures memory { IfErr result (λ outcome. outcome ≡ Outcome.Fault Fault.Memory) }
     {
-        match BufWriter::with_capacity(alloc, size, Remembered::new(inner)) {
+        match BufWriter::with_capacity(alloc, size, ErrnoWriter::new(inner)) {
             Ok(writer) => Ok(Buffered {
                 writer,
                 failed: false,

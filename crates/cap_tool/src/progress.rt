@@ -208,6 +208,7 @@ impl<'a, C: Clock> Progress<'a, C> {
     pub fn wipe(&self) {
         if let Some(screen) = self.screen.get() {
             if self.stands.replace(false) {
+                // a terminal that fails shows no line
                 let _ = (&screen.stream).write_all(WIPE);
             }
         }

@@ -13,18 +13,18 @@ ghost use Rattle.cap_commands.specs.Jobs.{finding_in};
 ghost use Rattle.cap_tool.specs.Outcomes.{is_help};
 ghost use Rattle.cap_tool.specs.Runs.{EndsBy, Runs, RunsChecks, RunsFiles, RunsJob, StopsFirst};
 ghost use Rattle.cap_tool.specs.Runs.{ended_as, is_check, names_of, outcome_after};
-ghost use Rattle.cap_tool.specs.declared.outcomes.Stop.{Stop};
+ghost use Rattle.cap_tool.specs.declared.outcomes.RunStop.{RunStop};
 
 use crate::causes::Cause;
 use crate::checks::check_named;
-use crate::closed::check_input;
 use crate::left::Told;
-use crate::outcomes::{Outcome, Stop, end_of};
+use crate::outcomes::{Outcome, RunStop, end_of};
 use crate::outlets::Outlet;
+use crate::reserved_stdio::check_input;
 use crate::streams::{Inputs, open_all};
 use crate::systems::System;
 use cap_bytes::{Fault, Source};
-use cap_commands::{Done, Finding, Left, NOTHING_LEFT, job_to};
+use cap_commands::{Done, DroppedInfo, Finding, NOTHING_LEFT, job_to};
 use cap_line::{Job, LineFault, NOT_UTF_8, Task, USAGE, message, parse};
 use std::alloc::Global;
 use std::convert::AsStr;
@@ -32,9 +32,9 @@ use std::convert::AsStr;
 // How a command ends that returned that and left that out, once what waits in its writer's buffer is written.
 fn end_in<W: Outlet>(
     answer: Result<Finding, Fault>,
-    left: Left,
+    left: DroppedInfo,
     writer: &mut W,
-) -> Result<Left, Stop>
+) -> Result<DroppedInfo, RunStop>
     ensures ends { IsTrue (W.tells_held writer.old) → EndsBy answer (W.waiting writer.new) result }
     ensures held { IsTrue (W.tells_held writer.old) → W.held writer.new ≡ W.held writer.old }
     ensures help { IsFalse (is_help (outcome_after result)) }
@@ -43,7 +43,7 @@ fn end_in<W: Outlet>(
 {
     match end_of(answer, writer.flush()) {
         Ok(()) => Ok(left),
-        Err(outcome) => Err(Stop {
+        Err(outcome) => Err(RunStop {
             outcome,
             cause: Cause::of_error(writer.error()),
         }),
@@ -51,7 +51,7 @@ fn end_in<W: Outlet>(
 }
 
 // What a job found, and what it left out: nothing after a fault.
-fn split(answer: Result<Done, Fault>) -> (Result<Finding, Fault>, Left)
+fn split(answer: Result<Done, Fault>) -> (Result<Finding, Fault>, DroppedInfo)
     ensures finding { result.0 ≡ finding_in answer }
     ensures left { IfOk answer (λ done. result.1 ≡ done.left) }
 {
@@ -70,7 +70,7 @@ pub fn run_job<R: Source, W: Outlet>(
     sources: Vec<R>,
     counts: bool,
     writer: &mut W,
-) -> Result<Left, Stop>
+) -> Result<DroppedInfo, RunStop>
     requires whole { IsWholeJob job.now }
     requires sources { vec_len sources ≡ vec_len job.now.files }
     ensures runs { IsTrue (list_all R.tells_coming sources.items) → IsTrue (W.tells_held writer.old)
@@ -90,7 +90,7 @@ fn open_inputs<S: System>(
     system: &S,
     alloc: Global,
     job: &Job<'_>,
-) -> Result<Inputs<S::Reader>, Stop>
+) -> Result<Inputs<S::Reader>, RunStop>
     requires { IsWholeJob job.now }
     ensures opened { IfOk result (λ inputs. AreGiven (S.gives system.now) (names_of job.now)
         (map Some inputs.sources.items)) }
@@ -112,14 +112,17 @@ fn is_folder(folders: &[bool], file: u32) -> bool {
 }
 
 // How a run ended, with the cause of a read that failed: the file is a folder.
-fn with_read_cause(ended: Result<Left, Stop>, folders: &[bool]) -> Result<Left, Stop>
+fn with_read_cause(
+    ended: Result<DroppedInfo, RunStop>,
+    folders: &[bool],
+) -> Result<DroppedInfo, RunStop>
     ensures ended { ended_as result ≡ ended_as ended }
     ensures left { IfOk ended (λ left. result ≡ Ok left) }
 {
     match ended {
         Ok(left) => Ok(left),
         Err(stop) => match stop.outcome {
-            Outcome::Fault(Fault::Read { file, .. }) if is_folder(folders, file) => Err(Stop {
+            Outcome::Fault(Fault::Read { file, .. }) if is_folder(folders, file) => Err(RunStop {
                 outcome: stop.outcome,
                 cause: Cause::Folder,
             }),
@@ -134,7 +137,7 @@ fn run_files<S: System>(
     alloc: Global,
     job: &Job<'_>,
     counts: bool,
-) -> Result<Left, Stop>
+) -> Result<DroppedInfo, RunStop>
     requires { IsWholeJob job.now }
     ensures runs { StopsFirst (S.gives system.now) (S.makes system.now job.now) (S.lacks_input system.now) job.now
         result
@@ -146,17 +149,17 @@ fn run_files<S: System>(
           told = S.Writer.tells_held w;
           held = S.Writer.held w;
           waiting = S.Writer.waiting w;
-        }) (S.settles system.now) job.now result }
+        }) (S.commits system.now) job.now result }
     ensures help { IsFalse (is_help (outcome_after result)) }
 {
     let inputs = open_inputs(system, alloc, job)?;
     let (mut writer, name) = system.create(job, inputs.ids.as_slice(), inputs.size)?;
     let ended = run_job(alloc, job, inputs.sources, counts, &mut writer);
-    system.settle(name, with_read_cause(ended, inputs.folders.as_slice()))
+    system.commit(name, with_read_cause(ended, inputs.folders.as_slice()))
 }
 
 // Does `check`, whose files are opened one after another once its output is created.
-fn run_checks<S: System>(system: &S, alloc: Global, job: &Job<'_>) -> Result<Left, Stop>
+fn run_checks<S: System>(system: &S, alloc: Global, job: &Job<'_>) -> Result<DroppedInfo, RunStop>
     requires { IsWholeJob job.now }
     ensures runs { StopsFirst (S.gives system.now) (S.makes system.now job.now) (S.lacks_input system.now) job.now
         result
@@ -168,13 +171,13 @@ fn run_checks<S: System>(system: &S, alloc: Global, job: &Job<'_>) -> Result<Lef
           told = S.Writer.tells_held w;
           held = S.Writer.held w;
           waiting = S.Writer.waiting w;
-        }) (S.settles system.now) job.now result }
+        }) (S.commits system.now) job.now result }
     ensures help { IsFalse (is_help (outcome_after result)) }
 {
     let (mut writer, name) = system.create(job, &[], None)?;
     let answer = check_named(system, alloc, job, &mut writer);
     let ended = end_in(answer, NOTHING_LEFT, &mut writer);
-    system.settle(name, ended)
+    system.commit(name, ended)
 }
 
 // Whether a task is `check`.
@@ -188,7 +191,12 @@ fn is_check(task: Task) -> bool
 }
 
 // Does a job over a system: `check` opens its files one after another, any other job all of them before it begins.
-fn run_task<S: System>(system: &S, alloc: Global, job: &Job<'_>, counts: bool) -> Result<Left, Stop>
+fn run_task<S: System>(
+    system: &S,
+    alloc: Global,
+    job: &Job<'_>,
+    counts: bool,
+) -> Result<DroppedInfo, RunStop>
     requires { IsWholeJob job.now }
     ensures runs { Runs (S.gives system.now) (λ s. record {
       told = S.Reader.tells_coming s;
@@ -198,7 +206,7 @@ fn run_task<S: System>(system: &S, alloc: Global, job: &Job<'_>, counts: bool) -
       told = S.Writer.tells_held w;
       held = S.Writer.held w;
       waiting = S.Writer.waiting w;
-    }) (S.settles system.now) (S.lacks_input system.now) job.now result }
+    }) (S.commits system.now) (S.lacks_input system.now) job.now result }
     ensures help { IsFalse (is_help (outcome_after result)) }
 {
     if is_check(job.task) {
@@ -209,12 +217,12 @@ fn run_task<S: System>(system: &S, alloc: Global, job: &Job<'_>, counts: bool) -
 }
 
 // How a run ended, and what it left out: nothing if it isn't done.
-fn end_of_run(answer: Result<Left, Stop>) -> (Stop, Left)
+fn end_of_run(answer: Result<DroppedInfo, RunStop>) -> (RunStop, DroppedInfo)
     ensures outcome { result.0.outcome ≡ outcome_after answer }
     ensures left { IfOk answer (λ left. result.1 ≡ left) }
 {
     match answer {
-        Ok(left) => (Stop::from(Outcome::Done), left),
+        Ok(left) => (RunStop::from(Outcome::Done), left),
         Err(stop) => (stop, NOTHING_LEFT),
     }
 }
@@ -222,7 +230,7 @@ fn end_of_run(answer: Result<Left, Stop>) -> (Stop, Left)
 /// Does a job over a system, and tells how it ended: it returns that outcome.
 pub fn do_job<S: System>(system: &S, alloc: Global, job: &Job<'_>) -> Outcome
     requires { IsWholeJob job.now }
-    ensures { (ended : Result Left Stop) × Runs (S.gives system.now) (λ s. record {
+    ensures { (ended : Result DroppedInfo RunStop) × Runs (S.gives system.now) (λ s. record {
       told = S.Reader.tells_coming s;
       bytes = S.Reader.coming s;
       can_fail = S.Reader.can_fail s;
@@ -230,7 +238,7 @@ pub fn do_job<S: System>(system: &S, alloc: Global, job: &Job<'_>) -> Outcome
       told = S.Writer.tells_held w;
       held = S.Writer.held w;
       waiting = S.Writer.waiting w;
-    }) (S.settles system.now) (S.lacks_input system.now) job.now ended × (result ≡ outcome_after ended) }
+    }) (S.commits system.now) (S.lacks_input system.now) job.now ended × (result ≡ outcome_after ended) }
 {
     let counts = job.explain || system.explains();
     let (stop, left) = end_of_run(run_task(system, alloc, job, counts));
@@ -260,7 +268,7 @@ fn tell_fault<S: System, T: AsStr>(
         counts: asks(words) || system.explains(),
         left: NOTHING_LEFT,
     };
-    let stop = Stop::from(Outcome::Line(fault));
+    let stop = RunStop::from(Outcome::Line(fault));
     match message(alloc, words) {
         Some(text) => system.tell(stop, None, text.as_bytes(), &told),
         None => system.tell(stop, None, USAGE.as_bytes(), &told),
@@ -271,7 +279,7 @@ fn tell_fault<S: System, T: AsStr>(
 /// no job end as `parse` answers, unless help could not be written.
 pub fn run_words<S: System, T: AsStr>(system: &S, alloc: Global, words: &[T]) -> Outcome
     ensures { (parsed : Result Job LineFault) × Parses (map T.text words.now) parsed
-        × MatchResult parsed (λ job. (ended : Result Left Stop) × Runs (S.gives system.now) (λ s. record {
+        × MatchResult parsed (λ job. (ended : Result DroppedInfo RunStop) × Runs (S.gives system.now) (λ s. record {
           told = S.Reader.tells_coming s;
           bytes = S.Reader.coming s;
           can_fail = S.Reader.can_fail s;
@@ -279,7 +287,7 @@ pub fn run_words<S: System, T: AsStr>(system: &S, alloc: Global, words: &[T]) ->
           told = S.Writer.tells_held w;
           held = S.Writer.held w;
           waiting = S.Writer.waiting w;
-        }) (S.settles system.now) (S.lacks_input system.now) job ended × (result ≡ outcome_after ended))
+        }) (S.commits system.now) (S.lacks_input system.now) job ended × (result ≡ outcome_after ended))
         (λ fault. IsFalse (is_help (Outcome.Line fault)) → result ≡ Outcome.Line fault) }
 {
     match parse(alloc, words) {
@@ -292,7 +300,7 @@ pub fn run_words<S: System, T: AsStr>(system: &S, alloc: Global, words: &[T]) ->
 pub fn tell_unread<S: System>(system: &S, fault: LineFault) -> Outcome
     ensures { IsFalse (is_help (Outcome.Line fault)) → result ≡ Outcome.Line fault }
 {
-    let stop = Stop::from(Outcome::Line(fault));
+    let stop = RunStop::from(Outcome::Line(fault));
     let told = Told {
         counts: false,
         left: NOTHING_LEFT,

@@ -8,9 +8,9 @@ use std::cell::RefCell;
 use std::io;
 use std::io::ErrorKind;
 
-/// A buffered output that is shared, once there is one: what writes to it goes through a `Shared`, and what reads may
-/// write out what waits. No contract says what a cell holds, so `checks/program.sh` watches that each of these calls
-/// does what the same call of the output does.
+/// A buffered output that is shared, once there is one: what writes to it goes through an `OutputHandle`, and what
+/// reads may write out what waits. No contract says what a cell holds, so `checks/program.sh` watches that each of
+/// these calls does what the same call of the output does.
 #[derive(Drop)]
 pub struct SharedOutput {
     buffered: RefCell<Option<Buffered<Output>>>,
@@ -26,6 +26,7 @@ impl SharedOutput {
 
     /// Shares that output from now on.
     pub fn begin(&self, output: Buffered<Output>) {
+        // no call keeps its borrow of the cell, so this can't fail
         let _ = self.buffered.try_replace(Some(output));
     }
 
@@ -68,26 +69,26 @@ impl SharedOutput {
 
 /// What a run writes to: a shared output.
 #[derive(Drop)]
-pub struct Shared<'a> {
+pub struct OutputHandle<'a> {
     output: &'a SharedOutput,
     failed: bool,
 }
 
-impl<'a> Shared<'a> {
+impl<'a> OutputHandle<'a> {
     /// What writes to `output`.
-    pub fn new(output: &'a SharedOutput) -> Shared<'a> {
-        Shared {
+    pub fn new(output: &'a SharedOutput) -> OutputHandle<'a> {
+        OutputHandle {
             output,
             failed: false,
         }
     }
 }
 
-impl<'a> Device for Shared<'a> {
+impl<'a> Device for OutputHandle<'a> {
     ghost use Rattle.std.specs.Prelude.{true};
-    ghost use Rattle.cap_tool.specs.Shared.{shared_failed};
+    ghost use Rattle.cap_tool.specs.OutputHandle.{handle_failed};
 
-    ghost has_failed = { λ s. shared_failed s };
+    ghost has_failed = { λ s. handle_failed s };
 
     ghost can_fail = { λ _. true };
 
@@ -96,7 +97,7 @@ impl<'a> Device for Shared<'a> {
     }
 }
 
-impl<'a> Sink for Shared<'a> {
+impl<'a> Sink for OutputHandle<'a> {
     ghost use Rattle.std.specs.Prelude.{false, []};
 
     ghost tells_held = { λ _. false };
@@ -110,7 +111,7 @@ impl<'a> Sink for Shared<'a> {
     }
 }
 
-impl<'a> Outlet for Shared<'a> {
+impl<'a> Outlet for OutputHandle<'a> {
     ghost use Rattle.std.specs.Prelude.{[]};
 
     ghost waiting = { λ _. [] };

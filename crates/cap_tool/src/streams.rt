@@ -6,7 +6,7 @@ ghost use Rattle.cap_tool.specs.Streams.{IsOutFile, IsStandardOut, StopsOpening,
 
 use crate::causes::Cause;
 use crate::openers::Opener;
-use crate::outcomes::{Outcome, Stop};
+use crate::outcomes::{Outcome, RunStop};
 use crate::regular::{
     FileId, FileType, Regular, id_of, is_any_input, is_input, regular_at, regular_file, regular_of,
     standard_id, type_of,
@@ -151,14 +151,14 @@ fn standard_output(
     standard: Stdout,
     goes_to: Option<FileId>,
     inputs: &[Option<FileId>],
-) -> Result<Output, Stop>
+) -> Result<Output, RunStop>
     ensures input { IsSomeAnd goes_to (λ i. Contains inputs.now (Some i))
         → result ≡ Err (record { outcome = Outcome.Create; cause = Cause.IsInput }) }
     ensures other { (IsSomeAnd goes_to (λ i. Contains inputs.now (Some i)) → ⊥)
         → result ≡ Ok (Output.Standard standard) }
 {
     if is_input(goes_to, inputs) {
-        Err(Stop::create(Cause::IsInput))
+        Err(RunStop::create(Cause::IsInput))
     } else {
         Ok(Output::Standard(standard))
     }
@@ -173,7 +173,7 @@ pub fn create_output<R: Files<File = File>>(
     standard: Stdout,
     name: Option<&str>,
     inputs: &[Option<FileId>],
-) -> Result<Output, Stop>
+) -> Result<Output, RunStop>
     ensures standard { option_map (λ n. n.now) name.entry ≡ None → IfOk result (λ o. o ≡ Output.Standard standard) }
     ensures dash { option_map (λ n. n.now) name.entry ≡ Some (codes "-")
         → IfOk result (λ o. o ≡ Output.Standard standard) }
@@ -182,7 +182,7 @@ pub fn create_output<R: Files<File = File>>(
 {
     match name {
         Some(name) if name != "-" => {
-            Output::create(files, standard, name, inputs).map_err(Stop::create)
+            Output::create(files, standard, name, inputs).map_err(RunStop::create)
         }
         _ => standard_output(standard, standard_id(files), inputs),
     }
@@ -190,26 +190,26 @@ pub fn create_output<R: Files<File = File>>(
 
 /// Refuses to print lines into one of the files of these names, of which `-` is standard input: returns
 /// `Outcome::Create`, and no other outcome, if standard output goes to one of them.
-pub fn check_output<R: Files<File = File>>(files: &R, names: &[&str]) -> Result<(), Stop>
+pub fn check_output<R: Files<File = File>>(files: &R, names: &[&str]) -> Result<(), RunStop>
     ensures stops { IfErr result StopsCreating }
     ensures cause { IfErr result (λ stop. stop.cause ≡ Cause.IsInput) }
 {
     let id = standard_id(files);
     if id.is_some() && is_any_input(files, id, names) {
-        Err(Stop::create(Cause::IsInput))
+        Err(RunStop::create(Cause::IsInput))
     } else {
         Ok(())
     }
 }
 
 /// Refuses standard output, `-`, for a capture if it is a terminal: returns `Outcome::Create`, and no other outcome.
-pub fn check_terminal(standard: Stdout, name: Option<&str>) -> Result<(), Stop>
+pub fn check_terminal(standard: Stdout, name: Option<&str>) -> Result<(), RunStop>
     ensures other { option_map (λ n. n.now) name.entry ≢ Some (codes "-") → result ≡ Ok tt }
     ensures stops { IfErr result StopsCreating }
     ensures cause { IfErr result (λ stop. stop.cause ≡ Cause.IsTerminal) }
 {
     if name == Some("-") && standard.is_terminal() {
-        Err(Stop::create(Cause::IsTerminal))
+        Err(RunStop::create(Cause::IsTerminal))
     } else {
         Ok(())
     }
@@ -255,7 +255,7 @@ pub fn open_all<O: Opener>(
     opener: &O,
     alloc: Global,
     names: &[&str],
-) -> Result<Inputs<O::Reader>, Stop>
+) -> Result<Inputs<O::Reader>, RunStop>
     requires most { length names.now ≤ 4294967295 }
     ensures all { IfOk result (λ inputs. AreGiven (O.gives opener.now) (map (λ n. n.now) names.now)
         (map Some inputs.sources.items)) }
@@ -272,13 +272,13 @@ pub fn open_all<O: Opener>(
     for (place, name) in names.iter().enumerate() {
         let (input, file_type) = match opener.open(name) {
             Ok(opened) => opened,
-            Err(cause) => return Err(Stop {
+            Err(cause) => return Err(RunStop {
                 outcome: Outcome::Open(place as u32 + 1),
                 cause,
             }),
         };
         if inputs.add(input, file_type).is_err() {
-            return Err(Stop::memory());
+            return Err(RunStop::memory());
         }
     }
     Ok(inputs)

@@ -4,11 +4,11 @@ ghost use Rattle.cap_bytes.specs.declared.faults.Fault.TheVariants.{Write};
 ghost use Rattle.cap_tool.specs.Streams.{IsOutFile, StopsCreating};
 
 use crate::causes::Cause;
-use crate::outcomes::{Outcome, Stop};
+use crate::outcomes::{Outcome, RunStop};
 use crate::regular::{FileId, id_of, is_input, regular_of};
 use crate::streams::Output;
 use cap_bytes::Fault;
-use cap_commands::Left;
+use cap_commands::DroppedInfo;
 use std::alloc::{AllocError, Global};
 use std::fs::{File, OpenOptions, Permissions};
 use std::io::ErrorKind;
@@ -20,7 +20,7 @@ const LINKS: u32 = 40;
 
 /// A file that is written beside the one whose name it takes once all is done.
 #[derive(Drop)]
-pub struct Beside {
+pub struct AtomicOutput {
     file: File,
     name: String,
     target: String,
@@ -119,14 +119,15 @@ fn open_beside<R: Files<File = File>>(
     alloc: Global,
     name: &str,
     inputs: &[Option<FileId>],
-) -> Result<(File, Beside), Cause> {
+) -> Result<(File, AtomicOutput), Cause> {
     let permissions = replaceable(files, name, inputs)?;
     let target = real_name(files, alloc, name)?;
     let (file, name) = create_new(files, alloc, target.as_str())?;
     if let Some(permissions) = permissions {
+        // if they can't be set, the file keeps those of a new file
         let _ = file.set_permissions(permissions);
     }
-    let beside = Beside { file, name, target };
+    let beside = AtomicOutput { file, name, target };
     match beside.file.try_clone() {
         Ok(written) => Ok((written, beside)),
         Err(error) => {
@@ -136,7 +137,7 @@ fn open_beside<R: Files<File = File>>(
     }
 }
 
-/// Creates the output of a run beside the file of that name, which stays as it is until the run is settled. Returns
+/// Creates the output of a run beside the file of that name, which stays as it is until the run is committed. Returns
 /// `Outcome::Create`, and no other outcome, with the reason, if it can't be created, and if the file of that name is no
 /// regular one or one of the inputs.
 pub fn create_beside<R: Files<File = File>>(
@@ -144,17 +145,17 @@ pub fn create_beside<R: Files<File = File>>(
     alloc: Global,
     name: &str,
     inputs: &[Option<FileId>],
-) -> Result<(Output, Beside), Stop>
+) -> Result<(Output, AtomicOutput), RunStop>
     ensures file { IfOk result (λ made. IsOutFile made.0) }
     ensures stops { IfErr result StopsCreating }
 {
     match open_beside(files, alloc, name, inputs) {
         Ok((file, beside)) => Ok((Output::File(file), beside)),
-        Err(cause) => Err(Stop::create(cause)),
+        Err(cause) => Err(RunStop::create(cause)),
     }
 }
 
-impl Beside {
+impl AtomicOutput {
     // Gives the file its name, once the disk has it.
     fn rename<R: Files<File = File>>(&self, files: &R) -> io::Result<()> {
         self.file.sync_all()?;
@@ -163,24 +164,26 @@ impl Beside {
 
     /// Removes the file.
     pub fn remove<R: Files<File = File>>(&self, files: &R) {
+        // a file that can't be removed stays: the run reports its own failure
         let _ = fs::remove_file(files, self.name.as_str());
     }
 
-    /// Settles a run that ended so. If all was done, the file takes the name of the output, and the run ends by
-    /// `Fault::Write` if it can't. Else the file is removed, the output is as it was, and the run ends as it did.
-    pub fn settle<R: Files<File = File>>(
+    /// Commits the output of a run that ended so. If all was done, the file takes the name of the output, and the run
+    /// ends by `Fault::Write` if it can't. Else the file is removed, the output is as it was, and the run ends as it
+    /// did.
+    pub fn commit<R: Files<File = File>>(
         &self,
         files: &R,
-        answer: Result<Left, Stop>,
-    ) -> Result<Left, Stop>
+        answer: Result<DroppedInfo, RunStop>,
+    ) -> Result<DroppedInfo, RunStop>
         ensures stopped { IsErr answer → result ≡ answer }
-        ensures left { IfOk answer (λ left. IfOk result (λ settled. settled ≡ left)) }
+        ensures left { IfOk answer (λ left. IfOk result (λ committed. committed ≡ left)) }
         ensures done { IsOk answer → IfErr result (λ stop. stop.outcome ≡ Outcome.Fault Write) }
     {
         let stop = match answer {
             Ok(left) => match self.rename(files) {
                 Ok(()) => return Ok(left),
-                Err(error) => Stop {
+                Err(error) => RunStop {
                     outcome: Outcome::Fault(Fault::Write),
                     cause: Cause::from(error),
                 },

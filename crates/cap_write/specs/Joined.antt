@@ -3,7 +3,7 @@ use Rattle.std.specs.Prelude.{ℕ, ◌+◌, ◌==◌, ◌&&◌, List, [], ◌∷
 use Rattle.std.specs.Prelude.{is_some, option_and_then, if◌then◌else◌}
 use Rattle.cap_bytes.specs.declared.faults.Refusal.{Refusal}
 use Rattle.cap_bytes.specs.declared.numbers.Order.{Order}
-use Rattle.cap_class.specs.Taken.{Look, plain, datagram, fragment, look, taken, events_with_look}
+use Rattle.cap_class.specs.Taken.{Classification, plain, datagram, fragment, classify, taken, events_classified}
 use Rattle.cap_ip.specs.Header.{HeaderFields}
 use Rattle.cap_ip.specs.Transport.{transport_of}
 use Rattle.cap_ip.specs.Written.{ipv4_header_bytes}
@@ -51,7 +51,7 @@ joined_of pieces =
 
 -- The datagram that a packet completes, by what it is by itself, if `group` has the fragments of a fragment's group:
 -- the packet is a whole datagram, or the last fragment that was missing.
-abbrev pub datagram_of : Look → (Piece → List Piece) → Option Complete
+abbrev pub datagram_of : Classification → (Piece → List Piece) → Option Complete
 datagram_of (plain c) group = None
 datagram_of (datagram header captured) group = complete_of header captured header.data_length
 datagram_of (fragment p) group = joined_of (group p)
@@ -63,11 +63,11 @@ group_after clock events p = joined_pieces clock p (open_groups_after open_limit
 -- the datagram that a packet completes, which has that place in the run and that clock
 unfoldable pub completed : ℕ → List Event → Option Stamp → Meta → List ℕ → Option Complete
 completed place events clock meta frame =
-    datagram_of (look place (taken clock meta frame)) (group_after clock events)
+    datagram_of (classify place (taken clock meta frame)) (group_after clock events)
 
 -- and the events after it, the latest first
 unfoldable pub events_after : ℕ → List Event → Option Stamp → Meta → List ℕ → List Event
-events_after place events clock meta frame = events_with_look (look place (taken clock meta frame)) clock events
+events_after place events clock meta frame = events_classified (classify place (taken clock meta frame)) clock events
 
 -- the interface of a written datagram: no link header (LINKTYPE_RAW, 101) and no limit; times as at the packet's own
 abbrev pub raw_interface : Interface → Interface

@@ -13,7 +13,7 @@ ghost use Rattle.cap_write.specs.inner.RunPackets.{completed_by, events_behind};
 ghost use Rattle.cap_write.specs.Joined.{complete_of, group_after, has_form, joined_of};
 
 use cap_bytes::Fault;
-use cap_class::{Seen, look, stamped_of};
+use cap_class::{Classified, classify, stamped_of};
 use cap_ip::{Header, Transport, transport};
 use cap_join::{Joiner, Put};
 use cap_merge::RunPacket;
@@ -150,12 +150,12 @@ pub(crate) fn take_packet(joining: &mut Joining, run: RunPacket<'_>) -> Result<b
     ensures same { joining.new.place ≡ joining.old.place }
     ensures fault { IsOkUnless result Fault.Memory }
 {
-    match look(run.meta, run.frame) {
-        Seen::Plain(_) => Ok(false),
-        Seen::Datagram(header, captured) => {
+    match classify(run.meta, run.frame) {
+        Classified::Plain(_) => Ok(false),
+        Classified::Datagram(header, captured) => {
             joining.joiner.flush(header.key());
             fill_complete(&mut joining.packet, &header, captured, header.data_length())
         }
-        Seen::Fragment(header, bytes) => take_fragment(joining, run, &header, bytes),
+        Classified::Fragment(header, bytes) => take_fragment(joining, run, &header, bytes),
     }
 }

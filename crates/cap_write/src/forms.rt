@@ -16,7 +16,7 @@ use cap_time::Interface;
 
 /// A file that is being written.
 #[derive(Drop)]
-pub(crate) enum Form {
+pub(crate) enum WrittenForm {
     /// A pcapng file, with the origins of the interfaces that it has described.
     Pcapng(Origins),
     /// A pcap file, with the interface of its header, once that is written.
@@ -71,7 +71,7 @@ fn put_headed<W: Sink>(
 
 /// Writes a packet, or returns why it isn't written.
 pub(crate) fn put_in<W: Sink>(
-    form: &mut Form,
+    form: &mut WrittenForm,
     order: Order,
     meta: &Meta,
     frame: &[u8],
@@ -90,18 +90,18 @@ pub(crate) fn put_in<W: Sink>(
     ensures read { IsReadFault result → ⊥ }
 {
     match form {
-        Form::Pcapng(origins) => put_one(origins, order, meta, frame, writer),
-        Form::Pcap(first) => put_headed(first, order, meta, frame, writer),
+        WrittenForm::Pcapng(origins) => put_one(origins, order, meta, frame, writer),
+        WrittenForm::Pcap(first) => put_headed(first, order, meta, frame, writer),
     }
 }
 
 /// The answer at the end of the packets: a pcap file without a header is refused by rule 21, no-interface, of file 1.
-pub(crate) fn end_of(form: &Form) -> Result<(), Fault>
+pub(crate) fn end_of(form: &WrittenForm) -> Result<(), Fault>
     ensures { EndsForm (form_state form.now) result }
 {
     match form {
-        Form::Pcapng(_) => Ok(()),
-        Form::Pcap(Some(_)) => Ok(()),
-        Form::Pcap(None) => Err(no_interface(1)),
+        WrittenForm::Pcapng(_) => Ok(()),
+        WrittenForm::Pcap(Some(_)) => Ok(()),
+        WrittenForm::Pcap(None) => Err(no_interface(1)),
     }
 }

@@ -16,7 +16,7 @@ ghost use Rattle.cap_write.specs.PcapRun.{joined_pcap_bytes, joined_pcap_refusal
 ghost use Rattle.cap_write.specs.inner.RunPackets.{events_behind, items_by};
 
 use crate::datagrams::{Joining, take_packet};
-use crate::forms::{Form, end_of, put_in};
+use crate::forms::{WrittenForm, end_of, put_in};
 use crate::interfaces::{Origins, units_of};
 use cap_blocks::put_section;
 use cap_bytes::{Fault, Order, Sink};
@@ -53,7 +53,7 @@ fn datagram_meta(meta: &Meta, size: u32) -> Meta
 
 // Writes the datagram that a packet of a run completes, if it does.
 fn put_completed<W: Sink>(
-    form: &mut Form,
+    form: &mut WrittenForm,
     joining: &mut Joining,
     order: Order,
     run: RunPacket<'_>,
@@ -94,7 +94,7 @@ fn put_joined<F: PacketFeed, W: Sink>(
     alloc: Global,
     merged: &mut Merged<F>,
     order: Order,
-    form: &mut Form,
+    form: &mut WrittenForm,
     writer: &mut W,
 ) -> Result<(), Fault>
     requires limit { IsFew (form_state form.old) }
@@ -116,7 +116,7 @@ fn put_joined<F: PacketFeed, W: Sink>(
     };
     // 32 files at most, of fewer than 2^40 packets each: so the place stays below 2^63
     let _ = merged.files();
-    while merged.has_packet()? {
+    while merged.peek()? {
         put_completed(form, &mut joining, order, merged.next_packet(), writer)?;
         merged.pass();
         joining.place += 1;
@@ -152,7 +152,7 @@ pub fn write_joined<F: PacketFeed, W: Sink>(
     ensures keeps { FeedKeeps (merged_feed (parts_of merged.old)) (merged_feed (parts_of merged.new)) }
 {
     put_section(writer, order)?;
-    let mut numbered = Form::Pcapng(Origins::new(alloc));
+    let mut numbered = WrittenForm::Pcapng(Origins::new(alloc));
     put_joined(alloc, merged, order, &mut numbered, writer)
 }
 
@@ -183,6 +183,6 @@ pub fn write_joined_pcap<F: PacketFeed, W: Sink>(
     ensures memory { IfMemory result (IsAtPacket (merged_feed (parts_of merged.new)).known) }
     ensures keeps { FeedKeeps (merged_feed (parts_of merged.old)) (merged_feed (parts_of merged.new)) }
 {
-    let mut headed = Form::Pcap(None);
+    let mut headed = WrittenForm::Pcap(None);
     put_joined(alloc, merged, order, &mut headed, writer)
 }

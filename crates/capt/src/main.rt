@@ -1,7 +1,7 @@
 //! The program `capt`: packet captures, read, reported, compared, converted, merged and joined by proved code.
 #![tactic(auto)]
 
-use cap_tool::{Closed, StandardStreams, run};
+use cap_tool::{ReservedStdio, StandardStreams, run};
 use std::process::ExitCode;
 
 fn main(rt: HostRuntime) -> ExitCode {
@@ -10,6 +10,6 @@ fn main(rt: HostRuntime) -> ExitCode {
         output: rt.stdout(),
         faults: rt.stderr(),
     };
-    let closed = Closed::find(&rt, streams.input, streams.output, streams.faults);
+    let closed = ReservedStdio::find(&rt, streams.input, streams.output, streams.faults);
     ExitCode::from(run(&rt, streams, closed.has_no_input()))
 }

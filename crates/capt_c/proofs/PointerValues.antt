@@ -12,8 +12,8 @@ use denote.Steps.{nothing}
 use denote.Struct.Struct.{within}
 use denote.Struct.Owning.{shape}
 use Rattle.std.specs.Prelude.{Option, Some, None, IsSome}
-use Rattle.capt_c.specs.Held.{owned}
-use Rattle.capt_c.specs.declared.handles.Held.{Held}
+use Rattle.capt_c.specs.HandleValue.{owned}
+use Rattle.capt_c.specs.declared.handles.HandleValue.{HandleValue}
 use Rattle.capt_c.specs.contracts.handles.OwnedPointer as pointer
 use Rattle.capt_c.proofs.handles.OwnedPointer.TheLaws.{mir as pointer_mir}
 
@@ -28,7 +28,7 @@ Off true = ⊥
 Off false = Unit {0}
 
 -- what an option that is there holds
-pub inside : (m : Option Held) → IsSome m → (x : Held) × (m ≡ Some x)
+pub inside : (m : Option HandleValue) → IsSome m → (x : HandleValue) × (m ≡ Some x)
 inside None t = absurd (subst Off t tt)
 inside (Some x) t = (x, refl)
 
@@ -37,7 +37,7 @@ word_good (block_ptr b o) = (tt, (tt, tt))
 word_good null_ptr = (tt, (record { fits = lit< tt }, tt))
 
 module _ {M : Type 1} {𝓤 : Ura M} {𝓛 : Logic 𝓤} {K : Type 0} {Γ : List (Item 𝓤)} {G : Goal 𝓤 𝓛.H} where
-  pub pointer_in : K → (p : Ptr) (x : Option Held)
+  pub pointer_in : K → (p : Ptr) (x : Option HandleValue)
       → Step K 𝓛 (‵ (Row.own_val (record { at = p; value = x }) (word p ∷ [])) ∷ Γ) G (‵ (owned p x) ∷ Γ) G
   pointer_in t p x = step (λ s.
       nothing t $ feq_i t (List Val) (ptr_val p ∷ []) (ptr_val p ∷ []) refl $ fjoin t $

@@ -7,7 +7,7 @@ use Rattle.cap_bytes.specs.declared.formats.Format.{Format}
 use Rattle.cap_bytes.specs.declared.formats.Format.TheVariants.{Pcap, Pcapng}
 use Rattle.cap_bytes.specs.declared.numbers.Order.{Order}
 use Rattle.cap_bytes.specs.declared.numbers.Order.TheVariants.{Big, Little}
-use Rattle.capt_c.specs.declared.answers.Place.{Place}
+use Rattle.capt_c.specs.declared.answers.CPlace.{CPlace}
 
 -- the status of a call that returns that fault
 abbrev pub status_of : Fault → ℕ
@@ -16,10 +16,10 @@ status_of (Read file offset) = 3
 status_of Write = 4
 status_of Memory = 5
 
-abbrev pub nowhere : Place
+abbrev pub nowhere : CPlace
 nowhere = record { offset = 0; file = 0; rule = 0 }
 
-abbrev pub place_of_fault : Fault → Place
+abbrev pub place_of_fault : Fault → CPlace
 place_of_fault (Refused refusal) = record {
   offset = refusal.offset;
   file = refusal.file;
@@ -36,7 +36,7 @@ status_of_result of_success (Ok success) = of_success success
 status_of_result of_success (Err fault) = status_of fault
 
 -- the place of a call that returns that: none if there is no fault
-abbrev pub place_of_result : {A : Type 0} → Result A Fault → Place
+abbrev pub place_of_result : {A : Type 0} → Result A Fault → CPlace
 place_of_result (Ok success) = nowhere
 place_of_result (Err fault) = place_of_fault fault
 

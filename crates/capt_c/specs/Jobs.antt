@@ -14,15 +14,15 @@ use Rattle.cap_commands.specs.JoinText.{join_refusal, join_text}
 use Rattle.cap_commands.specs.ListText.{list_refusal, list_text}
 use Rattle.cap_commands.specs.MergeText.{merge_refusal, merge_text}
 use Rattle.capt_c.specs.Answers.{nowhere, place_of_result, status_of_result, status_of_unit}
-use Rattle.capt_c.specs.declared.answers.Place.{Place}
-use Rattle.capt_c.specs.declared.handles.Held.{Held}
-use Rattle.capt_c.specs.declared.handles.Held.TheVariants as helds
+use Rattle.capt_c.specs.declared.answers.CPlace.{CPlace}
+use Rattle.capt_c.specs.declared.handles.HandleValue.{HandleValue}
+use Rattle.capt_c.specs.declared.handles.HandleValue.TheVariants as helds
 use denote.RawPtr.{null_ptr}
 use Rattle.std.specs.Vec.{vec_ptr}
-use Rattle.capt_c.specs.Held.{IsClosed}
+use Rattle.capt_c.specs.HandleValue.{IsClosed}
 use Rattle.capt_c.specs.declared.jobs.Bytes.{Bytes}
-use Rattle.capt_c.specs.declared.jobs.Task.{Task}
-use Rattle.capt_c.specs.declared.jobs.Task.TheVariants as tasks
+use Rattle.capt_c.specs.declared.jobs.TextTask.{TextTask}
+use Rattle.capt_c.specs.declared.jobs.TextTask.TheVariants as tasks
 use Rattle.capt_c.specs.declared.jobs.Text.{Text}
 
 -- the bytes of a file
@@ -45,7 +45,7 @@ pub record IsTextClosed (text : Text) : Type 0 where
 
 -- A caller is shown that text of the job that ended so, where the vector that is held has it, or for want of memory a
 -- text that is closed.
-abbrev pub Shown : List ℕ → Result Unit Fault → ℕ → Place → Text → Option Held → Type 0
+abbrev pub Shown : List ℕ → Result Unit Fault → ℕ → CPlace → Text → Option HandleValue → Type 0
 Shown items answer status place text None = IsTextClosed text × (status ≡ 5) × (place ≡ nowhere)
 Shown items answer status place text (Some (helds.Capture c)) = ⊥
 Shown items answer status place text (Some (helds.Fed f)) = ⊥
@@ -56,7 +56,7 @@ Shown items answer status place text (Some (helds.Text bytes)) =
 
 -- A caller is shown a text that was made as `Does` says, from nothing, and how the job ended; or nothing for want of
 -- memory.
-abbrev pub JobEnds : (List ℕ → Result Unit Fault → List ℕ → Type 0) → ℕ → Place → Text → Type 0
+abbrev pub JobEnds : (List ℕ → Result Unit Fault → List ℕ → Type 0) → ℕ → CPlace → Text → Type 0
 JobEnds Does status place text =
     (answer : Result Unit Fault) × (items : List ℕ) × Does [] answer items
     × Shown items answer status place text text.handle.kept.value
@@ -66,7 +66,7 @@ abbrev pub AreFiles : ℕ → Type 0
 AreFiles count = (1 ≤ count) × (count ≤ 32)
 
 -- A task has its file, or as many files as a call takes.
-abbrev pub HasFiles : Task → Type 0
+abbrev pub HasFiles : TextTask → Type 0
 HasFiles (tasks.List bytes) = ⊤
 HasFiles (tasks.Blocks bytes) = ⊤
 HasFiles (tasks.Convert bytes order format) = ⊤
@@ -76,7 +76,7 @@ HasFiles (tasks.Merge files order) = AreFiles (length files.now)
 HasFiles (tasks.Join files order) = AreFiles (length files.now)
 
 -- What a task writes and returns is what the command of its name does.
-abbrev pub Makes : Task → Tail → List ℕ → Result Unit Fault → List ℕ → Type 0
+abbrev pub Makes : TextTask → Tail → List ℕ → Result Unit Fault → List ℕ → Type 0
 Makes (tasks.List bytes) tail = Prints (list_text tail bytes.now) (list_refusal tail bytes.now)
 Makes (tasks.Blocks bytes) tail = Prints (block_list tail bytes.now) (block_refusal tail bytes.now)
 Makes (tasks.Convert bytes order format) tail =
@@ -94,7 +94,8 @@ Makes (tasks.Join files order) tail =
 -- What a call returns and leaves that makes the text of a task: the text, and how the task ended, and no read fails. If
 -- the task lacks its files, the call is misused and changes nothing. `was` and `from` are the caller's text and place
 -- before it.
-pub record ShowsTask (task : Task) (tail : Tail) (was : Text) (from : Place) (status : ℕ) (text : Text) (place : Place)
+pub record ShowsTask (task : TextTask) (tail : Tail) (was : Text) (from : CPlace) (status : ℕ) (text : Text)
+    (place : CPlace)
     : Type 0 where
   pub shown : HasFiles task → JobEnds (Makes task tail) status place text
   pub read : status ≡ 3 → ⊥

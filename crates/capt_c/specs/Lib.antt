@@ -1,5 +1,5 @@
 pub mod Answers
-pub mod Held
+pub mod HandleValue
 pub mod Sources
 pub mod Packets
 pub mod Feeding

@@ -4,7 +4,7 @@ use Rattle.cap_bytes.specs.Rules.{rule_number, rule_name}
 use Rattle.cap_bytes.specs.declared.faults.Fault.{Fault}
 use Rattle.cap_bytes.specs.declared.faults.Fault.TheVariants.{Refused, Read, Write, Memory}
 use Rattle.cap_bytes.specs.declared.faults.Rule.{Rule}
-use Rattle.capt_c.specs.declared.answers.Place.{Place}
+use Rattle.capt_c.specs.declared.answers.CPlace.{CPlace}
 
 -- As much of a text as there was room for was put into a buffer, which keeps what is behind it, and `count` is the
 -- text's whole length.
@@ -17,7 +17,7 @@ pub record NamesRule (number count : ℕ) (old new : List ℕ) : Type 0 where
   pub none : ((rule : Rule) → rule_number rule ≡ number → ⊥) → (count ≡ 0) × (new ≡ old)
 
 -- A status and a place tell that fault: of a refusal the place says all, of a failed read where it was.
-abbrev pub TellsFault : ℕ → Place → Fault → Type 0
+abbrev pub TellsFault : ℕ → CPlace → Fault → Type 0
 TellsFault status place (Refused refusal) =
     (status ≡ 2) × (refusal.file ≡ place.file) × (refusal.offset ≡ place.offset)
     × (rule_number refusal.rule ≡ place.rule)

@@ -9,7 +9,7 @@ use Rattle.cap_source.specs.declared.feeds.Head.TheVariants as heads
 use Rattle.cap_source.specs.declared.packets.Meta.{Meta}
 use Rattle.cap_time.specs.declared.resolutions.Interface.{Interface}
 use Rattle.cap_time.specs.Stamp.{stamp_in, seconds_of, numerator_of, denominator_of}
-use Rattle.capt_c.specs.declared.packets.Packet.{Packet}
+use Rattle.capt_c.specs.declared.packets.CPacket.{CPacket}
 
 -- the time of that many units of an interface in four numbers; none has a denominator of 0
 abbrev pub ShowsTime : Option ℕ → Interface → ℤ → ℕ → ℕ → ℕ → Type 0
@@ -19,7 +19,7 @@ ShowsTime (Some units) interface seconds carry numerator denominator =
     × (numerator ≡ numerator_of (stamp_in units interface)) × (denominator ≡ denominator_of (stamp_in units interface))
 
 -- a packet is these numbers
-pub record ShowsFields (meta : Meta) (p : Packet) : Type 0 where
+pub record ShowsFields (meta : Meta) (p : CPacket) : Type 0 where
   pub offset : p.offset ≡ meta.offset
   pub instance : p.instance ≡ meta.instance
   pub captured : p.captured ≡ meta.captured
@@ -42,7 +42,7 @@ AgreesWithKnown known answer = IfSome known (λ head. answer ≡ head_answer hea
 -- The next packet was returned and passed, or it is known that there is none. If the bytes of the capture are known,
 -- it was the next of its packets, and the refusal is the one that ends them. After a refused growth the packets to come
 -- are the same.
-abbrev pub LeavesPacket : Feed → Result Bool Fault → Packet → Feed → Type 0
+abbrev pub LeavesPacket : Feed → Result Bool Fault → CPacket → Feed → Type 0
 LeavesPacket old (Ok true) p new =
     (meta : Meta) × ShowsFields meta p × (IsTrue old.told → (frame : List ℕ)
     × (old.items ≡ packet meta frame ∷ new.items))
@@ -54,18 +54,18 @@ LeavesPacket old (Err Write) p new = ⊥
 LeavesPacket old (Err Memory) p new = IsTrue old.told → new.items ≡ old.items
 
 -- a caller's packet is written only if one is returned
-abbrev pub KeepsUnless : Result Bool Fault → Packet → Packet → Type 0
+abbrev pub KeepsUnless : Result Bool Fault → CPacket → CPacket → Type 0
 KeepsUnless (Ok true) was p = ⊤
 KeepsUnless (Ok false) was p = p ≡ was
 KeepsUnless (Err fault) was p = p ≡ was
 
 -- what a call for the next packet returns and leaves
-abbrev pub StepsPacket : Feed → Packet → Result Bool Fault → Packet → Feed → Type 0
+abbrev pub StepsPacket : Feed → CPacket → Result Bool Fault → CPacket → Feed → Type 0
 StepsPacket old was answer p new =
     AgreesWithKnown old.known answer × LeavesPacket old answer p new × KeepsUnless answer was p
 
 -- Those packets were told, one after another.
-abbrev pub Told : List Item → List Packet → List Item → Type 0
+abbrev pub Told : List Item → List CPacket → List Item → Type 0
 Told old [] new = new ≡ old
 Told old (p ∷ ps) new =
     (meta : Meta) × (frame : List ℕ) × (rest : List Item)
@@ -73,7 +73,7 @@ Told old (p ∷ ps) new =
 
 -- The next packets were told and passed, as many as `count` says, or it is known that there is none: as `LeavesPacket`
 -- has it for one.
-abbrev pub LeavesMany : Feed → Result Bool Fault → ℕ → List Packet → Feed → Type 0
+abbrev pub LeavesMany : Feed → Result Bool Fault → ℕ → List CPacket → Feed → Type 0
 LeavesMany old (Ok true) count packets new =
     (1 ≤ count) × (count ≤ length packets) × (IsTrue old.told → Told old.items (take count packets) new.items)
 LeavesMany old (Ok false) count packets new = (count ≡ 0) × (new.known ≡ Some heads.End)
@@ -85,6 +85,6 @@ LeavesMany old (Err Write) count packets new = ⊥
 LeavesMany old (Err Memory) count packets new = (count ≡ 0) × (IsTrue old.told → new.items ≡ old.items)
 
 -- what a call for the next packets returns and leaves: of a caller's packets it writes as many as `count` says
-abbrev pub StepsMany : Feed → List Packet → Result Bool Fault → ℕ → List Packet → Feed → Type 0
+abbrev pub StepsMany : Feed → List CPacket → Result Bool Fault → ℕ → List CPacket → Feed → Type 0
 StepsMany old was answer count packets new =
     AgreesWithKnown old.known answer × LeavesMany old answer count packets new × (drop count packets ≡ drop count was)

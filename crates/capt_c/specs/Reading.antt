@@ -11,21 +11,21 @@ use Rattle.capt_c.specs.contracts.sources.InputSource.TheImpl as source
 use Rattle.cap_source.specs.Fed.{FedState}
 use Rattle.capt_c.specs.Feeding.{StepsFedCapture}
 use Rattle.capt_c.specs.Packets.{StepsPacket, StepsMany}
-use Rattle.capt_c.specs.declared.answers.Place.{Place}
+use Rattle.capt_c.specs.declared.answers.CPlace.{CPlace}
 use Rattle.cap_source.specs.declared.feeds.Ending.{Ending}
 use Rattle.cap_source.specs.declared.feeds.Head.{Head}
 use Rattle.cap_source.specs.declared.feeds.Head.TheVariants as heads
 use Rattle.cap_bytes.specs.declared.formats.Format.{Format}
 use Rattle.cap_bytes.specs.declared.formats.Format.TheVariants.{Pcap, Pcapng}
-use Rattle.capt_c.specs.declared.handles.Held.{Held}
-use Rattle.capt_c.specs.declared.handles.Held.TheVariants as helds
-use Rattle.capt_c.specs.declared.packets.Packet.{Packet}
+use Rattle.capt_c.specs.declared.handles.HandleValue.{HandleValue}
+use Rattle.capt_c.specs.declared.handles.HandleValue.TheVariants as helds
+use Rattle.capt_c.specs.declared.packets.CPacket.{CPacket}
 use Rattle.capt_c.specs.declared.reading.End.{End}
-use Rattle.capt_c.specs.declared.sources.Input.{Input}
+use Rattle.capt_c.specs.declared.sources.CaptureInput.{CaptureInput}
 
 -- a capture that is read
 abbrev pub CaptureReader : Type 0
-CaptureReader = Capture Input source.ghosts device.ghosts
+CaptureReader = Capture CaptureInput source.ghosts device.ghosts
 
 -- the status of whether a packet came
 abbrev pub status_of_found : Bool → ℕ
@@ -34,7 +34,7 @@ status_of_found false = 0
 
 -- A capture is open of which no packet was returned; or no memory was found. `told` says whether its bytes are known,
 -- which are `bytes` then, and `can_fail` whether its reads can fail.
-abbrev pub OpensCapture : (CaptureReader → Feed) → Tail → Bool → List ℕ → Bool → ℕ → Option Held → Type 0
+abbrev pub OpensCapture : (CaptureReader → Feed) → Tail → Bool → List ℕ → Bool → ℕ → Option HandleValue → Type 0
 OpensCapture feed tail told bytes can_fail status None = status ≡ 5
 OpensCapture feed tail told bytes can_fail status (Some (helds.Text text)) = ⊥
 OpensCapture feed tail told bytes can_fail status (Some (helds.Table t)) = ⊥
@@ -44,17 +44,18 @@ OpensCapture feed tail told bytes can_fail status (Some (helds.Capture c)) =
     × ((feed c).items ≡ file_items tail 1 bytes) × ((feed c).can_fail 1 ≡ can_fail)
 
 -- A call that is misused returns 6, and leaves the handle and the caller's object as they were.
-abbrev pub Misused : {X : Type 0} → ℕ → Option Held → Option Held → X → X → Type 0
+abbrev pub Misused : {X : Type 0} → ℕ → Option HandleValue → Option HandleValue → X → X → Type 0
 Misused status held new was object = (status ≡ 6) × (new ≡ held) × (object ≡ was)
 
 -- What a call for the next packet returns and leaves: of a handle that is no open capture, nothing but that. `was` and
 -- `from` are the caller's packet and place before it.
-abbrev pub Nexts : (CaptureReader → Feed) → Option Held → Packet → Place → ℕ → Packet → Place → Option Held → Type 0
-Nexts feed None was from status p place new = Misused {X = Packet × Place} status None new (was, from) (p, place)
+abbrev pub Nexts : (CaptureReader → Feed) → Option HandleValue → CPacket → CPlace → ℕ → CPacket → CPlace
+    → Option HandleValue → Type 0
+Nexts feed None was from status p place new = Misused {X = CPacket × CPlace} status None new (was, from) (p, place)
 Nexts feed (Some (helds.Text text)) was from status p place new =
-    Misused {X = Packet × Place} status (Some (helds.Text text)) new (was, from) (p, place)
+    Misused {X = CPacket × CPlace} status (Some (helds.Text text)) new (was, from) (p, place)
 Nexts feed (Some (helds.Table t)) was from status p place new =
-    Misused {X = Packet × Place} status (Some (helds.Table t)) new (was, from) (p, place)
+    Misused {X = CPacket × CPlace} status (Some (helds.Table t)) new (was, from) (p, place)
 Nexts feed (Some (helds.Fed f)) was from status p place new =
     (later : FedState) × (new ≡ Some (helds.Fed later)) × StepsFedCapture f was status p place later
 Nexts feed (Some (helds.Capture c)) was from status p place new =
@@ -66,11 +67,11 @@ Nexts feed (Some (helds.Capture c)) was from status p place new =
 -- A caller's objects for the next packets: a number, packets and a place.
 pub record Batch : Type 0 where
   pub count : ℕ
-  pub packets : List Packet
-  pub place : Place
+  pub packets : List CPacket
+  pub place : CPlace
 
 -- What a call for the next packets returns and leaves, if there is room for one.
-abbrev pub NextsMany : (CaptureReader → Feed) → Option Held → Batch → ℕ → Batch → Option Held → Type 0
+abbrev pub NextsMany : (CaptureReader → Feed) → Option HandleValue → Batch → ℕ → Batch → Option HandleValue → Type 0
 NextsMany feed None was status now new = Misused status None new was now
 NextsMany feed (Some (helds.Text text)) was status now new = Misused status (Some (helds.Text text)) new was now
 NextsMany feed (Some (helds.Table t)) was status now new = Misused status (Some (helds.Table t)) new was now
@@ -101,7 +102,7 @@ EndTold feed was (Ok heads.End) status end =
 EndTold feed was (Err fault) status end = (status ≡ 6) × (end ≡ was)
 
 -- What a call returns and leaves that tells how a capture ended.
-abbrev pub TellsEnd : (CaptureReader → Feed) → Option Held → End → ℕ → End → Option Held → Type 0
+abbrev pub TellsEnd : (CaptureReader → Feed) → Option HandleValue → End → ℕ → End → Option HandleValue → Type 0
 TellsEnd feed None was status end new = Misused status None new was end
 TellsEnd feed (Some (helds.Text text)) was status end new = Misused status (Some (helds.Text text)) new was end
 TellsEnd feed (Some (helds.Table t)) was status end new = Misused status (Some (helds.Table t)) new was end

@@ -12,9 +12,9 @@ use Rattle.cap_talks.specs.declared.table.tables.Step.{Step}
 use Rattle.cap_talks.specs.declared.table.tables.Step.TheVariants.{Took, Done}
 use Rattle.capt_c.specs.Answers.{status_of_result, place_of_result}
 use Rattle.capt_c.specs.Jobs.{JobEnds, file_bytes}
-use Rattle.capt_c.specs.declared.answers.Place.{Place}
-use Rattle.capt_c.specs.declared.handles.Held.{Held}
-use Rattle.capt_c.specs.declared.handles.Held.TheVariants as helds
+use Rattle.capt_c.specs.declared.answers.CPlace.{CPlace}
+use Rattle.capt_c.specs.declared.handles.HandleValue.{HandleValue}
+use Rattle.capt_c.specs.declared.handles.HandleValue.TheVariants as helds
 use Rattle.capt_c.specs.Reading.{Misused}
 use Rattle.capt_c.specs.declared.jobs.Bytes.{Bytes}
 use Rattle.capt_c.specs.declared.jobs.Text.{Text}
@@ -24,7 +24,7 @@ abbrev pub reader_of_file : Bytes → ReaderFacts
 reader_of_file file = record { told = true; can_fail = false; bytes = file_bytes file }
 
 -- A table of those files is open, of which no packet was taken; or no memory was found.
-abbrev pub OpensTable : Tail → List Bytes → ℕ → Option Held → Type 0
+abbrev pub OpensTable : Tail → List Bytes → ℕ → Option HandleValue → Type 0
 OpensTable tail files status None = status ≡ 5
 OpensTable tail files status (Some (helds.Capture c)) = ⊥
 OpensTable tail files status (Some (helds.Fed f)) = ⊥
@@ -34,7 +34,7 @@ OpensTable tail files status (Some (helds.Table t)) =
     × TableStands (table_of t.value) [] × ((table_of t.value).done ≡ false)
 
 -- That is true of the table that is held.
-abbrev pub LeavesTable : Option Held → (TableState → Type 0) → Type 0
+abbrev pub LeavesTable : Option HandleValue → (TableState → Type 0) → Type 0
 LeavesTable None Holds = ⊥
 LeavesTable (Some (helds.Capture c)) Holds = ⊥
 LeavesTable (Some (helds.Fed f)) Holds = ⊥
@@ -47,7 +47,7 @@ status_of_step Took = 1
 status_of_step Done = 0
 
 -- What a call that takes the next packet returns and leaves; `from` is the caller's place before it.
-abbrev pub StepsTable : Option Held → Place → ℕ → Place → Option Held → Type 0
+abbrev pub StepsTable : Option HandleValue → CPlace → ℕ → CPlace → Option HandleValue → Type 0
 StepsTable None from status place new = Misused status None new from place
 StepsTable (Some (helds.Capture c)) from status place new = Misused status (Some (helds.Capture c)) new from place
 StepsTable (Some (helds.Fed f)) from status place new = Misused status (Some (helds.Fed f)) new from place
@@ -58,12 +58,12 @@ StepsTable (Some (helds.Table t)) from status place new =
     × LeavesTable new (λ later. TableSteps (table_of t.value) answer later × StepKeeps (table_of t.value) later)
 
 -- A call that is misused returns 6, and leaves the caller's text and place as they were.
-abbrev pub ShowsNothing : ℕ → Text → Place → Text → Place → Type 0
+abbrev pub ShowsNothing : ℕ → Text → CPlace → Text → CPlace → Type 0
 ShowsNothing status was from text place = (status ≡ 6) × (text ≡ was) × (place ≡ from)
 
 -- What a call returns that shows the report over the packets that were taken; `was` and `from` are the caller's text
 -- and place before it.
-abbrev pub WritesTable : Option Held → Text → Place → ℕ → Text → Place → Type 0
+abbrev pub WritesTable : Option HandleValue → Text → CPlace → ℕ → Text → CPlace → Type 0
 WritesTable None was from status text place = ShowsNothing status was from text place
 WritesTable (Some (helds.Capture c)) was from status text place = ShowsNothing status was from text place
 WritesTable (Some (helds.Fed f)) was from status text place = ShowsNothing status was from text place

@@ -34,7 +34,7 @@ pub const MISUSE: u32 = 6;
 /// Where a capture is refused, or where a read failed.
 #[repr(C)]
 #[derive(Clone, Copy)]
-pub struct Place {
+pub struct CPlace {
     /// Where the record or the block begins, in bytes.
     pub offset: u64,
     /// The number of the file, from 1; 0 if the fault is in no file.
@@ -44,10 +44,10 @@ pub struct Place {
 }
 
 /// No place.
-pub fn nowhere() -> Place
+pub fn nowhere() -> CPlace
     ensures { result ≡ record { offset = 0; file = 0; rule = 0 } }
 {
-    Place {
+    CPlace {
         offset: 0,
         file: 0,
         rule: 0,
@@ -67,16 +67,16 @@ pub fn status_of(fault: Fault) -> u32
 }
 
 /// The place of a fault.
-pub fn place_of(fault: Fault) -> Place
+pub fn place_of(fault: Fault) -> CPlace
     ensures { result ≡ place_of_fault fault }
 {
     match fault {
-        Fault::Refused(refusal) => Place {
+        Fault::Refused(refusal) => CPlace {
             offset: refusal.offset,
             file: refusal.file,
             rule: u32::from(refusal.rule.number()),
         },
-        Fault::Read { file, offset } => Place {
+        Fault::Read { file, offset } => CPlace {
             offset,
             file,
             rule: 0,
@@ -113,7 +113,7 @@ pub fn status_of_result<T: Success>(answer: Result<T, Fault>) -> u32
 }
 
 /// The status of a call that returns `answer`; `place` becomes the place of its fault, or no place.
-pub fn status_and_place<T: Success>(answer: Result<T, Fault>, place: &mut Place) -> u32
+pub fn status_and_place<T: Success>(answer: Result<T, Fault>, place: &mut CPlace) -> u32
     ensures status { result ≡ status_of_result T.status answer }
     ensures place { place.new ≡ place_of_result answer }
 {

@@ -3,13 +3,13 @@ ghost use Rattle.std.specs.Prelude.{◌≡◌, ◌≤◌, ◌<◌, IsTrue, drop,
 ghost use Rattle.cap_source.specs.Feed.{FeedKeeps};
 ghost use Rattle.capt_c.specs.Packets.{StepsMany, Told};
 
-use crate::packets::{Packet, packet_of};
+use crate::packets::{CPacket, packet_of};
 use crate::reading::step;
 use cap_bytes::Fault;
 use cap_source::PacketFeed;
 
 // Writes the next packets that need no read, as many as there is room for, and advances past them.
-fn more<F: PacketFeed>(feed: &mut F, packets: &mut [Packet]) -> usize
+fn more<F: PacketFeed>(feed: &mut F, packets: &mut [CPacket]) -> usize
     ensures most { result ≤ length packets.new }
     ensures told { IsTrue (F.feed feed.old).told
         → Told (F.feed feed.old).items (take result packets.new) (F.feed feed.new).items }
@@ -17,7 +17,7 @@ fn more<F: PacketFeed>(feed: &mut F, packets: &mut [Packet]) -> usize
     ensures keeps { FeedKeeps (F.feed feed.old) (F.feed feed.new) }
 {
     let mut count = 0;
-    while count < packets.len() && feed.shows_packet() {
+    while count < packets.len() && feed.try_peek_buffered() {
         packets[count] = packet_of(feed.packet(), feed.frame());
         feed.pass();
         count += 1;
@@ -29,7 +29,7 @@ fn more<F: PacketFeed>(feed: &mut F, packets: &mut [Packet]) -> usize
 /// is room for.
 pub fn step_many<F: PacketFeed>(
     feed: &mut F,
-    packets: &mut [Packet],
+    packets: &mut [CPacket],
     count: &mut usize,
 ) -> Result<bool, Fault>
     requires { 0 < length packets.old }

@@ -3,13 +3,13 @@ ghost use Rattle.std.specs.Prelude.{◌≡◌, Some};
 ghost use Rattle.cap_source.specs.inner.FedStates.{GivesFed};
 ghost use Rattle.cap_commands.specs.Jobs.{tail_of};
 ghost use Rattle.capt_c.specs.Feeding.{EndsHeld, FeedsHeld, OpensFed, StepsFedCapture, WritesFed, status_of_fed};
-ghost use Rattle.capt_c.specs.Held.{IsClosed};
+ghost use Rattle.capt_c.specs.HandleValue.{IsClosed};
 
 use crate::answers::{
-    DONE, MISUSE, MORE, PACKET, Place, Success, status_and_place, status_of_result, tail_of,
+    CPlace, DONE, MISUSE, MORE, PACKET, Success, status_and_place, status_of_result, tail_of,
 };
-use crate::handles::{Handle, Held, with_open};
-use crate::packets::{Packet, packet_of};
+use crate::handles::{Handle, HandleValue, with_open};
+use crate::packets::{CPacket, packet_of};
 use cap_bytes::Fault;
 use cap_source::{Fed, FedCapture};
 use std::alloc::Global;
@@ -27,7 +27,7 @@ impl Success for Fed {
 }
 
 // Returns what is next in a capture that is fed. If that is a packet, writes it and advances past it.
-fn next_fed(fed: &mut FedCapture, packet: &mut Packet) -> Result<Fed, Fault>
+fn next_fed(fed: &mut FedCapture, packet: &mut CPacket) -> Result<Fed, Fault>
     ensures gives { GivesFed fed.old result fed.new }
     ensures writes { WritesFed packet.old result packet.new }
 {
@@ -39,7 +39,7 @@ fn next_fed(fed: &mut FedCapture, packet: &mut Packet) -> Result<Fed, Fault>
 }
 
 /// Writes the next packet of a capture that is fed, and advances past it.
-pub fn step_fed(fed: &mut FedCapture, packet: &mut Packet, place: &mut Place) -> u32
+pub fn step_fed(fed: &mut FedCapture, packet: &mut CPacket, place: &mut CPlace) -> u32
     ensures { StepsFedCapture fed.old packet.old result packet.new place.new fed.new }
 {
     status_and_place(next_fed(fed, packet), place)
@@ -52,15 +52,15 @@ pub extern "C" fn capt_open_fed(alloc: Global, reader: &mut Handle, allow_cut: b
     ensures opens { OpensFed (tail_of allow_cut) result reader.new.kept.value }
 {
     let fed = FedCapture::new(alloc, 1, tail_of(allow_cut));
-    status_of_result(reader.hold(alloc, Held::Fed(fed)))
+    status_of_result(reader.hold(alloc, HandleValue::Fed(fed)))
 }
 
 // Feeds bytes to what is held, if that is a capture that is fed and hasn't ended.
-fn feed_of(held: &mut Held, bytes: &[u8]) -> u32
+fn feed_of(held: &mut HandleValue, bytes: &[u8]) -> u32
     ensures { FeedsHeld (Some held.old) bytes.now result (Some held.new) }
 {
     match held {
-        Held::Fed(fed) if !fed.has_ended() => status_of_result(fed.feed(bytes)),
+        HandleValue::Fed(fed) if !fed.has_ended() => status_of_result(fed.feed(bytes)),
         _ => MISUSE,
     }
 }
@@ -74,15 +74,15 @@ pub extern "C" fn capt_feed(alloc: Global, reader: &mut Handle, bytes: &[u8]) ->
 }
 
 // Ends what is held, if that is a capture that is fed.
-fn end_fed(held: &mut Held) -> u32
+fn end_fed(held: &mut HandleValue) -> u32
     ensures { EndsHeld (Some held.old) result (Some held.new) }
 {
     match held {
-        Held::Fed(fed) => {
+        HandleValue::Fed(fed) => {
             fed.end();
             DONE
         }
-        Held::Capture(_) | Held::Table(_) | Held::Text(_) => MISUSE,
+        HandleValue::Capture(_) | HandleValue::Table(_) | HandleValue::Text(_) => MISUSE,
     }
 }
 

@@ -1,11 +1,11 @@
 //! What the library keeps for a caller between calls.
 ghost use Rattle.std.specs.Prelude.{◌≡◌, IsOkUnless, IsSome, IfSome, OnErr, OnOk, Option, is_some, Some, None};
 ghost use Rattle.cap_bytes.specs.declared.faults.Fault.{Fault};
-ghost use Rattle.capt_c.specs.Held.{IsClosed};
-ghost use Rattle.capt_c.specs.declared.handles.Held.{Held};
+ghost use Rattle.capt_c.specs.HandleValue.{IsClosed};
+ghost use Rattle.capt_c.specs.declared.handles.HandleValue.{HandleValue};
 
 use crate::raw_box::RawBox;
-use crate::sources::{Input, Slice};
+use crate::sources::{CaptureInput, Slice};
 use cap_bytes::Fault;
 use cap_source::{Capture, FedCapture};
 use cap_talks::Table;
@@ -16,9 +16,9 @@ use std::ptr::null_mut;
 
 /// What a handle holds: a capture that is being read or fed, a table of captures, or a text.
 #[derive(Drop)]
-pub enum Held {
+pub enum HandleValue {
     /// A capture.
-    Capture(Capture<Input>),
+    Capture(Capture<CaptureInput>),
     /// A capture that is fed.
     Fed(FedCapture),
     /// A table, in a box of its own, since it is larger than the others.
@@ -31,18 +31,18 @@ pub enum Held {
 #[repr(C)]
 pub struct OwnedPointer {
     at: *mut u8,
-    pub ghost value: { Option Held },
+    pub ghost value: { Option HandleValue },
 }
 
 impl Model for OwnedPointer {
-    ghost use Rattle.capt_c.specs.Held.{owned};
+    ghost use Rattle.capt_c.specs.HandleValue.{owned};
 
     ghost also_owns = { λ k. owned k.at k.value };
 }
 
 impl OwnedPointer {
     // The pointer of a box.
-    fn of(value: RawBox<Held, Global>) -> OwnedPointer
+    fn of(value: RawBox<HandleValue, Global>) -> OwnedPointer
         ensures value { result.value ≡ Some value.value }
     {
         let RawBox { at, alloc: _ } = value;
@@ -57,13 +57,13 @@ impl OwnedPointer {
     }
 
     // The box.
-    fn into_raw_box(self, alloc: Global) -> RawBox<Held, Global>
+    fn into_raw_box(self, alloc: Global) -> RawBox<HandleValue, Global>
         requires { IsSome self.value }
         ensures value { self.value ≡ Some result.value }
     {
         let OwnedPointer { at } = self;
         RawBox {
-            at: at as *mut Held,
+            at: at as *mut HandleValue,
             alloc,
         }
     }
@@ -97,7 +97,7 @@ fn closed() -> Handle
 }
 
 // A handle that holds that box.
-fn opened(value: Box<Held>) -> Handle
+fn opened(value: Box<HandleValue>) -> Handle
     ensures { result.kept.value ≡ Some value.value }
 {
     let kept = OwnedPointer::of(RawBox::of(value));
@@ -109,7 +109,7 @@ fn opened(value: Box<Held>) -> Handle
 
 impl Handle {
     /// Takes out what is held, if the handle is open.
-    pub fn take(&mut self, alloc: Global) -> Option<Box<Held>>
+    pub fn take(&mut self, alloc: Global) -> Option<Box<HandleValue>>
         ensures some { IfSome result (λ b. self.old.kept.value ≡ Some b.value) }
         ensures none { result ≡ None → self.old.kept.value ≡ None }
         ensures after { IsClosed self.new.kept.value self.new.kept.at self.new.is_open }
@@ -124,7 +124,7 @@ impl Handle {
     }
 
     /// Holds that box.
-    pub fn put(&mut self, value: Box<Held>)
+    pub fn put(&mut self, value: Box<HandleValue>)
         requires { self.old.kept.value ≡ None }
         ensures { self.new.kept.value ≡ Some value.value }
     {
@@ -133,11 +133,12 @@ impl Handle {
     }
 
     /// Closes what is held, and holds `value`. Without memory for it the handle isn't open.
-    pub fn hold(&mut self, alloc: Global, value: Held) -> Result<(), Fault>
+    pub fn hold(&mut self, alloc: Global, value: HandleValue) -> Result<(), Fault>
         ensures value { OnOk result (self.new.kept.value ≡ Some value) }
         ensures closed { OnErr result (IsClosed self.new.kept.value self.new.kept.at self.new.is_open) }
         ensures fault { IsOkUnless result Fault.Memory }
     {
+        // dropping what was held closes it, and frees its memory for the new value
         let _ = self.take(alloc);
         let value = Box::new(alloc, value)?;
         self.put(value);

@@ -7,9 +7,9 @@ ghost use Rattle.capt_c.specs.Answers.{order_of, format_of};
 ghost use Rattle.capt_c.specs.Jobs.{AreFiles, HasFiles, IsTextClosed, Makes, Shown, ShowsTask, by_memory, file_bytes};
 ghost use Rattle.capt_c.specs.Sources.{rest_of};
 
-use crate::answers::{MISUSE, Place, format_of, order_of, status_and_place, tail_of};
-use crate::handles::{Handle, Held};
-use crate::sinks::Grown;
+use crate::answers::{CPlace, MISUSE, format_of, order_of, status_and_place, tail_of};
+use crate::handles::{Handle, HandleValue};
+use crate::sinks::VecSink;
 use crate::sources::Slice;
 use cap_bytes::{Fault, Order, Sink, Tail};
 use cap_commands::{blocks_to, convert_to, join_to, list_to, merge_to};
@@ -74,18 +74,18 @@ fn empty(text: &mut Text)
 pub(crate) fn show(
     alloc: Global,
     text: &mut Text,
-    sink: Grown,
+    sink: VecSink,
     answer: Result<(), Fault>,
-    place: &mut Place,
+    place: &mut CPlace,
 ) -> u32
-    ensures text { Shown (⟦<Grown as Sink>⟧.held sink) answer result place.new text.new
+    ensures text { Shown (⟦<VecSink as Sink>⟧.held sink) answer result place.new text.new
         text.new.handle.kept.value }
     ensures read { (IsReadFault answer → ⊥) → result ≡ 3 → ⊥ }
 {
     let bytes = sink.into_bytes();
     text.at = bytes.as_ptr();
     text.len = bytes.len();
-    match text.handle.hold(alloc, Held::Text(bytes)) {
+    match text.handle.hold(alloc, HandleValue::Text(bytes)) {
         Ok(()) => status_and_place(by_memory(answer), place),
         Err(fault) => {
             empty(text);
@@ -103,7 +103,7 @@ pub(crate) fn are_files(count: usize) -> bool
 
 /// A command of `capt` that makes a text, and the bytes of its file or files.
 #[derive(Clone, Copy)]
-pub(crate) enum Task<'a> {
+pub(crate) enum TextTask<'a> {
     /// A line for each packet.
     List(&'a [u8]),
     /// A line for each block.
@@ -121,50 +121,51 @@ pub(crate) enum Task<'a> {
 }
 
 // Whether a task has its file, or as many files as a call takes.
-fn has_files(task: Task<'_>) -> bool
+fn has_files(task: TextTask<'_>) -> bool
     ensures { IsTrue result ↔ HasFiles task.entry }
 {
     match task {
-        Task::List(_) | Task::Blocks(_) | Task::Convert(..) => true,
-        Task::Info(files) | Task::Report(files) => are_files(files.len()),
-        Task::Merge(files, _) | Task::Join(files, _) => are_files(files.len()),
+        TextTask::List(_) | TextTask::Blocks(_) | TextTask::Convert(..) => true,
+        TextTask::Info(files) | TextTask::Report(files) => are_files(files.len()),
+        TextTask::Merge(files, _) | TextTask::Join(files, _) => are_files(files.len()),
     }
 }
 
 // Writes the text of a task.
-fn make(alloc: Global, task: Task<'_>, tail: Tail, sink: &mut Grown) -> Result<(), Fault>
+fn make(alloc: Global, task: TextTask<'_>, tail: Tail, sink: &mut VecSink) -> Result<(), Fault>
     requires { HasFiles task }
-    ensures text { Makes task.entry tail (⟦<Grown as Sink>⟧.held sink.old) result (⟦<Grown as Sink>⟧.held sink.new) }
+    ensures text { Makes task.entry tail (⟦<VecSink as Sink>⟧.held sink.old) result
+        (⟦<VecSink as Sink>⟧.held sink.new) }
     ensures read { IsReadFault result → ⊥ }
 {
     match task {
-        Task::List(bytes) => list_to(alloc, Slice::new(bytes), tail, sink),
-        Task::Blocks(bytes) => blocks_to(alloc, Slice::new(bytes), tail, sink),
-        Task::Convert(bytes, order, format) => {
+        TextTask::List(bytes) => list_to(alloc, Slice::new(bytes), tail, sink),
+        TextTask::Blocks(bytes) => blocks_to(alloc, Slice::new(bytes), tail, sink),
+        TextTask::Convert(bytes, order, format) => {
             let source = Slice::new(bytes);
             convert_to(alloc, source, tail, order, format, sink)
         }
-        Task::Info(files) => file_lines(alloc, slices(alloc, files)?, tail, sink),
-        Task::Report(files) => report(alloc, slices(alloc, files)?, tail, sink),
-        Task::Merge(files, order) => merge_to(alloc, slices(alloc, files)?, tail, order, sink),
-        Task::Join(files, order) => join_to(alloc, slices(alloc, files)?, tail, order, sink),
+        TextTask::Info(files) => file_lines(alloc, slices(alloc, files)?, tail, sink),
+        TextTask::Report(files) => report(alloc, slices(alloc, files)?, tail, sink),
+        TextTask::Merge(files, order) => merge_to(alloc, slices(alloc, files)?, tail, order, sink),
+        TextTask::Join(files, order) => join_to(alloc, slices(alloc, files)?, tail, order, sink),
     }
 }
 
 // Shows the text of a task to the caller.
 fn show_task(
     alloc: Global,
-    task: Task<'_>,
+    task: TextTask<'_>,
     allow_cut: bool,
     text: &mut Text,
-    place: &mut Place,
+    place: &mut CPlace,
 ) -> u32
     ensures { ShowsTask task.entry (tail_of allow_cut) text.old place.old result text.new place.new }
 {
     if !has_files(task) {
         return MISUSE;
     }
-    let mut sink = Grown::new(alloc);
+    let mut sink = VecSink::new(alloc);
     let answer = make(alloc, task, tail_of(allow_cut), &mut sink);
     show(alloc, text, sink, answer, place)
 }
@@ -176,11 +177,11 @@ pub extern "C" fn capt_report(
     files: &[Bytes<'_>],
     allow_cut: bool,
     text: &mut Text,
-    place: &mut Place,
+    place: &mut CPlace,
 ) -> u32
-    ensures { ShowsTask (Task.Report files.entry) (tail_of allow_cut) text.old place.old result text.new place.new }
+    ensures { ShowsTask (TextTask.Report files.entry) (tail_of allow_cut) text.old place.old result text.new place.new }
 {
-    show_task(alloc, Task::Report(files), allow_cut, text, place)
+    show_task(alloc, TextTask::Report(files), allow_cut, text, place)
 }
 
 /// The lines of 1 to 32 captures.
@@ -190,11 +191,11 @@ pub extern "C" fn capt_info(
     files: &[Bytes<'_>],
     allow_cut: bool,
     text: &mut Text,
-    place: &mut Place,
+    place: &mut CPlace,
 ) -> u32
-    ensures { ShowsTask (Task.Info files.entry) (tail_of allow_cut) text.old place.old result text.new place.new }
+    ensures { ShowsTask (TextTask.Info files.entry) (tail_of allow_cut) text.old place.old result text.new place.new }
 {
-    show_task(alloc, Task::Info(files), allow_cut, text, place)
+    show_task(alloc, TextTask::Info(files), allow_cut, text, place)
 }
 
 /// 1 to 32 captures as one pcapng file, sorted by exact time.
@@ -205,12 +206,12 @@ pub extern "C" fn capt_merge(
     allow_cut: bool,
     big: bool,
     text: &mut Text,
-    place: &mut Place,
+    place: &mut CPlace,
 ) -> u32
-    ensures { ShowsTask (Task.Merge files.entry (order_of big)) (tail_of allow_cut) text.old place.old
+    ensures { ShowsTask (TextTask.Merge files.entry (order_of big)) (tail_of allow_cut) text.old place.old
         result text.new place.new }
 {
-    let task = Task::Merge(files, order_of(big));
+    let task = TextTask::Merge(files, order_of(big));
     show_task(alloc, task, allow_cut, text, place)
 }
 
@@ -222,12 +223,12 @@ pub extern "C" fn capt_join(
     allow_cut: bool,
     big: bool,
     text: &mut Text,
-    place: &mut Place,
+    place: &mut CPlace,
 ) -> u32
-    ensures { ShowsTask (Task.Join files.entry (order_of big)) (tail_of allow_cut) text.old place.old
+    ensures { ShowsTask (TextTask.Join files.entry (order_of big)) (tail_of allow_cut) text.old place.old
         result text.new place.new }
 {
-    let task = Task::Join(files, order_of(big));
+    let task = TextTask::Join(files, order_of(big));
     show_task(alloc, task, allow_cut, text, place)
 }
 
@@ -238,11 +239,11 @@ pub extern "C" fn capt_list(
     bytes: &[u8],
     allow_cut: bool,
     text: &mut Text,
-    place: &mut Place,
+    place: &mut CPlace,
 ) -> u32
-    ensures { ShowsTask (Task.List bytes.entry) (tail_of allow_cut) text.old place.old result text.new place.new }
+    ensures { ShowsTask (TextTask.List bytes.entry) (tail_of allow_cut) text.old place.old result text.new place.new }
 {
-    show_task(alloc, Task::List(bytes), allow_cut, text, place)
+    show_task(alloc, TextTask::List(bytes), allow_cut, text, place)
 }
 
 /// A line for each block of a pcapng capture.
@@ -252,11 +253,11 @@ pub extern "C" fn capt_blocks(
     bytes: &[u8],
     allow_cut: bool,
     text: &mut Text,
-    place: &mut Place,
+    place: &mut CPlace,
 ) -> u32
-    ensures { ShowsTask (Task.Blocks bytes.entry) (tail_of allow_cut) text.old place.old result text.new place.new }
+    ensures { ShowsTask (TextTask.Blocks bytes.entry) (tail_of allow_cut) text.old place.old result text.new place.new }
 {
-    show_task(alloc, Task::Blocks(bytes), allow_cut, text, place)
+    show_task(alloc, TextTask::Blocks(bytes), allow_cut, text, place)
 }
 
 /// A capture as a file of the other format, or of the same.
@@ -268,12 +269,12 @@ pub extern "C" fn capt_convert(
     pcap: bool,
     big: bool,
     text: &mut Text,
-    place: &mut Place,
+    place: &mut CPlace,
 ) -> u32
-    ensures { ShowsTask (Task.Convert bytes.entry (order_of big) (format_of pcap)) (tail_of allow_cut)
+    ensures { ShowsTask (TextTask.Convert bytes.entry (order_of big) (format_of pcap)) (tail_of allow_cut)
         text.old place.old result text.new place.new }
 {
-    let task = Task::Convert(bytes, order_of(big), format_of(pcap));
+    let task = TextTask::Convert(bytes, order_of(big), format_of(pcap));
     show_task(alloc, task, allow_cut, text, place)
 }
 
@@ -283,5 +284,6 @@ pub extern "C" fn capt_text_close(alloc: Global, text: &mut Text)
     ensures { IsTextClosed text.new }
 {
     empty(text);
+    // dropping the text frees its memory
     let _ = text.handle.take(alloc);
 }

@@ -5,7 +5,7 @@ ghost use Rattle.cap_bytes.specs.declared.faults.Fault.{Fault};
 ghost use Rattle.cap_commands.specs.FaultText.{fault_text};
 ghost use Rattle.capt_c.specs.Names.{NamesRule, PutsText, TellsFault};
 
-use crate::answers::{MEMORY, Place, READ, REFUSED, WRITE};
+use crate::answers::{CPlace, MEMORY, READ, REFUSED, WRITE};
 use cap_bytes::{Fault, Refusal, Rule};
 use cap_commands::fault_line;
 use std::cmp::min;
@@ -68,7 +68,7 @@ pub extern "C" fn capt_rule_name(rule: u32, buffer: &mut [u8]) -> usize
 }
 
 // The fault that a status and a place tell, if they tell one.
-fn fault_of(status: u32, place: &Place) -> Option<Fault>
+fn fault_of(status: u32, place: &CPlace) -> Option<Fault>
     ensures some { (fault : Fault) → TellsFault status place.now fault → result ≡ Some fault }
     ensures none { ((fault : Fault) → TellsFault status place.now fault → ⊥) → result ≡ None }
 {
@@ -98,7 +98,7 @@ fn fault_of(status: u32, place: &Place) -> Option<Fault>
 /// Puts as much of the line into a buffer as it has room for that `capt` prints of the fault that a status and a place
 /// tell, with its end, and returns how long the line is: 0 if the status tells no fault.
 #[unsafe(no_mangle)]
-pub extern "C" fn capt_error_text(status: u32, place: &Place, buffer: &mut [u8]) -> usize
+pub extern "C" fn capt_error_text(status: u32, place: &CPlace, buffer: &mut [u8]) -> usize
     ensures text { (fault : Fault) → TellsFault status place.now fault
         → PutsText (fault_text fault) result buffer.old buffer.new }
     ensures none { ((fault : Fault) → TellsFault status place.now fault → ⊥)

@@ -9,7 +9,7 @@ use cap_time::Stamp;
 /// `carry` is 0 unless the seconds don't fit in 64 bits, and `denominator` is 0 if the packet has no time.
 #[repr(C)]
 #[derive(Clone, Copy, Drop)]
-pub struct Packet {
+pub struct CPacket {
     /// Its captured bytes, which stay until the next call with the same reader.
     pub frame: *const u8,
     /// Where its record or block begins, in bytes.
@@ -92,11 +92,11 @@ pub fn start_of(bytes: &[u8]) -> *const u8 {
 
 /// A packet whose captured bytes are there.
 #[inline(always)]
-pub fn packet_of(meta: &Meta, frame: &[u8]) -> Packet
+pub fn packet_of(meta: &Meta, frame: &[u8]) -> CPacket
     ensures { ShowsFields meta.now result }
 {
     let time = time_of(meta);
-    Packet {
+    CPacket {
         frame: start_of(frame),
         offset: meta.offset,
         instance: meta.instance,

@@ -4,20 +4,20 @@ ghost use Rattle.cap_source.specs.Feed.{GivesHead, FeedKeeps};
 ghost use Rattle.cap_bytes.specs.declared.faults.Fault.{Fault};
 ghost use Rattle.cap_source.specs.declared.feeds.Head.{Head};
 ghost use Rattle.cap_commands.specs.Jobs.{tail_of};
-ghost use Rattle.capt_c.specs.Held.{IsClosed};
+ghost use Rattle.capt_c.specs.HandleValue.{IsClosed};
 ghost use Rattle.capt_c.specs.Packets.{StepsPacket};
 ghost use Rattle.capt_c.specs.Sources.{tells_of, input_coming, input_can_fail};
 ghost use Rattle.capt_c.specs.Reading.{Batch, EndTold, Misused, Nexts, NextsMany, OpensCapture, TellsEnd};
 ghost use Rattle.capt_c.specs.Reading.{status_of_found};
 
 use crate::answers::{
-    DONE, MISUSE, PACKET, Place, Success, status_and_place, status_of_result, tail_of,
+    CPlace, DONE, MISUSE, PACKET, Success, status_and_place, status_of_result, tail_of,
 };
 use crate::batches::step_many;
 use crate::feeding::step_fed;
-use crate::handles::{Handle, Held, with_open};
-use crate::packets::{Packet, packet_of};
-use crate::sources::{Input, Slice};
+use crate::handles::{Handle, HandleValue, with_open};
+use crate::packets::{CPacket, packet_of};
+use crate::sources::{CaptureInput, Slice};
 use cap_bytes::{Fault, Tracked};
 use cap_source::{Capture, Ending, Format, Head, PacketFeed, next_packet};
 use std::alloc::Global;
@@ -25,7 +25,7 @@ use std::io::Stdin;
 
 /// Writes the next packet and advances past it, if there is one.
 #[inline(always)]
-pub fn step<F: PacketFeed>(feed: &mut F, packet: &mut Packet) -> Result<bool, Fault>
+pub fn step<F: PacketFeed>(feed: &mut F, packet: &mut CPacket) -> Result<bool, Fault>
     ensures answer { StepsPacket (F.feed feed.old) packet.old result packet.new (F.feed feed.new) }
     ensures keeps { FeedKeeps (F.feed feed.old) (F.feed feed.new) }
 {
@@ -49,14 +49,14 @@ impl Success for bool {
 }
 
 // Writes the next packet of what is held, if that is a capture.
-fn next_of(held: &mut Held, packet: &mut Packet, place: &mut Place) -> u32
-    ensures { Nexts (λ c. ⟦<Capture<Input> as PacketFeed>⟧.feed c) (Some held.old) packet.old place.old result
+fn next_of(held: &mut HandleValue, packet: &mut CPacket, place: &mut CPlace) -> u32
+    ensures { Nexts (λ c. ⟦<Capture<CaptureInput> as PacketFeed>⟧.feed c) (Some held.old) packet.old place.old result
         packet.new place.new (Some held.new) }
 {
     match held {
-        Held::Capture(capture) => status_and_place(step(capture, packet), place),
-        Held::Fed(fed) => step_fed(fed, packet, place),
-        Held::Table(_) | Held::Text(_) => MISUSE,
+        HandleValue::Capture(capture) => status_and_place(step(capture, packet), place),
+        HandleValue::Fed(fed) => step_fed(fed, packet, place),
+        HandleValue::Table(_) | HandleValue::Text(_) => MISUSE,
     }
 }
 
@@ -73,13 +73,13 @@ pub struct End {
 }
 
 // Opens a capture over `input`. What the handle held is closed.
-fn open(alloc: Global, reader: &mut Handle, input: Input, allow_cut: bool) -> u32
+fn open(alloc: Global, reader: &mut Handle, input: CaptureInput, allow_cut: bool) -> u32
     ensures closed { result ≡ 5 → IsClosed reader.new.kept.value reader.new.kept.at reader.new.is_open }
-    ensures opens { OpensCapture (λ c. ⟦<Capture<Input> as PacketFeed>⟧.feed c) (tail_of allow_cut)
+    ensures opens { OpensCapture (λ c. ⟦<Capture<CaptureInput> as PacketFeed>⟧.feed c) (tail_of allow_cut)
         (tells_of input) (input_coming input) (input_can_fail input) result reader.new.kept.value }
 {
     let capture = Capture::new(alloc, input, 1, tail_of(allow_cut));
-    status_of_result(reader.hold(alloc, Held::Capture(capture)))
+    status_of_result(reader.hold(alloc, HandleValue::Capture(capture)))
 }
 
 /// Opens a capture over bytes in memory, which stay as they are until it is closed. What the handle held is closed.
@@ -91,10 +91,15 @@ pub extern "C" fn capt_open(
     allow_cut: bool,
 ) -> u32
     ensures closed { result ≡ 5 → IsClosed reader.new.kept.value reader.new.kept.at reader.new.is_open }
-    ensures opens { OpensCapture (λ c. ⟦<Capture<Input> as PacketFeed>⟧.feed c) (tail_of allow_cut)
+    ensures opens { OpensCapture (λ c. ⟦<Capture<CaptureInput> as PacketFeed>⟧.feed c) (tail_of allow_cut)
         true bytes.now false result reader.new.kept.value }
 {
-    open(alloc, reader, Input::Memory(Slice::new(bytes)), allow_cut)
+    open(
+        alloc,
+        reader,
+        CaptureInput::Memory(Slice::new(bytes)),
+        allow_cut,
+    )
 }
 
 /// Opens a capture over standard input, which is read until it is closed. What the handle held is closed.
@@ -106,13 +111,13 @@ pub extern "C" fn capt_open_stdin(
     allow_cut: bool,
 ) -> u32
     ensures closed { result ≡ 5 → IsClosed reader.new.kept.value reader.new.kept.at reader.new.is_open }
-    ensures opens { OpensCapture (λ c. ⟦<Capture<Input> as PacketFeed>⟧.feed c) (tail_of allow_cut)
+    ensures opens { OpensCapture (λ c. ⟦<Capture<CaptureInput> as PacketFeed>⟧.feed c) (tail_of allow_cut)
         false [] true result reader.new.kept.value }
 {
     open(
         alloc,
         reader,
-        Input::Standard(Tracked::new(stdin)),
+        CaptureInput::Standard(Tracked::new(stdin)),
         allow_cut,
     )
 }
@@ -122,10 +127,11 @@ pub extern "C" fn capt_open_stdin(
 pub extern "C" fn capt_next(
     alloc: Global,
     reader: &mut Handle,
-    packet: &mut Packet,
-    place: &mut Place,
+    packet: &mut CPacket,
+    place: &mut CPlace,
 ) -> u32
-    ensures { Nexts (λ c. ⟦<Capture<Input> as PacketFeed>⟧.feed c) reader.old.kept.value packet.old place.old result
+    ensures { Nexts (λ c. ⟦<Capture<CaptureInput> as PacketFeed>⟧.feed c) reader.old.kept.value packet.old place.old
+        result
         packet.new place.new reader.new.kept.value }
 {
     with_open!(reader, alloc, |held| next_of(&mut held, packet, place))
@@ -133,19 +139,22 @@ pub extern "C" fn capt_next(
 
 // Writes the next packets of what is held, if that is a capture.
 fn next_many_of(
-    held: &mut Held,
-    packets: &mut [Packet],
+    held: &mut HandleValue,
+    packets: &mut [CPacket],
     count: &mut usize,
-    place: &mut Place,
+    place: &mut CPlace,
 ) -> u32
     requires { 0 < length packets.old }
-    ensures { NextsMany (λ c. ⟦<Capture<Input> as PacketFeed>⟧.feed c) (Some held.old)
+    ensures { NextsMany (λ c. ⟦<Capture<CaptureInput> as PacketFeed>⟧.feed c) (Some held.old)
         (record { count = count.old; packets = packets.old; place = place.old }) result
         (record { count = count.new; packets = packets.new; place = place.new }) (Some held.new) }
 {
     match held {
-        Held::Capture(capture) => status_and_place(step_many(capture, packets, count), place),
-        Held::Fed(_) | Held::Table(_) | Held::Text(_) => MISUSE,
+        HandleValue::Capture(capture) => status_and_place(
+            step_many(capture, packets, count),
+            place,
+        ),
+        HandleValue::Fed(_) | HandleValue::Table(_) | HandleValue::Text(_) => MISUSE,
     }
 }
 
@@ -155,12 +164,12 @@ fn next_many_of(
 pub extern "C" fn capt_next_many(
     alloc: Global,
     reader: &mut Handle,
-    packets: &mut [Packet],
+    packets: &mut [CPacket],
     count: &mut usize,
-    place: &mut Place,
+    place: &mut CPlace,
 ) -> u32
     ensures nexts { 0 < length packets.old
-        → NextsMany (λ c. ⟦<Capture<Input> as PacketFeed>⟧.feed c) reader.old.kept.value
+        → NextsMany (λ c. ⟦<Capture<CaptureInput> as PacketFeed>⟧.feed c) reader.old.kept.value
         (record { count = count.old; packets = packets.old; place = place.old }) result
         (record { count = count.new; packets = packets.new; place = place.new }) reader.new.kept.value }
     ensures misuse { length packets.old ≡ 0
@@ -183,17 +192,18 @@ pub extern "C" fn capt_next_many(
 pub extern "C" fn capt_close(alloc: Global, handle: &mut Handle)
     ensures { IsClosed handle.new.kept.value handle.new.kept.at handle.new.is_open }
 {
+    // dropping what was held closes it
     let _ = handle.take(alloc);
 }
 
 // Writes how a capture ended, if it has no more packets.
-fn end_of_capture(capture: &mut Capture<Input>, ending: &mut End) -> u32
+fn end_of_capture(capture: &mut Capture<CaptureInput>, ending: &mut End) -> u32
     ensures answer { (answer : Result Head Fault)
-        × GivesHead (⟦<Capture<Input> as PacketFeed>⟧.feed capture.old) answer
-        (⟦<Capture<Input> as PacketFeed>⟧.feed capture.new)
-        × EndTold (⟦<Capture<Input> as PacketFeed>⟧.feed capture.new) ending.old answer result ending.new }
-    ensures keeps { FeedKeeps (⟦<Capture<Input> as PacketFeed>⟧.feed capture.old)
-        (⟦<Capture<Input> as PacketFeed>⟧.feed capture.new) }
+        × GivesHead (⟦<Capture<CaptureInput> as PacketFeed>⟧.feed capture.old) answer
+        (⟦<Capture<CaptureInput> as PacketFeed>⟧.feed capture.new)
+        × EndTold (⟦<Capture<CaptureInput> as PacketFeed>⟧.feed capture.new) ending.old answer result ending.new }
+    ensures keeps { FeedKeeps (⟦<Capture<CaptureInput> as PacketFeed>⟧.feed capture.old)
+        (⟦<Capture<CaptureInput> as PacketFeed>⟧.feed capture.new) }
 {
     match capture.head() {
         Ok(Head::End) => {
@@ -214,20 +224,21 @@ fn end_of_capture(capture: &mut Capture<Input>, ending: &mut End) -> u32
 }
 
 // Writes how what is held ended, if that is a capture without more packets.
-fn end_of(held: &mut Held, ending: &mut End) -> u32
-    ensures { TellsEnd (λ c. ⟦<Capture<Input> as PacketFeed>⟧.feed c) (Some held.old) ending.old result ending.new
+fn end_of(held: &mut HandleValue, ending: &mut End) -> u32
+    ensures { TellsEnd (λ c. ⟦<Capture<CaptureInput> as PacketFeed>⟧.feed c)
+        (Some held.old) ending.old result ending.new
         (Some held.new) }
 {
     match held {
-        Held::Capture(capture) => end_of_capture(capture, ending),
-        Held::Fed(_) | Held::Table(_) | Held::Text(_) => MISUSE,
+        HandleValue::Capture(capture) => end_of_capture(capture, ending),
+        HandleValue::Fed(_) | HandleValue::Table(_) | HandleValue::Text(_) => MISUSE,
     }
 }
 
 /// Writes how a capture ended, once all of its packets were returned.
 #[unsafe(no_mangle)]
 pub extern "C" fn capt_end(alloc: Global, reader: &mut Handle, ending: &mut End) -> u32
-    ensures { TellsEnd (λ c. ⟦<Capture<Input> as PacketFeed>⟧.feed c) reader.old.kept.value ending.old result
+    ensures { TellsEnd (λ c. ⟦<Capture<CaptureInput> as PacketFeed>⟧.feed c) reader.old.kept.value ending.old result
         ending.new reader.new.kept.value }
 {
     with_open!(reader, alloc, |held| end_of(&mut held, ending))

@@ -6,20 +6,20 @@ use std::alloc::Global;
 
 /// A writer into a vector, which grows. It fails if a growth is refused.
 #[derive(Drop)]
-pub struct Grown {
+pub struct VecSink {
     bytes: Vec<u8>,
     failed: bool,
 }
 
-impl Grown {
+impl VecSink {
     ghost use Rattle.std.specs.Prelude.{[], false};
 
     /// A writer into a vector that is empty.
-    pub fn new(alloc: Global) -> Grown
-        ensures held { ⟦<Grown as Sink>⟧.held result ≡ [] }
-        ensures fresh { ⟦<Grown as Device>⟧.has_failed result ≡ false }
+    pub fn new(alloc: Global) -> VecSink
+        ensures held { ⟦<VecSink as Sink>⟧.held result ≡ [] }
+        ensures fresh { ⟦<VecSink as Device>⟧.has_failed result ≡ false }
     {
-        Grown {
+        VecSink {
             bytes: Vec::new(alloc),
             failed: false,
         }
@@ -27,13 +27,13 @@ impl Grown {
 
     /// What was written.
     pub fn into_bytes(self) -> Vec<u8>
-        ensures { result.items ≡ ⟦<Grown as Sink>⟧.held self }
+        ensures { result.items ≡ ⟦<VecSink as Sink>⟧.held self }
     {
         self.bytes
     }
 }
 
-impl Device for Grown {
+impl Device for VecSink {
     ghost has_failed = { λ g. g.failed };
 
     ghost can_fail = { λ _. true };
@@ -43,7 +43,7 @@ impl Device for Grown {
     }
 }
 
-impl Sink for Grown {
+impl Sink for VecSink {
     ghost use Rattle.std.specs.Prelude.{true};
 
     ghost tells_held = { λ _. true };

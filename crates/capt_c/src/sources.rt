@@ -52,14 +52,14 @@ impl<'a> Source for Slice<'a> {
 
 /// What a reader of packets reads.
 #[derive(Drop)]
-pub enum Input {
+pub enum CaptureInput {
     /// Bytes that stay as they are while they are read.
     Memory(Slice<'static>),
     /// Standard input.
     Standard(Tracked<Stdin>),
 }
 
-impl Device for Input {
+impl Device for CaptureInput {
     ghost use Rattle.capt_c.specs.Sources.{has_failed_of, input_can_fail};
 
     ghost has_failed = { has_failed_of };
@@ -68,13 +68,13 @@ impl Device for Input {
 
     fn failed(&self) -> bool {
         match self {
-            Input::Memory(slice) => slice.failed(),
-            Input::Standard(stream) => stream.failed(),
+            CaptureInput::Memory(slice) => slice.failed(),
+            CaptureInput::Standard(stream) => stream.failed(),
         }
     }
 }
 
-impl Source for Input {
+impl Source for CaptureInput {
     ghost use Rattle.std.specs.Prelude.{None};
     ghost use Rattle.capt_c.specs.Sources.{tells_of, input_coming};
 
@@ -86,8 +86,8 @@ impl Source for Input {
 
     fn take(&mut self, buffer: &mut [u8]) -> Result<usize, Broken> {
         match self {
-            Input::Memory(slice) => slice.take(buffer),
-            Input::Standard(stream) => stream.take(buffer),
+            CaptureInput::Memory(slice) => slice.take(buffer),
+            CaptureInput::Standard(stream) => stream.take(buffer),
         }
     }
 }

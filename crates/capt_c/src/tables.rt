@@ -2,16 +2,16 @@
 ghost use Rattle.std.specs.Prelude.{◌≡◌, ◌≤◌, IsOkUnless, OnErr, Some, length};
 ghost use Rattle.cap_commands.specs.Jobs.{tail_of};
 ghost use Rattle.capt_c.specs.Answers.{status_of_result, status_of_unit};
-ghost use Rattle.capt_c.specs.Held.{IsClosed};
+ghost use Rattle.capt_c.specs.HandleValue.{IsClosed};
 ghost use Rattle.capt_c.specs.Jobs.{AreFiles};
 ghost use Rattle.capt_c.specs.Tables.{OpensTable, StepsTable, WritesTable, status_of_step};
 
 use crate::answers::{
-    DONE, MISUSE, PACKET, Place, Success, status_and_place, status_of_result, tail_of,
+    CPlace, DONE, MISUSE, PACKET, Success, status_and_place, status_of_result, tail_of,
 };
-use crate::handles::{Handle, Held, with_open};
+use crate::handles::{Handle, HandleValue, with_open};
 use crate::jobs::{Bytes, Text, are_files, show, slices};
-use crate::sinks::Grown;
+use crate::sinks::VecSink;
 use crate::sources::Slice;
 use cap_bytes::{Fault, Tail};
 use cap_merge::merge_files;
@@ -32,11 +32,12 @@ fn open_table(
     ensures closed { OnErr result (IsClosed table.new.kept.value table.new.kept.at table.new.is_open) }
     ensures fault { IsOkUnless result Fault.Memory }
 {
+    // dropping what was held closes it, and frees its memory for the table
     let _ = table.take(alloc);
     let sources = slices(alloc, files)?;
     let merged = merge_files(alloc, sources, tail)?;
     let opened = Box::new(alloc, Table::new(alloc, merged))?;
-    table.hold(alloc, Held::Table(opened))
+    table.hold(alloc, HandleValue::Table(opened))
 }
 
 /// Opens a table of 1 to 32 captures in memory, which stay as they are until it is closed. What the handle held is
@@ -72,34 +73,34 @@ impl Success for Step {
 }
 
 // Counts the next packet of what is held, if that is a table.
-fn step_of(held: &mut Held, place: &mut Place) -> u32
+fn step_of(held: &mut HandleValue, place: &mut CPlace) -> u32
     ensures { StepsTable (Some held.old) place.old result place.new (Some held.new) }
 {
     match held {
-        Held::Table(table) => status_and_place(table.step(), place),
-        Held::Capture(_) | Held::Fed(_) | Held::Text(_) => MISUSE,
+        HandleValue::Table(table) => status_and_place(table.step(), place),
+        HandleValue::Capture(_) | HandleValue::Fed(_) | HandleValue::Text(_) => MISUSE,
     }
 }
 
 /// Counts the next packet of a table, in the order of exact time.
 #[unsafe(no_mangle)]
-pub extern "C" fn capt_table_step(alloc: Global, table: &mut Handle, place: &mut Place) -> u32
+pub extern "C" fn capt_table_step(alloc: Global, table: &mut Handle, place: &mut CPlace) -> u32
     ensures { StepsTable table.old.kept.value place.old result place.new table.new.kept.value }
 {
     with_open!(table, alloc, |held| step_of(&mut held, place))
 }
 
 // Shows the report so far of what is held, if that is a table.
-fn write_of(alloc: Global, held: &Held, text: &mut Text, place: &mut Place) -> u32
+fn write_of(alloc: Global, held: &HandleValue, text: &mut Text, place: &mut CPlace) -> u32
     ensures { WritesTable (Some held.now) text.old place.old result text.new place.new }
 {
     match held {
-        Held::Table(table) => {
-            let mut sink = Grown::new(alloc);
+        HandleValue::Table(table) => {
+            let mut sink = VecSink::new(alloc);
             let answer = table.write_so_far(&mut sink);
             show(alloc, text, sink, answer, place)
         }
-        Held::Capture(_) | Held::Fed(_) | Held::Text(_) => MISUSE,
+        HandleValue::Capture(_) | HandleValue::Fed(_) | HandleValue::Text(_) => MISUSE,
     }
 }
 
@@ -109,7 +110,7 @@ pub extern "C" fn capt_table_write(
     alloc: Global,
     table: &mut Handle,
     text: &mut Text,
-    place: &mut Place,
+    place: &mut CPlace,
 ) -> u32
     ensures text { WritesTable table.old.kept.value text.old place.old result text.new place.new }
     ensures table { table.new.kept.value ≡ table.old.kept.value }

@@ -10,7 +10,7 @@ use Rattle.cap_source.specs.declared.feeds.Head.TheVariants as heads
 use Rattle.cap_source.specs.declared.packets.Meta.{Meta}
 use Rattle.cap_commands.specs.DiffText.{Compared, Comparison, differences_of, do_differ, other_packet, same_packets}
 use Rattle.cap_commands.specs.DiffText.{stopped_by}
-use Rattle.cap_commands.specs.declared.diff.Parting.{Parting}
+use Rattle.cap_commands.specs.declared.diff.Divergence.{Divergence}
 
 -- a packet with its captured bytes, if there is one
 abbrev pub compared_of : Option Meta → List ℕ → Option Compared
@@ -42,7 +42,7 @@ parted n None (Some b) = other_packet (n + 1) None (Some b)
 parted n (Some a) other = other_packet (n + 1) (Some a) other
 
 -- two feeds, whose next packets have those bytes, were compared up to where they part, or up to a refusal
-abbrev pub Parts : Comparison → Result Parting Fault → List ℕ → List ℕ → Type 0
+abbrev pub Parts : Comparison → Result Divergence Fault → List ℕ → List ℕ → Type 0
 Parts c (Ok p) frame other = c ≡ parted p.passed (compared_of p.first frame) (compared_of p.second other)
 Parts c (Err (Refused refusal)) frame other = c ≡ stopped_by refusal
 Parts c (Err (Read file offset)) frame other = ⊤
@@ -50,7 +50,7 @@ Parts c (Err Write) frame other = ⊥
 Parts c (Err Memory) frame other = ⊤
 
 -- where a feed has a packet, that is known
-pub record KnowsPackets (p : Parting) (a b : Feed) : Type 0 where
+pub record KnowsPackets (p : Divergence) (a b : Feed) : Type 0 where
   pub first : IsSome p.first → IsPacket a.known
   pub second : IsSome p.second → IsPacket b.known
 

@@ -10,12 +10,12 @@ use Rattle.cap_join.specs.Joiners.{open_limit}
 use Rattle.cap_join.specs.inner.Ages.{AreTimeless}
 
 abbrev pub queue_view : Inside → List (Key × GroupState)
-queue_view q = q.aside.entries ++ q.rest.entries
+queue_view q = q.timeless.entries ++ q.rest.entries
 
 -- One group at most of a key, one more than may be open at most, and none with a clock set aside.
 pub record IsSoundQueue (q : Inside) : Type 0 where
-  pub aside_room : open_limit + 2 < q.aside.cap
+  pub timeless_room : open_limit + 2 < q.timeless.cap
   pub rest_room : open_limit + 2 < q.rest.cap
   pub few : length (queue_view q) ≤ open_limit + 1
   pub unique : IsDistinct same_key (keys_of (queue_view q))
-  pub timeless : AreTimeless q.aside.entries
+  pub timeless : AreTimeless q.timeless.entries

@@ -3,7 +3,7 @@ use Rattle.std.specs.Prelude.{◌≡◌, List, true}
 use Rattle.std.specs.List.{IsDistinct}
 use Rattle.std.specs.Map.{keys_of}
 use Rattle.cap_ip.specs.declared.headers.Key.{Key}
-use Rattle.cap_join.specs.declared.tables.Table.TheInside.{Inside}
+use Rattle.cap_join.specs.declared.tables.GroupTable.TheInside.{Inside}
 use Rattle.cap_join.specs.inner.Groups.{GroupState}
 use Rattle.cap_join.specs.History.{same_key}
 use Rattle.cap_join.specs.inner.Ages.{IsDeadline, AreInTurn, AreUpTo}

@@ -20,11 +20,11 @@ use Rattle.cap_bytes.specs.declared.faults.Tail.{Tail}
 use Rattle.cap_bytes.specs.declared.numbers.Order.{Order}
 use Rattle.cap_source.specs.Contents.{content_in}
 use Rattle.cap_source.specs.Feed.{packet}
-use Rattle.cap_source.specs.Items.{Progress, after, behind, items_at_block, items_of_blocks, meta_in, first_or}
+use Rattle.cap_source.specs.Items.{SectionProgress, after, behind, items_at_block, items_of_blocks, meta_in, first_or}
 use Rattle.cap_source.specs.Items.{unless_item}
 use Rattle.cap_source.specs.Items.{first_in}
-use Rattle.cap_source.specs.declared.contents.Content.{Content}
-use Rattle.cap_source.specs.declared.contents.Content.TheVariants as contents
+use Rattle.cap_source.specs.declared.contents.BlockContent.{BlockContent}
+use Rattle.cap_source.specs.declared.contents.BlockContent.TheVariants as contents
 use Rattle.cap_time.specs.declared.resolutions.Interface.{Interface}
 use Rattle.cap_write.specs.Numbering.{Numbered}
 use Rattle.cap_write.specs.Texts.{packet_part, packets_bytes}
@@ -33,17 +33,17 @@ use Rattle.cap_laws.specs.again.Laws.{NumbersFit, AllFit, meta_again, read_items
 use Rattle.cap_laws.specs.again.Laws.{AreNumbered}
 
 -- the items of a file at a block that says this
-pub items_in-given : (file : ℕ) (progress : Progress) (block : Block) (body : List ℕ)
+pub items_in-given : (file : ℕ) (progress : SectionProgress) (block : Block) (body : List ℕ)
     (rest : List (pieces.PieceItem Block))
-    (content : Result Content Rule)
+    (content : Result BlockContent Rule)
     → content_in progress.interfaces block.kind block.order body ≡ content
     → items_of_blocks file progress (pieces.given block body ∷ rest)
     ≡ items_at_block file progress block body content (items_of_blocks file (behind progress content) rest)
 unfolding items_of_blocks
 items_in-given file progress block body rest content is = rw is refl
 
-pub first_in-given : (progress : Progress) (block : Block) (body : List ℕ) (rest : List (pieces.PieceItem Block))
-    (content : Result Content Rule)
+pub first_in-given : (progress : SectionProgress) (block : Block) (body : List ℕ) (rest : List (pieces.PieceItem Block))
+    (content : Result BlockContent Rule)
     → content_in progress.interfaces block.kind block.order body ≡ content
     → first_in progress (pieces.given block body ∷ rest)
     ≡ unless_item content progress.first (first_in (behind progress content) rest)
@@ -61,7 +61,7 @@ interface_blocks : (order : Order) (tail : Tail) (file offset : ℕ) (i : Interf
 interface_blocks order tail file offset i rest link snaplen limit = grind (arith, interface_again-law)
 
 -- A written interface is passed, and comes after those before it.
-pub items_in-interface : (order : Order) (tail : Tail) (file offset : ℕ) (progress : Progress) (i : Interface)
+pub items_in-interface : (order : Order) (tail : Tail) (file offset : ℕ) (progress : SectionProgress) (i : Interface)
     (rest : List ℕ)
     → length progress.interfaces < 1024 → i.link < 2 ^ 16 → i.snaplen < 2 ^ 32 → FitsSigned w64 i.offset
     → offset + length (interface_bytes order i) ≤ 2 ^ 40
@@ -78,7 +78,7 @@ items_in-interface order tail file offset progress i rest few link snaplen fits 
     (content_in-interface progress.interfaces order i few link snaplen fits)
 
 -- The interface of instance 0 is looked for after a written interface, and not after a written packet.
-pub first_in-interface : (order : Order) (tail : Tail) (file offset : ℕ) (progress : Progress) (i : Interface)
+pub first_in-interface : (order : Order) (tail : Tail) (file offset : ℕ) (progress : SectionProgress) (i : Interface)
     (rest : List ℕ)
     → length progress.interfaces < 1024 → i.link < 2 ^ 16 → i.snaplen < 2 ^ 32 → FitsSigned w64 i.offset
     → offset + length (interface_bytes order i) ≤ 2 ^ 40
@@ -88,7 +88,7 @@ pub first_in-interface : (order : Order) (tail : Tail) (file offset : ℕ) (prog
 first_in-interface order tail file offset progress i rest few link snaplen fits limit =
     grind (arith, interface_blocks, first_in-given, block_of, content_in-interface)
 
-pub first_in-packet : (order : Order) (tail : Tail) (file offset : ℕ) (progress : Progress) (n : Numbered)
+pub first_in-packet : (order : Order) (tail : Tail) (file offset : ℕ) (progress : SectionProgress) (n : Numbered)
     (rest : List ℕ)
     → slice_get progress.interfaces n.number ≡ Some n.interface → n.number < 2 ^ 32 → NumbersFit n
     → offset + length (packet_part order n) ≤ 2 ^ 40
@@ -100,7 +100,7 @@ first_in-packet order tail file offset progress n rest known few fits limit =
 none_before : (k : ℕ) → 0 + k ≡ k
 none_before k = omega arith
 
-same_meta : (file offset : ℕ) (order : Order) (progress : Progress) (n : Numbered) → progress.base ≡ 0
+same_meta : (file offset : ℕ) (order : Order) (progress : SectionProgress) (n : Numbered) → progress.base ≡ 0
     → progress.skipped ≡ 0
     → meta_in file progress
     (block_of offset (record {
@@ -113,7 +113,7 @@ same_meta : (file offset : ℕ) (order : Order) (progress : Progress) (n : Numbe
 same_meta file offset order progress n base skipped = rw (base, skipped, none_before n.number) refl
 
 -- A written packet is read again.
-pub items_in-packet : (order : Order) (tail : Tail) (file offset : ℕ) (progress : Progress) (n : Numbered)
+pub items_in-packet : (order : Order) (tail : Tail) (file offset : ℕ) (progress : SectionProgress) (n : Numbered)
     (rest : List ℕ)
     → slice_get progress.interfaces n.number ≡ Some n.interface → n.number < 2 ^ 32 → NumbersFit n → progress.base ≡ 0
     → progress.skipped ≡ 0
@@ -137,7 +137,7 @@ items_in-packet order tail file offset progress n rest known few fits base skipp
     ∙ ap (λ m. packet m n.frame ∷ later) (same_meta file offset order progress n base skipped)))
 
 -- how far a written file was read, after those interfaces
-abbrev pub reached : List Interface → Option Interface → Progress
+abbrev pub reached : List Interface → Option Interface → SectionProgress
 reached interfaces first = record { interfaces = interfaces; base = 0; skipped = 0; named = 0; first = first }
 
 -- what is written for a packet of a known interface, and of a new one

@@ -11,20 +11,20 @@ use Rattle.cap_bytes.specs.Number.{number}
 use Rattle.cap_bytes.specs.declared.numbers.Order.{Order}
 use Rattle.cap_source.proofs.Written.{interface_in-written, is_named-written}
 use Rattle.cap_source.specs.Contents.{fitting, timed_in, of_body, described, content_in}
-use Rattle.cap_source.specs.declared.contents.Content.TheVariants as contents
-use Rattle.cap_source.specs.declared.contents.Described.{Described}
-use Rattle.cap_source.specs.declared.contents.Packet.{Packet}
+use Rattle.cap_source.specs.declared.contents.BlockContent.TheVariants as contents
+use Rattle.cap_source.specs.declared.contents.InterfaceDescription.{InterfaceDescription}
+use Rattle.cap_source.specs.declared.contents.BlockPacket.{BlockPacket}
 use Rattle.cap_time.specs.declared.resolutions.Interface.{Interface}
 use Rattle.cap_write.specs.Numbering.{Numbered}
 use Rattle.cap_laws.specs.again.Laws.{NumbersFit}
 
 -- A packet with these fields is one that is read: within the limit, and within its body.
-fitting-whole : (p : Packet) (size : ℕ) → p.captured ≤ 262144 → p.place + p.captured ≤ size → fitting p size ≡ Ok p
+fitting-whole : (p : BlockPacket) (size : ℕ) → p.captured ≤ 262144 → p.place + p.captured ≤ size → fitting p size ≡ Ok p
 unfolding fitting
 fitting-whole p size few within = grind arith
 
 -- a packet by its fields
-abbrev pub packet_of : ℕ → Interface → ℕ → ℕ → ℕ → Packet
+abbrev pub packet_of : ℕ → Interface → ℕ → ℕ → ℕ → BlockPacket
 packet_of number_of interface units captured original =
     record {
       number = number_of;
@@ -67,7 +67,7 @@ unfolding content_in
 content_in-section interfaces order body = refl
 
 -- a written interface block tells of that interface, and has no name
-abbrev pub unnamed : Interface → Described
+abbrev pub unnamed : Interface → InterfaceDescription
 unnamed i = record { interface = i; is_named = false }
 
 pub content_in-interface : (interfaces : List Interface) (order : Order) (i : Interface) → length interfaces < 1024

@@ -18,7 +18,7 @@ use Rattle.cap_source.specs.Items.{fresh, is_pcapng, items_of_blocks, first_in, 
 use Rattle.cap_source.specs.Items.{file_first}
 use Rattle.cap_source.specs.Items.{interface_of, unless_refused}
 use Rattle.cap_pcap.specs.Split as records
-use Rattle.cap_source.specs.declared.contents.Content.TheVariants as contents
+use Rattle.cap_source.specs.declared.contents.BlockContent.TheVariants as contents
 use Rattle.cap_time.specs.declared.resolutions.Interface.{Interface}
 use Rattle.cap_write.specs.Numbering.{Numbered}
 use Rattle.cap_write.specs.Texts.{front_bytes, packets_bytes}

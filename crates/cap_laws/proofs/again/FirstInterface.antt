@@ -18,12 +18,13 @@ use Rattle.cap_source.proofs.Saying.{OfContent}
 use Rattle.cap_source.specs.Contents.{content_in}
 use Rattle.cap_source.specs.Feed.{Item, packet, refused}
 use Rattle.cap_source.specs.inner.Fields.{FitsInterface}
-use Rattle.cap_source.specs.Items.{Progress, fresh, behind, first_or, first_in, first_from, unless_item, unless_refused}
+use Rattle.cap_source.specs.Items.{SectionProgress, fresh, behind, first_or, first_in, first_from, unless_item}
+use Rattle.cap_source.specs.Items.{unless_refused}
 use Rattle.cap_source.specs.Items.{items_at_block, items_of_blocks, items_from, is_pcapng, pcap_items, interface_of}
 use Rattle.cap_source.specs.Items.{file_items}
 use Rattle.cap_source.specs.Items.{file_first}
-use Rattle.cap_source.specs.declared.contents.Content.{Content}
-use Rattle.cap_source.specs.declared.contents.Packet.{Packet}
+use Rattle.cap_source.specs.declared.contents.BlockContent.{BlockContent}
+use Rattle.cap_source.specs.declared.contents.BlockPacket.{BlockPacket}
 use Rattle.cap_time.specs.declared.resolutions.Interface.{Interface}
 use Rattle.cap_write.specs.Numbering.{numbered}
 use Rattle.cap_laws.proofs.again.Instances.{HasNumber, IsAny, content-of}
@@ -36,7 +37,7 @@ IsFirst i (refused refusal) = Unit {0}
 -- ---- the packets of instance 0
 
 -- How far a file was read: as long as no section ended, the first interface is the first of the section.
-abbrev KnowsFirst : Progress → Type 0
+abbrev KnowsFirst : SectionProgress → Type 0
 KnowsFirst progress = progress.base ≡ 0 → progress.first ≡ slice_get progress.interfaces 0
 
 section_ends : (base : ℕ) (interfaces : List Interface) (first : Option Interface)
@@ -50,7 +51,7 @@ interface_comes : (interfaces : List Interface) (first : Option Interface) (j : 
 interface_comes [] first j is = ap (λ f. Some (first_or f j)) is
 interface_comes (k ∷ interfaces) first j is = ap (λ f. Some (first_or f j)) is
 
-knows-behind : (progress : Progress) (content : Result Content Rule) → KnowsFirst progress
+knows-behind : (progress : SectionProgress) (content : Result BlockContent Rule) → KnowsFirst progress
     → KnowsFirst (behind progress content)
 knows-behind progress content knows = grind (arith, common_steps, nat_tests, section_ends, interface_comes)
 
@@ -58,13 +59,13 @@ same_interface : (i j : Interface) → Some i ≡ Some j → i ≡ j
 same_interface i j e = cc
 
 -- the packet of a block, if the first interface was read before
-own_interface : (progress : Progress) (p : Packet) (i : Interface) → HasNumber progress.interfaces p
+own_interface : (progress : SectionProgress) (p : BlockPacket) (i : Interface) → HasNumber progress.interfaces p
     → KnowsFirst progress → progress.first ≡ Some i
     → progress.base + p.number ≡ 0 → p.interface ≡ i
 own_interface progress p i of knows is zero = grind arith
 
-block-known : (file : ℕ) (i : Interface) (progress : Progress) (block : Block) (body : List ℕ)
-    (content : Result Content Rule) (items : List Item)
+block-known : (file : ℕ) (i : Interface) (progress : SectionProgress) (block : Block) (body : List ℕ)
+    (content : Result BlockContent Rule) (items : List Item)
     → IfOk content (OfContent IsAny (HasNumber progress.interfaces)) → KnowsFirst progress → progress.first ≡ Some i
     → (KnowsFirst (behind progress content) → (behind progress content).first ≡ Some i
     → AllByRecursion (IsFirst i) items)
@@ -72,7 +73,7 @@ block-known : (file : ℕ) (i : Interface) (progress : Progress) (block : Block)
 block-known file i progress block body content items of knows is rest = grind (arith, knows-behind, own_interface)
 
 -- after the first interface
-blocks-known : (file : ℕ) (i : Interface) (progress : Progress) (items : List (pieces.PieceItem Block))
+blocks-known : (file : ℕ) (i : Interface) (progress : SectionProgress) (items : List (pieces.PieceItem Block))
     → KnowsFirst progress
     → progress.first ≡ Some i
     → AllByRecursion (IsFirst i) (items_of_blocks file progress items)
@@ -84,8 +85,8 @@ blocks-known file i progress (pieces.given block body ∷ rest) knows is =
     (λ knows is. blocks-known file i (behind progress content) rest knows is)
 blocks-known file i progress items knows is = grind arith
 
-block-first : (file : ℕ) (i : Interface) (progress : Progress) (block : Block) (body : List ℕ)
-    (content : Result Content Rule) (first : Option Interface) (items : List Item)
+block-first : (file : ℕ) (i : Interface) (progress : SectionProgress) (block : Block) (body : List ℕ)
+    (content : Result BlockContent Rule) (first : Option Interface) (items : List Item)
     → IfOk content (OfContent IsAny (HasNumber progress.interfaces)) → KnowsFirst progress
     → unless_item content progress.first first ≡ Some i
     → (KnowsFirst (behind progress content) → first ≡ Some i → AllByRecursion (IsFirst i) items)
@@ -96,7 +97,7 @@ block-first file i progress block body content first items of knows is later kno
     grind (arith, knows-behind, own_interface)
 
 -- before it
-blocks-first : (file : ℕ) (i : Interface) (progress : Progress) (items : List (pieces.PieceItem Block))
+blocks-first : (file : ℕ) (i : Interface) (progress : SectionProgress) (items : List (pieces.PieceItem Block))
     → KnowsFirst progress
     → first_in progress items ≡ Some i
     → AllByRecursion (IsFirst i) (items_of_blocks file progress items)
@@ -119,7 +120,7 @@ records-first file i items = grind arith
 
 -- ---- its fields
 
-block-first_fits : (progress : Progress) (content : Result Content Rule) (first : Option Interface)
+block-first_fits : (progress : SectionProgress) (content : Result BlockContent Rule) (first : Option Interface)
     → IfOk content (OfContent FitsInterface FitsPacket)
     → AllByRecursion FitsInterface progress.interfaces → IfSome progress.first FitsInterface
     → (AllByRecursion FitsInterface (behind progress content).interfaces
@@ -127,7 +128,7 @@ block-first_fits : (progress : Progress) (content : Result Content Rule) (first 
     → IfSome (unless_item content progress.first first) FitsInterface
 block-first_fits progress content first of all fits later = grind (arith, one_more)
 
-blocks-first_fits : (progress : Progress) (items : List (pieces.PieceItem Block))
+blocks-first_fits : (progress : SectionProgress) (items : List (pieces.PieceItem Block))
     → AllByRecursion FitsInterface progress.interfaces → IfSome progress.first FitsInterface
     → AllByRecursion IsOfBytes items → IfSome (first_in progress items) FitsInterface
 unfolding first_in
@@ -180,21 +181,22 @@ first-of tail file bytes i are is = by (is_pcapng bytes) is
 -- ---- a file without one
 
 -- if none stands before the next item or the end, none was read before
-none-before : (progress : Progress) (items : List (pieces.PieceItem Block)) → first_in progress items ≡ None
+none-before : (progress : SectionProgress) (items : List (pieces.PieceItem Block)) → first_in progress items ≡ None
     → progress.first ≡ None
 unfolding first_in
 none-before progress (pieces.given block body ∷ rest) none =
     let content = content_in progress.interfaces block.kind block.order body in
     by content none (λ later. none-before (behind progress content) rest later)
   where
-    by : (content : Result Content Rule) → unless_item content progress.first
+    by : (content : Result BlockContent Rule) → unless_item content progress.first
         (first_in (behind progress content) rest) ≡ None
         → (first_in (behind progress content) rest ≡ None → (behind progress content).first ≡ None)
         → progress.first ≡ None
     by content none before = grind arith
 none-before progress items none = cc
 
-block-unwritten : (file : ℕ) (progress : Progress) (block : Block) (body : List ℕ) (content : Result Content Rule)
+block-unwritten : (file : ℕ) (progress : SectionProgress) (block : Block) (body : List ℕ)
+    (content : Result BlockContent Rule)
     (first : Option Interface) (items : List Item)
     → IfOk content (OfContent IsAny (HasNumber progress.interfaces)) → progress.interfaces ≡ []
     → unless_item content progress.first first ≡ None
@@ -204,7 +206,8 @@ block-unwritten : (file : ℕ) (progress : Progress) (block : Block) (body : Lis
 unfolding numbered
 block-unwritten file progress block body content first items of empty none before rest = grind arith
 
-blocks-unwritten : (file : ℕ) (progress : Progress) (items : List (pieces.PieceItem Block)) → progress.interfaces ≡ []
+blocks-unwritten : (file : ℕ) (progress : SectionProgress) (items : List (pieces.PieceItem Block))
+    → progress.interfaces ≡ []
     → first_in progress items ≡ None
     → numbered [] (items_of_blocks file progress items) ≡ []
 unfolding numbered items_of_blocks first_in

@@ -15,17 +15,18 @@ use Rattle.cap_pcap.specs.declared.records.Record.{Record}
 use Rattle.cap_source.proofs.Saying.{OfContent, content-holds}
 use Rattle.cap_source.specs.Contents.{content_in}
 use Rattle.cap_source.specs.Feed.{Item}
-use Rattle.cap_source.specs.Items.{Progress, fresh, behind, items_at_block, items_of_blocks, items_from, is_pcapng}
+use Rattle.cap_source.specs.Items.{SectionProgress, fresh, behind, items_at_block, items_of_blocks, items_from}
+use Rattle.cap_source.specs.Items.{is_pcapng}
 use Rattle.cap_source.specs.Items.{pcap_items}
 use Rattle.cap_source.specs.Items.{interface_of}
-use Rattle.cap_source.specs.declared.contents.Content.{Content}
-use Rattle.cap_source.specs.declared.contents.Content.TheVariants as contents
-use Rattle.cap_source.specs.declared.contents.Packet.{Packet}
+use Rattle.cap_source.specs.declared.contents.BlockContent.{BlockContent}
+use Rattle.cap_source.specs.declared.contents.BlockContent.TheVariants as contents
+use Rattle.cap_source.specs.declared.contents.BlockPacket.{BlockPacket}
 use Rattle.cap_time.specs.declared.resolutions.Interface.{Interface}
 use Rattle.cap_laws.specs.again.Laws.{AllAlike, OneInterface}
 
 -- A packet that a block says has the section's interface of its number.
-abbrev pub HasNumber : List Interface → Packet → Type 0
+abbrev pub HasNumber : List Interface → BlockPacket → Type 0
 HasNumber interfaces p = slice_get interfaces p.number ≡ Some p.interface
 
 -- Of the interface of an interface block nothing is asked.
@@ -40,14 +41,14 @@ pub content-of : (interfaces : List Interface) (kind : ℕ) (order : Order) (bod
 content-of interfaces kind order body = search (content-holds, is_any)
 
 -- the interfaces that are still to come of a file
-abbrev added : Result Content Rule → List Interface → List Interface
+abbrev added : Result BlockContent Rule → List Interface → List Interface
 added (Ok contents.Section) later = later
 added (Ok (contents.Interface described)) later = described.interface ∷ later
 added (Ok (contents.Packet p)) later = later
 added (Ok contents.Other) later = later
 added (Err rule) later = []
 
-abbrev future : Progress → List (pieces.PieceItem Block) → List Interface
+abbrev future : SectionProgress → List (pieces.PieceItem Block) → List Interface
 future progress [] = []
 future progress (pieces.stopped stop ∷ rest) = []
 future progress (pieces.given block body ∷ rest) =
@@ -63,8 +64,8 @@ nth-of : (past interfaces later all : List Interface) (k : ℕ) (i : Interface) 
 nth-of past interfaces later all k i is whole =
     grind (arith, slice_get_within, get_or_from_slice_get, get_or-append-add, get_or-append, length-append, get_or)
 
-block-alike : (file : ℕ) (all past : List Interface) (progress : Progress) (block : Block) (body : List ℕ)
-    (content : Result Content Rule) (later : List Interface) (items : List Item)
+block-alike : (file : ℕ) (all past : List Interface) (progress : SectionProgress) (block : Block) (body : List ℕ)
+    (content : Result BlockContent Rule) (later : List Interface) (items : List Item)
     → IfOk content (OfContent IsAny (HasNumber progress.interfaces)) → length past ≡ progress.base
     → (past ++ progress.interfaces) ++ added content later ≡ all
     → ((past : List Interface) → length past ≡ (behind progress content).base
@@ -73,7 +74,8 @@ block-alike : (file : ℕ) (all past : List Interface) (progress : Progress) (bl
 block-alike file all past progress block body content later items of base whole rest =
     grind (arith, length-append, append-nil, append_assoc, nth-of)
 
-blocks-alike : (file : ℕ) (all past : List Interface) (progress : Progress) (items : List (pieces.PieceItem Block))
+blocks-alike : (file : ℕ) (all past : List Interface) (progress : SectionProgress)
+    (items : List (pieces.PieceItem Block))
     → length past ≡ progress.base
     → (past ++ progress.interfaces) ++ future progress items ≡ all
     → AllAlike file (nth all) (items_of_blocks file progress items)

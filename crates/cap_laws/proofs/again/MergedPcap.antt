@@ -15,7 +15,7 @@ use Rattle.cap_merge.specs.Files.{run_of_files}
 use Rattle.cap_pcap.specs.Grammar.{header_bytes}
 use Rattle.cap_source.specs.Feed.{Item, packet, refused}
 use Rattle.cap_source.specs.Items.{after, file_first, file_items, first_in}
-use Rattle.cap_source.specs.declared.contents.Content.TheVariants as contents
+use Rattle.cap_source.specs.declared.contents.BlockContent.TheVariants as contents
 use Rattle.cap_source.specs.declared.packets.Meta.{Meta}
 use Rattle.cap_time.specs.declared.resolutions.Interface.{Interface}
 use Rattle.cap_write.proofs.Records.{fault_by}

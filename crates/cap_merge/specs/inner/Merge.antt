@@ -75,7 +75,7 @@ LooksAll ps (Err Write) qs = ⊥
 LooksAll ps (Err Memory) qs = StopsAt Memory ps qs
 
 -- A feed has no packet at hand: it is as it was, or knows what comes next, which isn't noted.
-pub record Peeked (p q : Part) : Type 0 where
+pub record PeeksPart (p q : Part) : Type 0 where
   pub unknown : p.lane.head ≡ None
   pub lane : q.lane ≡ p.lane
   pub feed : (q.feed ≡ p.feed) ⊎ ((head : Head) × Knows p.feed head q.feed)
@@ -86,13 +86,13 @@ pub record Peeked (p q : Part) : Type 0 where
 -- noted.
 abbrev pub LaneShows : Part → Bool → Part → Type 0
 LaneShows p true q = LearnsBy p.lane.head p q
-LaneShows p false q = (q ≡ p) ⊎ Peeked p q
+LaneShows p false q = (q ≡ p) ⊎ PeeksPart p q
 
 -- A feed at a place has no packet at hand; the others stay as they are.
 abbrev pub PeeksAt : List Part → ℕ → List Part → Type 0
 PeeksAt [] place qs = ⊥
 PeeksAt (p ∷ ps) place [] = ⊥
-PeeksAt (p ∷ ps) zero (q ∷ qs) = ((q ≡ p) ⊎ Peeked p q) × (qs ≡ ps)
+PeeksAt (p ∷ ps) zero (q ∷ qs) = ((q ≡ p) ⊎ PeeksPart p q) × (qs ≡ ps)
 PeeksAt (p ∷ ps) (suc place) (q ∷ qs) = (q ≡ p) × PeeksAt ps place qs
 
 -- what asking the feed at a place does, if what comes next of the others is known

@@ -11,7 +11,7 @@ use Rattle.cap_source.specs.declared.feeds.Head.{Head}
 use Rattle.cap_source.specs.declared.feeds.Head.TheVariants as heads
 use Rattle.cap_source.specs.inner.FileState.{FileState, file_feed, first_by}
 use Rattle.cap_source.specs.inner.Fronts.{Fronts, reader_fronts}
-use Rattle.cap_source.specs.inner.Reached.{progress_of}
+use Rattle.cap_source.specs.inner.SectionState.{progress_of}
 use Rattle.cap_source.specs.inner.Readers.{reader_file_state}
 use Rattle.cap_source.specs.declared.captures.Capture.{Capture}
 

@@ -3,17 +3,17 @@ use Rattle.std.specs.Prelude.{◌≡◌, ◌≤◌, ◌<◌, ◌+◌, ◌*◌, �
 use Rattle.std.specs.Prelude.{Ok, Err}
 use Rattle.cap_bytes.specs.declared.faults.Fault.{Fault}
 use Rattle.cap_bytes.specs.declared.faults.Fault.TheVariants.{Refused, Read, Write, Memory}
-use Rattle.cap_source.specs.Fed.{CourseState, FedState, MayBeFed, fed_items}
+use Rattle.cap_source.specs.Fed.{PushView, FedState, MayBeFed, fed_items}
 use Rattle.cap_source.specs.Feed.{packet, refused}
-use Rattle.cap_source.specs.inner.FedSteps.{AreShort, CourseKeeps, IsAtBlock, IsSoundCourse}
+use Rattle.cap_source.specs.inner.FedSteps.{AreShort, PushKeeps, IsAtBlock, IsSoundPush}
 use Rattle.cap_source.specs.declared.fed.Stage.{Stage}
 use Rattle.cap_source.specs.declared.fed.Stage.TheVariants.{Start, Records, Blocks, Skipping, Stopped}
 use Rattle.cap_source.specs.declared.fed_captures.Fed.{Fed}
 use Rattle.cap_source.specs.declared.fed_captures.Fed.TheVariants as feds
 
 -- what is always true of it inside
-pub record IsSoundFed (course : CourseState) (start end passed len : ℕ) : Type 0 where
-  pub sound : IsSoundCourse course
+pub record IsSoundFed (state : PushView) (start end passed len : ℕ) : Type 0 where
+  pub sound : IsSoundPush state
   pub order : start ≤ end
   pub frame : end ≤ passed
   pub within : passed ≤ len
@@ -28,7 +28,7 @@ pub record KeepsNothing (s : FedState) : Type 0 where
 -- After some bytes were fed these are to come, and at most twice those that were to come before are kept, and those
 -- that were fed; the packet that came last is let go.
 pub record FedOn (old : FedState) (fed : List ℕ) (new : FedState) : Type 0 where
-  pub course : new.course ≡ old.course
+  pub state : new.state ≡ old.state
   pub rest : new.rest ≡ old.rest ++ fed
   pub frame : new.frame ≡ []
   pub kept : new.kept ≤ 2 * length old.rest + length fed
@@ -44,29 +44,29 @@ FeedsStage Start old bytes result new = FeedsOn old bytes result new
 FeedsStage (Records header) old bytes result new = FeedsOn old bytes result new
 FeedsStage (Blocks section) old bytes result new = FeedsOn old bytes result new
 FeedsStage (Skipping block left) old bytes result new = FeedsOn old bytes result new
-FeedsStage (Stopped stop) old bytes result new = (result ≡ Ok tt) × (new.course ≡ old.course) × KeepsNothing new
+FeedsStage (Stopped stop) old bytes result new = (result ≡ Ok tt) × (new.state ≡ old.state) × KeepsNothing new
 
 abbrev pub FeedsBytes : FedState → List ℕ → Result Unit Fault → FedState → Type 0
-FeedsBytes old bytes result new = FeedsStage old.course.stage old bytes result new
+FeedsBytes old bytes result new = FeedsStage old.state.stage old bytes result new
 
 -- What is found next of a capture that is fed, whatever bytes are fed later, which are none if all were.
 abbrev pub FindsFed : FedState → Result Fed Fault → FedState → Type 0
 FindsFed old (Ok (feds.Packet meta)) new =
-    (later : List ℕ) → MayBeFed old.course later → fed_items old later ≡ packet meta new.frame ∷ fed_items new later
+    (later : List ℕ) → MayBeFed old.state later → fed_items old later ≡ packet meta new.frame ∷ fed_items new later
 FindsFed old (Ok feds.More) new =
-    (old.course.ended ≡ false) × AreShort (fed_items old [])
+    (old.state.ended ≡ false) × AreShort (fed_items old [])
     × ((later : List ℕ) → fed_items old later ≡ fed_items new later)
 FindsFed old (Ok feds.End) new =
-    ((later : List ℕ) → MayBeFed old.course later → fed_items old later ≡ [])
+    ((later : List ℕ) → MayBeFed old.state later → fed_items old later ≡ [])
     × ((later : List ℕ) → fed_items new later ≡ [])
 FindsFed old (Err (Refused refusal)) new =
-    ((later : List ℕ) → MayBeFed old.course later → fed_items old later ≡ refused refusal ∷ [])
+    ((later : List ℕ) → MayBeFed old.state later → fed_items old later ≡ refused refusal ∷ [])
     × ((later : List ℕ) → fed_items new later ≡ refused refusal ∷ [])
 FindsFed old (Err (Read file offset)) new = ⊥
 FindsFed old (Err Write) new = ⊥
 FindsFed old (Err Memory) new =
-    IsAtBlock new.course.stage
-    × ((later : List ℕ) → MayBeFed old.course later → fed_items old later ≡ fed_items new later)
+    IsAtBlock new.state.stage
+    × ((later : List ℕ) → MayBeFed old.state later → fed_items old later ≡ fed_items new later)
 
 -- the most bytes for which memory is held if fewer are kept
 abbrev pub spare_room : ℕ
@@ -89,4 +89,4 @@ LeavesFed old (Err Memory) new = (new.frame ≡ old.frame) × (new.kept ≡ old.
 pub record GivesFed (old : FedState) (result : Result Fed Fault) (new : FedState) : Type 0 where
   pub finds : FindsFed old result new
   pub leaves : LeavesFed old result new
-  pub keeps : CourseKeeps old.course new.course
+  pub keeps : PushKeeps old.state new.state

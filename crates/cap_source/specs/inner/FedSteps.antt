@@ -10,22 +10,22 @@ use Rattle.cap_bytes.specs.declared.faults.Rule.{Rule}
 use Rattle.cap_bytes.specs.declared.faults.Rule.TheVariants as rules
 use Rattle.cap_bytes.specs.declared.stops.Stop.{Stop}
 use Rattle.cap_bytes.specs.declared.stops.Stop.TheVariants as stops
-use Rattle.cap_source.specs.Fed.{CourseState, MayBeFed, items_after}
+use Rattle.cap_source.specs.Fed.{PushView, MayBeFed, items_after}
 use Rattle.cap_source.specs.Feed.{Item, packet, refused}
 use Rattle.cap_source.specs.Contents.{content_in}
-use Rattle.cap_source.specs.Items.{Progress, after, meta_in}
-use Rattle.cap_source.specs.declared.contents.Content.{Content}
-use Rattle.cap_source.specs.declared.contents.Content.TheVariants as contents
-use Rattle.cap_source.specs.declared.contents.Packet.{Packet}
-use Rattle.cap_source.specs.declared.fed.Course.{Course}
-use Rattle.cap_source.specs.declared.fed.FedStep.{FedStep}
+use Rattle.cap_source.specs.Items.{SectionProgress, after, meta_in}
+use Rattle.cap_source.specs.declared.contents.BlockContent.{BlockContent}
+use Rattle.cap_source.specs.declared.contents.BlockContent.TheVariants as contents
+use Rattle.cap_source.specs.declared.contents.BlockPacket.{BlockPacket}
+use Rattle.cap_source.specs.declared.fed.PushState.{PushState}
+use Rattle.cap_source.specs.declared.fed.PushEvent.{PushEvent}
 use Rattle.cap_source.specs.declared.fed.Stage.{Stage}
 use Rattle.cap_source.specs.declared.fed.Stage.TheVariants.{Start, Records, Blocks, Skipping, Stopped}
-use Rattle.cap_source.specs.declared.fed.FedStep.TheVariants as steps
-use Rattle.cap_source.specs.inner.Reached.{counted_blocks, progress_of}
+use Rattle.cap_source.specs.declared.fed.PushEvent.TheVariants as steps
+use Rattle.cap_source.specs.inner.SectionState.{counted_blocks, progress_of}
 
-abbrev pub course_of : Course → CourseState
-course_of c =
+abbrev pub push_view : PushState → PushView
+push_view c =
     record {
       file = c.file;
       tail = c.tail;
@@ -45,19 +45,19 @@ IsSoundStage (Skipping block left) offset =
 IsSoundStage (Stopped stop) offset = ⊤
 
 -- what is always true of it
-pub record IsSoundCourse (c : CourseState) : Type 0 where
+pub record IsSoundPush (c : PushView) : Type 0 where
   pub limit : c.offset ≤ 2 ^ 40
   pub counted : counted_blocks c.progress ≤ c.offset
   pub stage : IsSoundStage c.stage c.offset
 
 -- what is returned of what ended a capture
-abbrev pub IsToldStop : Stop → Result FedStep Fault → Type 0
+abbrev pub IsToldStop : Stop → Result PushEvent Fault → Type 0
 IsToldStop stops.End result = result ≡ Ok steps.Ends
 IsToldStop stops.Cut result = result ≡ Ok steps.Ends
 IsToldStop (stops.Refused refusal) result = result ≡ Err (Refused refusal)
 
 -- It stops there for good.
-abbrev pub StopsFed : CourseState → Stop → Result FedStep Fault → CourseState → Type 0
+abbrev pub StopsFed : PushView → Stop → Result PushEvent Fault → PushView → Type 0
 StopsFed old stop result new = (new ≡ record old { stage = Stopped stop }) × IsToldStop stop result
 
 -- whether too few bytes are the reason
@@ -66,20 +66,20 @@ is_cut_rule rules.Cut = true
 is_cut_rule rule = false
 
 -- More are wanted, or it stops, if the next bytes break a rule.
-abbrev pub BreaksIf : Bool → CourseState → Stop → Result FedStep Fault → CourseState → Type 0
+abbrev pub BreaksIf : Bool → PushView → Stop → Result PushEvent Fault → PushView → Type 0
 BreaksIf true old stop result new = (result ≡ Ok steps.Short) × (new ≡ old)
 BreaksIf false old stop result new = StopsFed old stop result new
 
-abbrev pub BreaksBy : CourseState → Rule → Stop → Result FedStep Fault → CourseState → Type 0
+abbrev pub BreaksBy : PushView → Rule → Stop → Result PushEvent Fault → PushView → Type 0
 BreaksBy old rule stop result new = BreaksIf (not old.ended && is_cut_rule rule) old stop result new
 
-abbrev pub BreaksOff : CourseState → Bool → List ℕ → Rule → Result FedStep Fault → CourseState → Type 0
+abbrev pub BreaksOff : PushView → Bool → List ℕ → Rule → Result PushEvent Fault → PushView → Type 0
 BreaksOff old inside bytes rule result new =
     (stop : Stop) × (stop_where inside old.tail old.file old.offset bytes (Some rule) ≡ Some stop)
     × BreaksBy old rule stop result new
 
 -- it goes on after a block of that order
-abbrev pub behind_block : CourseState → Block → Progress → CourseState
+abbrev pub behind_block : PushView → Block → SectionProgress → PushView
 behind_block c block progress =
     record {
       file = c.file;
@@ -91,14 +91,14 @@ behind_block c block progress =
     }
 
 -- a block says that, and no packet
-abbrev pub IsNoPacket : Content → Type 0
+abbrev pub IsNoPacket : BlockContent → Type 0
 IsNoPacket contents.Section = ⊤
 IsNoPacket (contents.Interface described) = ⊤
 IsNoPacket (contents.Packet p) = ⊥
 IsNoPacket contents.Other = ⊤
 
 -- a packet's bytes lie within its block
-abbrev pub SaysWithin : Block → Result Content Rule → Type 0
+abbrev pub SaysWithin : Block → Result BlockContent Rule → Type 0
 SaysWithin block (Ok contents.Section) = ⊤
 SaysWithin block (Ok (contents.Interface described)) = ⊤
 SaysWithin block (Ok (contents.Packet p)) = 12 + p.place + p.captured ≤ block.total
@@ -106,13 +106,13 @@ SaysWithin block (Ok contents.Other) = ⊤
 SaysWithin block (Err rule) = ⊤
 
 -- What taking a block of a known kind returns and leaves, by what the block says.
-abbrev pub TakesFed : CourseState → Block → Result Content Rule → Result FedStep Fault → CourseState → Type 0
+abbrev pub TakesFed : PushView → Block → Result BlockContent Rule → Result PushEvent Fault → PushView → Type 0
 TakesFed old block said (Ok (steps.Packet meta place size)) new =
-    (p : Packet) × (said ≡ Ok (contents.Packet p)) × (meta ≡ meta_in old.file old.progress block p)
+    (p : BlockPacket) × (said ≡ Ok (contents.Packet p)) × (meta ≡ meta_in old.file old.progress block p)
     × (place ≡ 8 + p.place) × (size ≡ block.total) × (12 + p.place + p.captured ≤ block.total)
     × (new ≡ behind_block old block old.progress)
 TakesFed old block said (Ok (steps.Passed n)) new =
-    (content : Content) × (said ≡ Ok content) × IsNoPacket content × (n ≡ block.total)
+    (content : BlockContent) × (said ≡ Ok content) × IsNoPacket content × (n ≡ block.total)
     × (new ≡ behind_block old block (after old.progress content))
 TakesFed old block said (Ok steps.Short) new = ⊥
 TakesFed old block said (Ok steps.Ends) new = ⊥
@@ -124,7 +124,7 @@ TakesFed old block said (Err (Read file offset)) new = ⊥
 TakesFed old block said (Err Write) new = ⊥
 TakesFed old block said (Err Memory) new = new ≡ old
 
-abbrev pub TakesBlockFed : CourseState → Block → List ℕ → Result FedStep Fault → CourseState → Type 0
+abbrev pub TakesBlockFed : PushView → Block → List ℕ → Result PushEvent Fault → PushView → Type 0
 TakesBlockFed old block bytes result new =
     TakesFed old block (content_in old.progress.interfaces block.kind block.order
     (body_in block.total bytes)) result new
@@ -144,13 +144,13 @@ IsAtBlock (Skipping block left) = ⊥
 IsAtBlock (Stopped stop) = ⊥
 
 -- what every look keeps
-pub record CourseKeeps (old new : CourseState) : Type 0 where
+pub record PushKeeps (old new : PushView) : Type 0 where
   pub file : new.file ≡ old.file
   pub tail : new.tail ≡ old.tail
   pub ended : new.ended ≡ old.ended
 
 -- What a look at the next bytes returns and leaves.
-abbrev pub StepsFed : CourseState → List ℕ → Result FedStep Fault → CourseState → Type 0
+abbrev pub StepsFed : PushView → List ℕ → Result PushEvent Fault → PushView → Type 0
 StepsFed old bytes (Ok (steps.Passed n)) new =
     (0 < n) × (n ≤ length bytes)
     × ((later : List ℕ) → MayBeFed old later
@@ -176,12 +176,12 @@ StepsFed old bytes (Err Memory) new =
     IsAtBlock new.stage × ((later : List ℕ) → items_after old (bytes ++ later) ≡ items_after new (bytes ++ later))
 
 -- The same items come of the next bytes, whatever is fed later, as come from another point on of these.
-abbrev pub FollowsFed : CourseState → List ℕ → CourseState → List ℕ → Type 0
+abbrev pub FollowsFed : PushView → List ℕ → PushView → List ℕ → Type 0
 FollowsFed old bytes new rest =
     (later : List ℕ) → MayBeFed old later → items_after old (bytes ++ later) ≡ items_after new (rest ++ later)
 
 -- bytes were passed, and nothing else was found
-abbrev pub is_passed : Result FedStep Fault → Bool
+abbrev pub is_passed : Result PushEvent Fault → Bool
 is_passed (Ok (steps.Passed n)) = true
 is_passed (Ok (steps.Packet meta place size)) = false
 is_passed (Ok steps.Short) = false
@@ -189,11 +189,11 @@ is_passed (Ok steps.Ends) = false
 is_passed (Err fault) = false
 
 -- What looking on at the next bytes returns and leaves: at the point that is reached, `rest` are still to come.
-pub record LooksFed (old : CourseState) (bytes : List ℕ) (result : Result FedStep Fault) (new : CourseState)
+pub record LooksFed (old : PushView) (bytes : List ℕ) (result : Result PushEvent Fault) (new : PushView)
     (rest : List ℕ)
     : Type 0 where
-  pub reached : CourseState
-  pub keeps : CourseKeeps old reached
+  pub reached : PushView
+  pub keeps : PushKeeps old reached
   pub follows : FollowsFed old bytes reached rest
   pub steps : StepsFed reached rest result new
   pub ends : is_passed result ≡ false

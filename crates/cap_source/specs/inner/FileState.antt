@@ -18,17 +18,18 @@ use Rattle.cap_bytes.specs.declared.stops.Stop.{Stop}
 use Rattle.cap_blocks.specs.inner.Reader as blocks
 use Rattle.cap_source.specs.Feed.{Feed, Item, packet, refused, Knows, GivesHead, SameItems}
 use Rattle.cap_blocks.specs.declared.blocks.Block.{Block}
-use Rattle.cap_source.specs.declared.contents.Content.{Content}
+use Rattle.cap_source.specs.declared.contents.BlockContent.{BlockContent}
 use Rattle.cap_source.specs.declared.packets.Meta.{Meta}
-use Rattle.cap_source.specs.declared.contents.Content.TheVariants as contents
-use Rattle.cap_source.specs.Items.{Progress, meta_in, ending_with, items_of_blocks, ending_in, first_in, interface_of}
+use Rattle.cap_source.specs.declared.contents.BlockContent.TheVariants as contents
+use Rattle.cap_source.specs.Items.{SectionProgress, meta_in, ending_with, items_of_blocks, ending_in, first_in}
+use Rattle.cap_source.specs.Items.{interface_of}
 use Rattle.cap_source.specs.Items.{pcap_items, pcap_ending, unless_refused, items_from, ending_from, first_from}
-use Rattle.cap_source.specs.inner.Reached.{counted_blocks}
+use Rattle.cap_source.specs.inner.SectionState.{counted_blocks}
 use Rattle.cap_source.specs.declared.feeds.FileEnd.{FileEnd}
 use Rattle.cap_source.specs.declared.feeds.Head.{Head}
 use Rattle.cap_source.specs.declared.feeds.Head.TheVariants as heads
-use Rattle.cap_source.specs.declared.readers.Next.{Next}
-use Rattle.cap_source.specs.declared.readers.Next.TheVariants as nexts
+use Rattle.cap_source.specs.declared.readers.Peeked.{Peeked}
+use Rattle.cap_source.specs.declared.readers.Peeked.TheVariants as peeks
 
 -- The file of that number as its reader still gives it: the items to come, how the file ends, and its first interface
 -- if it stands before the next item or the end, if the device tells its bytes; `noted` is that interface as far as the
@@ -56,7 +57,7 @@ pub record FileState : Type 0 where
   pub counted : ℕ
 
 -- a file of which nothing was read
-abbrev pub unread_state : WindowState → Tail → Progress → FileState
+abbrev pub unread_state : WindowState → Tail → SectionProgress → FileState
 unread_state window tail progress =
     record {
       file = window.file;
@@ -99,7 +100,7 @@ noted_by None = None
 noted_by (Some header) = Some (interface_of header)
 
 -- a pcap file
-abbrev pub pcap_state : ReaderState PcapHeader → Progress → FileState
+abbrev pub pcap_state : ReaderState PcapHeader → SectionProgress → FileState
 pcap_state reader progress =
     record {
       file = reader.file;
@@ -123,7 +124,7 @@ pcap_state reader progress =
     }
 
 -- a pcapng file
-abbrev pub pcapng_state : ReaderState Order → Progress → FileState
+abbrev pub pcapng_state : ReaderState Order → SectionProgress → FileState
 pcapng_state reader progress =
     record {
       file = reader.file;
@@ -163,11 +164,11 @@ abbrev pub ReadsTo : FileState → FileState → Type 0
 ReadsTo old new = ReachesTo old.most new.offset old.read new.read
 
 -- The file goes on, or a packet comes next: then that holds.
-abbrev pub IfTaken : Option Next → Type 0 → Type 0
+abbrev pub IfTaken : Option Peeked → Type 0 → Type 0
 IfTaken None P = P
-IfTaken (Some (nexts.Packet meta place)) P = P
-IfTaken (Some (nexts.Refused refusal ending)) P = ⊤
-IfTaken (Some (nexts.End ending)) P = ⊤
+IfTaken (Some (peeks.Packet meta place)) P = P
+IfTaken (Some (peeks.Refused refusal ending)) P = ⊤
+IfTaken (Some (peeks.End ending)) P = ⊤
 
 -- The same of a file of which something was to come: that takes 4 bytes at least.
 abbrev pub FileTakes : FileState → FileState → Type 0
@@ -180,106 +181,106 @@ pub record SameRest (old new : FileState) : Type 0 where
   pub first : new.first ≡ old.first
 
 -- where the captured bytes of a packet end in what is lent, and how long that is, each counted from 1
-abbrev pub lent_end : Option Next → ℕ
+abbrev pub lent_end : Option Peeked → ℕ
 lent_end None = 0
-lent_end (Some (nexts.Packet meta place)) = place + meta.captured + 1
-lent_end (Some (nexts.Refused refusal ending)) = 0
-lent_end (Some (nexts.End ending)) = 0
+lent_end (Some (peeks.Packet meta place)) = place + meta.captured + 1
+lent_end (Some (peeks.Refused refusal ending)) = 0
+lent_end (Some (peeks.End ending)) = 0
 
 abbrev pub lent_length : Option (List ℕ) → ℕ
 lent_length None = 0
 lent_length (Some bytes) = length bytes + 1
 
 -- where the captured bytes of a packet begin in what is lent
-abbrev pub start_of : Option Next → ℕ
+abbrev pub start_of : Option Peeked → ℕ
 start_of None = 0
-start_of (Some (nexts.Packet meta place)) = place
-start_of (Some (nexts.Refused refusal ending)) = 0
-start_of (Some (nexts.End ending)) = 0
+start_of (Some (peeks.Packet meta place)) = place
+start_of (Some (peeks.Refused refusal ending)) = 0
+start_of (Some (peeks.End ending)) = 0
 
 -- how many bytes are captured of a packet
-abbrev pub captured_of : Option Next → ℕ
+abbrev pub captured_of : Option Peeked → ℕ
 captured_of None = 0
-captured_of (Some (nexts.Packet meta place)) = meta.captured
-captured_of (Some (nexts.Refused refusal ending)) = 0
-captured_of (Some (nexts.End ending)) = 0
+captured_of (Some (peeks.Packet meta place)) = meta.captured
+captured_of (Some (peeks.Refused refusal ending)) = 0
+captured_of (Some (peeks.End ending)) = 0
 
 -- the place after the first byte of a packet's record or block
-abbrev pub behind_of : Option Next → ℕ
+abbrev pub behind_of : Option Peeked → ℕ
 behind_of None = 0
-behind_of (Some (nexts.Packet meta place)) = meta.offset + 1
-behind_of (Some (nexts.Refused refusal ending)) = 0
-behind_of (Some (nexts.End ending)) = 0
+behind_of (Some (peeks.Packet meta place)) = meta.offset + 1
+behind_of (Some (peeks.Refused refusal ending)) = 0
+behind_of (Some (peeks.End ending)) = 0
 
 -- where the next record or block begins, or that of a packet that comes next
-abbrev pub place_of_next : Option Next → ℕ → ℕ
+abbrev pub place_of_next : Option Peeked → ℕ → ℕ
 place_of_next None offset = offset
-place_of_next (Some (nexts.Packet meta place)) offset = meta.offset
-place_of_next (Some (nexts.Refused refusal ending)) offset = offset
-place_of_next (Some (nexts.End ending)) offset = offset
+place_of_next (Some (peeks.Packet meta place)) offset = meta.offset
+place_of_next (Some (peeks.Refused refusal ending)) offset = offset
+place_of_next (Some (peeks.End ending)) offset = offset
 
 -- the file that is named by what comes next
-abbrev pub next_file : Option Next → ℕ → ℕ
+abbrev pub next_file : Option Peeked → ℕ → ℕ
 next_file None file = file
-next_file (Some (nexts.Packet meta place)) file = meta.file
-next_file (Some (nexts.Refused refusal ending)) file = refusal.file
-next_file (Some (nexts.End ending)) file = file
+next_file (Some (peeks.Packet meta place)) file = meta.file
+next_file (Some (peeks.Refused refusal ending)) file = refusal.file
+next_file (Some (peeks.End ending)) file = file
 
 -- the captured bytes of a packet
 abbrev pub part_of : Option (List ℕ) → ℕ → ℕ → List ℕ
 part_of None place captured = []
 part_of (Some bytes) place captured = take captured (drop place bytes)
 
-abbrev pub next_frame : Option Next → Option (List ℕ) → List ℕ
+abbrev pub next_frame : Option Peeked → Option (List ℕ) → List ℕ
 next_frame None lent = []
-next_frame (Some (nexts.Packet meta place)) lent = part_of lent place meta.captured
-next_frame (Some (nexts.Refused refusal ending)) lent = []
-next_frame (Some (nexts.End ending)) lent = []
+next_frame (Some (peeks.Packet meta place)) lent = part_of lent place meta.captured
+next_frame (Some (peeks.Refused refusal ending)) lent = []
+next_frame (Some (peeks.End ending)) lent = []
 
 -- the reader has not come to an end, unless that is known
-abbrev pub is_free : Option Next → Bool → Bool
+abbrev pub is_free : Option Peeked → Bool → Bool
 is_free None stops = not stops
-is_free (Some (nexts.Packet meta place)) stops = not stops
-is_free (Some (nexts.Refused refusal ending)) stops = true
-is_free (Some (nexts.End ending)) stops = true
+is_free (Some (peeks.Packet meta place)) stops = not stops
+is_free (Some (peeks.Refused refusal ending)) stops = true
+is_free (Some (peeks.End ending)) stops = true
 
 -- no read has failed, if it is known what comes next
-abbrev pub is_unbroken : Option Next → Option ℕ → Bool
+abbrev pub is_unbroken : Option Peeked → Option ℕ → Bool
 is_unbroken None broken = true
 is_unbroken (Some next) broken = not (is_some broken)
 
 -- what is always true of what comes next of a file
-pub record IsNext (next : Option Next) (state : FileState) : Type 0 where
+pub record IsNext (next : Option Peeked) (state : FileState) : Type 0 where
   pub file : next_file next state.file ≡ state.file
   pub lent : lent_end next ≤ lent_length state.lent
   pub captured : captured_of next ≤ 262144
   pub behind : behind_of next ≤ state.offset
 
 -- the items to come, by what comes next
-abbrev pub items_from_next : Option Next → List ℕ → List Item → List Item
+abbrev pub items_from_next : Option Peeked → List ℕ → List Item → List Item
 items_from_next None frame rest = rest
-items_from_next (Some (nexts.Packet meta place)) frame rest = packet meta frame ∷ rest
-items_from_next (Some (nexts.Refused refusal ending)) frame rest = refused refusal ∷ []
-items_from_next (Some (nexts.End ending)) frame rest = []
+items_from_next (Some (peeks.Packet meta place)) frame rest = packet meta frame ∷ rest
+items_from_next (Some (peeks.Refused refusal ending)) frame rest = refused refusal ∷ []
+items_from_next (Some (peeks.End ending)) frame rest = []
 
 -- how the file ends
-abbrev pub ending_by : Option Next → FileEnd → FileEnd
+abbrev pub ending_by : Option Peeked → FileEnd → FileEnd
 ending_by None later = later
-ending_by (Some (nexts.Packet meta place)) later = later
-ending_by (Some (nexts.Refused refusal ending)) later = ending
-ending_by (Some (nexts.End ending)) later = ending
+ending_by (Some (peeks.Packet meta place)) later = later
+ending_by (Some (peeks.Refused refusal ending)) later = ending
+ending_by (Some (peeks.End ending)) later = ending
 
 -- its first interface, if it stands before what comes next
-abbrev pub first_by : Option Next → FileState → Option Interface
+abbrev pub first_by : Option Peeked → FileState → Option Interface
 first_by None state = state.first
 first_by (Some next) state = state.noted
 
-abbrev pub head_of : Next → Head
-head_of (nexts.Packet meta place) = heads.Packet meta
-head_of (nexts.Refused refusal ending) = heads.Refused refusal
-head_of (nexts.End ending) = heads.End
+abbrev pub head_of : Peeked → Head
+head_of (peeks.Packet meta place) = heads.Packet meta
+head_of (peeks.Refused refusal ending) = heads.Refused refusal
+head_of (peeks.End ending) = heads.End
 
-abbrev pub next_head : Option Next → Option Head
+abbrev pub next_head : Option Peeked → Option Head
 next_head None = None
 next_head (Some next) = Some (head_of next)
 
@@ -294,14 +295,14 @@ offset_at None offset = offset
 offset_at (Some first) offset = first
 
 -- a packet is known to come next
-abbrev pub is_packet : Option Next → Bool
+abbrev pub is_packet : Option Peeked → Bool
 is_packet None = false
-is_packet (Some (nexts.Packet meta place)) = true
-is_packet (Some (nexts.Refused refusal ending)) = false
-is_packet (Some (nexts.End ending)) = false
+is_packet (Some (peeks.Packet meta place)) = true
+is_packet (Some (peeks.Refused refusal ending)) = false
+is_packet (Some (peeks.End ending)) = false
 
 -- the file, of which that comes next if it is known, as a feed
-abbrev pub file_feed : FileState → Option Next → Feed
+abbrev pub file_feed : FileState → Option Peeked → Feed
 file_feed state next =
     record {
       files = state.file ∷ [];
@@ -324,7 +325,7 @@ pub record FileGoes (old new : FileState) : Type 0 where
   pub failed : new.failed ≡ old.failed
 
 -- What comes next of a file is learned.
-pub record FileLearns (old : FileState) (next : Next) (new : FileState) : Type 0 where
+pub record FileLearns (old : FileState) (next : Peeked) (new : FileState) : Type 0 where
   pub is : IsNext (Some next) new
   pub place : old.offset ≤ place_of_next (Some next) new.offset
   pub free : IsTrue (is_free (Some next) new.stops)
@@ -351,16 +352,16 @@ pub record FileWaits (old new : FileState) : Type 0 where
   pub rest : IsTrue old.told → SameRest old new
 
 -- what a look at what comes next returns, and what is known of that after it
-abbrev pub FileAnswers : {A : Type 0} → FileState → Result A Fault → Option Next → FileState → Type 0
-FileAnswers old (Ok x) after new = (next : Next) × (after ≡ Some next) × FileLearns old next new
+abbrev pub FileAnswers : {A : Type 0} → FileState → Result A Fault → Option Peeked → FileState → Type 0
+FileAnswers old (Ok x) after new = (next : Peeked) × (after ≡ Some next) × FileLearns old next new
 FileAnswers old (Err (Refused refusal)) after new = ⊥
 FileAnswers old (Err (Read file offset)) after new = (after ≡ None) × FileFails old file offset new
 FileAnswers old (Err Write) after new = ⊥
 FileAnswers old (Err Memory) after new = (after ≡ None) × FileWaits old new × (old.broken ≡ None)
 
 -- what a look at what is shown already returns: whether it was enough
-abbrev pub TakesShown : FileState → Bool → Option Next → FileState → Type 0
-TakesShown old true after new = (next : Next) × (after ≡ Some next) × FileLearns old next new
+abbrev pub TakesShown : FileState → Bool → Option Peeked → FileState → Type 0
+TakesShown old true after new = (next : Peeked) × (after ≡ Some next) × FileLearns old next new
 TakesShown old false after new = ⊤
 
 -- the same of a look at one block, after which a pcapng file may go on
@@ -368,11 +369,11 @@ pub record GoesOn (old new : FileState) : Type 0 where
   pub waits : FileWaits old new
   pub further : old.offset < new.offset
 
-abbrev pub StepsTo : FileState → Option Next → FileState → Type 0
+abbrev pub StepsTo : FileState → Option Peeked → FileState → Type 0
 StepsTo old (Some next) new = FileLearns old next new
 StepsTo old None new = GoesOn old new
 
-abbrev pub FileSteps : {A : Type 0} → FileState → Result A Fault → Option Next → FileState → Type 0
+abbrev pub FileSteps : {A : Type 0} → FileState → Result A Fault → Option Peeked → FileState → Type 0
 FileSteps old (Ok x) after new = StepsTo old after new
 FileSteps old (Err (Refused refusal)) after new = ⊥
 FileSteps old (Err (Read file offset)) after new = (after ≡ None) × FileFails old file offset new
@@ -380,16 +381,16 @@ FileSteps old (Err Write) after new = ⊥
 FileSteps old (Err Memory) after new = (after ≡ None) × FileWaits old new × (old.broken ≡ None)
 
 -- what comes next if a block says that, if anything does
-abbrev pub next_at : ℕ → Progress → Block → Result Content Rule → Option Next
+abbrev pub next_at : ℕ → SectionProgress → Block → Result BlockContent Rule → Option Peeked
 next_at file progress block (Ok contents.Section) = None
 next_at file progress block (Ok (contents.Interface described)) = None
-next_at file progress block (Ok (contents.Packet p)) = Some (nexts.Packet (meta_in file progress block p) p.place)
+next_at file progress block (Ok (contents.Packet p)) = Some (peeks.Packet (meta_in file progress block p) p.place)
 next_at file progress block (Ok contents.Other) = None
 next_at file progress block (Err rule) =
-    Some (nexts.Refused (record { file = file; offset = block.offset; rule = rule }) (ending_with progress false))
+    Some (peeks.Refused (record { file = file; offset = block.offset; rule = rule }) (ending_with progress false))
 
 -- what is always true of a file and of what comes next of it, if that is known
-pub record IsSoundFile (state : FileState) (next : Option Next) : Type 0 where
+pub record IsSoundFile (state : FileState) (next : Option Peeked) : Type 0 where
   pub is : IsNext next state
   pub free : IsTrue (is_free next state.stops)
   pub whole : IsTrue (is_unbroken next state.broken)
@@ -399,13 +400,13 @@ pub record IsSoundFile (state : FileState) (next : Option Next) : Type 0 where
   pub counted : state.counted ≤ state.offset
 
 -- What is learned, or was known before.
-abbrev pub LearnsOr : FileState → Option Next → Next → FileState → Type 0
+abbrev pub LearnsOr : FileState → Option Peeked → Peeked → FileState → Type 0
 LearnsOr old None next new = FileLearns old next new
 LearnsOr old (Some known) next new = (next ≡ known) × (new ≡ old)
 
 -- what asking for what comes next returns
-abbrev pub LearnsNext : {A : Type 0} → FileState → Option Next → Result A Fault → FileState → Option Next → Type 0
-LearnsNext old known (Ok x) new after = (next : Next) × (after ≡ Some next) × LearnsOr old known next new
+abbrev pub LearnsNext : {A : Type 0} → FileState → Option Peeked → Result A Fault → FileState → Option Peeked → Type 0
+LearnsNext old known (Ok x) new after = (next : Peeked) × (after ≡ Some next) × LearnsOr old known next new
 LearnsNext old known (Err (Refused refusal)) new after = ⊥
 LearnsNext old known (Err (Read file offset)) new after = (known ≡ None) × (after ≡ None)
     × FileFails old file offset new
@@ -413,11 +414,11 @@ LearnsNext old known (Err Write) new after = ⊥
 LearnsNext old known (Err Memory) new after = (known ≡ None) × (after ≡ None) × FileWaits old new × (old.broken ≡ None)
 
 -- what asking whether a packet is shown returns
-abbrev pub ShowsNext : FileState → Option Next → Bool → FileState → Option Next → Type 0
-ShowsNext old known true new after = (meta : Meta) × (place : ℕ) × (after ≡ Some (nexts.Packet meta place))
-    × LearnsOr old known (nexts.Packet meta place) new
+abbrev pub ShowsNext : FileState → Option Peeked → Bool → FileState → Option Peeked → Type 0
+ShowsNext old known true new after = (meta : Meta) × (place : ℕ) × (after ≡ Some (peeks.Packet meta place))
+    × LearnsOr old known (peeks.Packet meta place) new
 ShowsNext old known false new after = ((new ≡ old) × (after ≡ known))
-    ⊎ ((next : Next) × (after ≡ Some next) × LearnsOr old known next new)
+    ⊎ ((next : Peeked) × (after ≡ Some next) × LearnsOr old known next new)
 
 -- what asking for the first interface returns, of the file as a feed
 abbrev pub GivesFirst : Feed → Option Interface → Result (Option Interface) Fault → Feed → Type 0

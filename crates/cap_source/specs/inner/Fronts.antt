@@ -12,13 +12,13 @@ use Rattle.cap_blocks.specs.Split.{block_items_from}
 use Rattle.cap_pcap.specs.inner.Reader.{record_items_at}
 use Rattle.cap_pcap.specs.declared.headers.PcapHeader.{PcapHeader}
 use Rattle.cap_source.specs.Feed.{Item, packet}
-use Rattle.cap_source.specs.Items.{Progress, ending_from, ending_in, ending_with, interface_of, items_from}
+use Rattle.cap_source.specs.Items.{SectionProgress, ending_from, ending_in, ending_with, interface_of, items_from}
 use Rattle.cap_source.specs.Items.{items_of_blocks, pcap_ending, pcap_ending_with, pcap_items}
 use Rattle.cap_source.specs.declared.feeds.FileEnd.{FileEnd}
 use Rattle.cap_source.specs.declared.feeds.Head.{Head}
 use Rattle.cap_source.specs.declared.feeds.Head.TheVariants as heads
 use Rattle.cap_source.specs.declared.packets.Meta.{Meta}
-use Rattle.cap_source.specs.declared.readers.Next.{Next}
+use Rattle.cap_source.specs.declared.readers.Peeked.{Peeked}
 use Rattle.cap_source.specs.declared.readers.Reader.{Reader}
 use Rattle.cap_source.specs.declared.readers.Reader.TheVariants as readers
 use Rattle.cap_source.specs.inner.FileState.{IfTaken, header_or, items_from_next, next_frame}
@@ -43,7 +43,7 @@ abbrev pub bytes_before : ℕ → ℕ → List ℕ → List ℕ
 bytes_before end offset bytes = take (end - offset) bytes
 
 -- a file of which nothing was read
-abbrev pub unread_fronts : WindowState → Tail → Progress → Fronts
+abbrev pub unread_fronts : WindowState → Tail → SectionProgress → Fronts
 unread_fronts window tail progress =
     record {
       told = window.told;
@@ -82,7 +82,7 @@ pcap_fronts reader =
     }
 
 -- a pcapng file
-abbrev pub pcapng_fronts : ReaderState Order → Progress → Fronts
+abbrev pub pcapng_fronts : ReaderState Order → SectionProgress → Fronts
 pcapng_fronts reader progress =
     record {
       told = reader.told;
@@ -99,7 +99,7 @@ pcapng_fronts reader progress =
     }
 
 -- the reader that is on its way
-abbrev pub moved_fronts : Progress → Fronts
+abbrev pub moved_fronts : SectionProgress → Fronts
 moved_fronts progress =
     record {
       told = true;
@@ -113,7 +113,7 @@ moved_fronts progress =
       ending = λ end. ending_with progress false;
     }
 
-abbrev pub reader_fronts : {R : Type 0} → Reader R → Progress → Fronts
+abbrev pub reader_fronts : {R : Type 0} → Reader R → SectionProgress → Fronts
 reader_fronts (readers.Unread window tail) progress = unread_fronts window tail progress
 reader_fronts (readers.Pcap reader) progress = pcap_fronts reader
 reader_fronts (readers.Pcapng reader) progress = pcapng_fronts reader progress
@@ -124,7 +124,7 @@ abbrev pub MayEnd : Fronts → ℕ → Type 0
 MayEnd fronts end = (fronts.offset ≤ end) × (IsTrue fronts.begun ⊎ (fronts.offset + 4 ≤ end))
 
 -- Its header, records or blocks were read, and so that comes next, if anything does. It has the same bytes.
-pub record FrontsPass (old : Fronts) (next : Option Next) (new : Fronts) : Type 0 where
+pub record FrontsPass (old : Fronts) (next : Option Peeked) (new : Fronts) : Type 0 where
   pub size : new.size ≡ old.size
   pub broken : new.broken ≡ old.broken
   pub begun : IsTrue (is_some next) → IsTrue new.begun
@@ -145,7 +145,7 @@ pub record FrontsFail (old : Fronts) (offset : ℕ) (new : Fronts) : Type 0 wher
   pub whole : IsTrue new.begun → (old.ending offset).ending.was_cut ≡ false
 
 -- what a look at what comes next makes of them
-abbrev pub FrontsAnswer : {A : Type 0} → Fronts → Result A Fault → Option Next → Fronts → Type 0
+abbrev pub FrontsAnswer : {A : Type 0} → Fronts → Result A Fault → Option Peeked → Fronts → Type 0
 FrontsAnswer old (Ok x) next new = IfTaken next (FrontsPass old next new)
 FrontsAnswer old (Err (Refused refusal)) next new = ⊤
 FrontsAnswer old (Err (Read file offset)) next new = old.broken ≡ None → FrontsFail old offset new

@@ -9,7 +9,7 @@ use Rattle.cap_blocks.specs.declared.blocks.Block.{Block}
 use Rattle.cap_source.specs.Feed.{Item}
 use Rattle.cap_source.specs.declared.feeds.FileEnd.{FileEnd}
 use Rattle.cap_source.specs.Contents.{content_in}
-use Rattle.cap_source.specs.Items.{Progress, fresh, items_at_block, items_of_blocks, items_of_stop, ending_with}
+use Rattle.cap_source.specs.Items.{SectionProgress, fresh, items_at_block, items_of_blocks, items_of_stop, ending_with}
 use Rattle.cap_source.specs.Items.{ending_in, is_cut}
 use Rattle.cap_source.specs.Items.{unless_faulty, first_in, unless_item}
 use Rattle.cap_source.specs.TimeBases.{interface_at, is_named}
@@ -44,7 +44,7 @@ interfaces_of bs = map told (filter is_interface bs)
 -- What is known behind these blocks of a file: the interfaces of those after the last section header; how many
 -- interface blocks stand before that header; how many blocks were skipped; how many interfaces have a name; and the
 -- first interface of all.
-unfoldable pub known_behind : List Standing → Progress
+unfoldable pub known_behind : List Standing → SectionProgress
 known_behind before =
     record {
       interfaces = interfaces_of (after_last is_header before);

@@ -8,15 +8,15 @@ use Rattle.cap_bytes.specs.inner.Reader.{opened_reader}
 use Rattle.cap_source.specs.Items.{is_pcapng}
 use Rattle.cap_bytes.specs.declared.formats.Format.{Format}
 use Rattle.cap_bytes.specs.declared.formats.Format.TheVariants.{Pcap, Pcapng}
-use Rattle.cap_source.specs.Items.{Progress, ending_with}
+use Rattle.cap_source.specs.Items.{SectionProgress, ending_with}
 use Rattle.cap_source.specs.inner.FileState.{FileState, FileFails, FileWaits, unread_state, pcap_state, pcapng_state}
-use Rattle.cap_source.specs.inner.Reached.{has_room}
-use Rattle.cap_source.specs.declared.reached.Reached.{Reached}
+use Rattle.cap_source.specs.inner.SectionState.{has_room}
+use Rattle.cap_source.specs.declared.section_states.SectionState.{SectionState}
 use Rattle.cap_source.specs.declared.readers.Reader.{Reader}
 use Rattle.cap_source.specs.declared.readers.Reader.TheVariants as readers
 
 -- the reader that is on its way has nothing to come
-abbrev pub moved_state : Progress → FileState
+abbrev pub moved_state : SectionProgress → FileState
 moved_state progress =
     record {
       file = 0;
@@ -38,7 +38,7 @@ moved_state progress =
       counted = 0;
     }
 
-abbrev pub reader_file_state : {R : Type 0} → Reader R → Progress → FileState
+abbrev pub reader_file_state : {R : Type 0} → Reader R → SectionProgress → FileState
 reader_file_state (readers.Unread window tail) progress = unread_state window tail progress
 reader_file_state (readers.Pcap reader) progress = pcap_state reader progress
 reader_file_state (readers.Pcapng reader) progress = pcapng_state reader progress
@@ -80,7 +80,7 @@ is_stopped (readers.Pcapng reader) = is_some reader.stop
 is_stopped readers.Moved = false
 
 -- whether there is room for an interface in a pcapng file of which a read has failed
-abbrev pub reader_room : {R : Type 0} → Reader R → Reached → Bool
+abbrev pub reader_room : {R : Type 0} → Reader R → SectionState → Bool
 reader_room (readers.Unread window tail) reached = true
 reader_room (readers.Pcap reader) reached = true
 reader_room (readers.Pcapng reader) reached = has_room reader.broken reached

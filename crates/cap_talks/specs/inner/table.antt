@@ -7,7 +7,7 @@ pub mod Packed
 pub mod Props
 pub mod Stepping
 pub mod TableView
-pub mod TalksView
+pub mod ConversationsView
 pub mod Tallies
 pub mod TallyView
 pub mod Totals

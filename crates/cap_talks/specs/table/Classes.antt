@@ -11,7 +11,7 @@ use Rattle.cap_join.specs.Fragments.{Piece}
 use Rattle.cap_join.specs.Joiners.{open_limit}
 use Rattle.cap_join.specs.Completed.{completed_of}
 use Rattle.cap_source.specs.declared.packets.Meta.{Meta}
-use Rattle.cap_class.specs.Taken.{Taken, Look, plain, datagram, fragment, look, taken, events_of}
+use Rattle.cap_class.specs.Taken.{Taken, Classification, plain, datagram, fragment, classify, taken, events_of}
 use Rattle.cap_class.specs.declared.classes.Class.{Class}
 use Rattle.cap_class.specs.declared.classes.Class.TheVariants as class
 use Rattle.cap_talks.specs.declared.table.classes.ClassCounts.{ClassCounts}
@@ -40,18 +40,18 @@ has_place place pieces = list_any (λ p. p.stamped.place == place) pieces
 abbrev pub class_in : List (List Piece) → ℕ → Class
 class_in groups place = option_map_or group_class (find (has_place place) groups) class.Unjoined
 
-abbrev pub class_by : List (List Piece) → Look → Class
+abbrev pub class_by : List (List Piece) → Classification → Class
 class_by groups (plain c) = c
 class_by groups (datagram header captured) = class_of (transport_of header.key.protocol captured header.data_length)
 class_by groups (fragment p) = class_in groups p.stamped.place
 
 abbrev pub classes_in : List (List Piece) → List Taken → List Class
 classes_in groups [] = []
-classes_in groups (x ∷ xs) = class_by groups (look (length xs) x) ∷ classes_in groups xs
+classes_in groups (x ∷ xs) = class_by groups (classify (length xs) x) ∷ classes_in groups xs
 
 -- the class of a packet in a run of it alone, where no group is completed
 unfoldable pub lone_class : Meta → List ℕ → Class
-lone_class meta frame = class_by [] (look 0 (taken None meta frame))
+lone_class meta frame = class_by [] (classify 0 (taken None meta frame))
 
 -- the groups that were completed among some packets
 abbrev pub groups_of : List Taken → List (List Piece)

@@ -15,15 +15,15 @@ use Rattle.cap_join.specs.History.{Event, joined_pieces, open_groups_after}
 use Rattle.cap_join.specs.Joiners.{open_limit}
 use Rattle.cap_join.specs.declared.datagrams.Stamped.{Stamped}
 use Rattle.cap_talks.specs.table.Rows.{is_refused, talk_limit}
-use Rattle.cap_talks.specs.table.Talks.{talk_key, rows_of}
+use Rattle.cap_talks.specs.table.Conversations.{talk_key, rows_of}
 use Rattle.cap_talks.specs.table.Units.{ends_of}
 use Rattle.cap_talks.specs.declared.table.units.CountedUnit.{CountedUnit}
-use Rattle.cap_talks.specs.declared.table.units.End.{End}
+use Rattle.cap_talks.specs.declared.table.units.Endpoint.{Endpoint}
 use Rattle.cap_talks.specs.declared.table.units.TimedFrame.{TimedFrame}
 use Rattle.cap_time.specs.declared.stamps.Stamp.{Stamp}
 use Rattle.cap_talks.specs.table.Classes.{group_class, groups_of, is_class}
 use Rattle.cap_join.specs.Completed.{if_complete}
-use Rattle.cap_class.specs.Taken.{Taken, Look, plain, datagram, fragment, look, events_of, stamped_of}
+use Rattle.cap_class.specs.Taken.{Taken, Classification, plain, datagram, fragment, classify, events_of, stamped_of}
 use Rattle.cap_class.specs.declared.classes.Class.TheVariants as class
 
 -- a frame, if it has a time
@@ -33,7 +33,7 @@ timed_frame (Some frame) = option_map (λ time. record { time = time; place = fr
 
 -- a unit between two ends, with the number of its frames, their bytes, and the first and the last of those that have a
 -- time
-abbrev pub unit_of : ℕ → ℕ → ℕ → Option TimedFrame → Option TimedFrame → End × End → CountedUnit
+abbrev pub unit_of : ℕ → ℕ → ℕ → Option TimedFrame → Option TimedFrame → Endpoint × Endpoint → CountedUnit
 unit_of protocol frames bytes first last ends =
     record {
       protocol = protocol;
@@ -66,14 +66,14 @@ first_unit [] = None
 first_unit (pieces ∷ groups) = group_unit pieces
 
 -- the unit that a packet completes, which has that clock and comes after some events
-abbrev pub unit_by : Look → Stamped → Option Stamp → List Event → Option CountedUnit
+abbrev pub unit_by : Classification → Stamped → Option Stamp → List Event → Option CountedUnit
 unit_by (plain c) stamped clock events = None
 unit_by (datagram header captured) stamped clock events = whole_unit header captured stamped
 unit_by (fragment p) stamped clock events = first_unit
     (if_complete (joined_pieces clock p (open_groups_after open_limit events)))
 
 unfoldable pub unit_at : List Taken → Taken → Option CountedUnit
-unit_at xs x = unit_by (look (length xs) x) (stamped_of (length xs) x.meta) x.clock (events_of xs)
+unit_at xs x = unit_by (classify (length xs) x) (stamped_of (length xs) x.meta) x.clock (events_of xs)
 
 abbrev pub listed : {A : Type 0} → Option A → List A
 listed None = []

@@ -9,7 +9,7 @@ use Rattle.cap_source.specs.declared.packets.Meta.{Meta}
 use Rattle.cap_talks.specs.counts.Counting.{counted}
 use Rattle.cap_talks.specs.counts.FileLines.{file_facts, files_facts, ending_at}
 use Rattle.cap_talks.specs.table.TalkLines.{talk_texts_in, talks_facts}
-use Rattle.cap_talks.specs.table.Talks.{rows_of}
+use Rattle.cap_talks.specs.table.Conversations.{rows_of}
 use Rattle.cap_talks.specs.table.Classes.{classes, counts_of}
 use Rattle.cap_class.specs.Taken.{Taken}
 use Rattle.cap_talks.specs.table.CountedUnits.{counted_units, joined_in, given_up_in}

@@ -6,10 +6,10 @@ use Rattle.cap_print.specs.Facts.{Facts, Fact, Field, one, group, number, coded,
 use Rattle.cap_print.specs.declared.forms.Form.{Form}
 use Rattle.cap_print.specs.declared.forms.Form.TheVariants.{Text}
 use Rattle.cap_time.specs.Stamp.{printed_of}
-use Rattle.cap_talks.specs.table.Talks.{Talk}
+use Rattle.cap_talks.specs.table.Conversations.{Conversation}
 use Rattle.cap_talks.specs.declared.table.rows.TalkKey.{TalkKey}
 use Rattle.cap_talks.specs.declared.table.rows.TalkRow.{TalkRow}
-use Rattle.cap_talks.specs.declared.table.units.End.{End}
+use Rattle.cap_talks.specs.declared.table.units.Endpoint.{Endpoint}
 
 -- a protocol by its number (IANA)
 abbrev pub protocol_text : ℕ → List ℕ
@@ -31,7 +31,7 @@ port_facts None = []
 port_facts (Some port) = record { label = codes ":"; key = codes "port"; value = number port } ∷ []
 
 -- an end as `a.b.c.d:port` or `a.b.c.d`, with its name in JSON
-abbrev pub end_field : List ℕ → End → Field
+abbrev pub end_field : List ℕ → Endpoint → Field
 end_field key at =
     group key (record { label = codes " "; key = codes "address"; value = word (Some (address_text at.address)) })
     (port_facts at.port)
@@ -62,16 +62,16 @@ talk_facts key row =
     }
 
 -- the lines of all of them, in a form, by the place of the first unit of each
-abbrev pub talk_texts_in : Form → List Talk → List ℕ
+abbrev pub talk_texts_in : Form → List Conversation → List ℕ
 talk_texts_in form [] = []
 talk_texts_in form (talk ∷ talks) = line_in form (talk_facts talk.0 talk.1) ++ talk_texts_in form talks
 
 -- the same in text
-abbrev pub talk_texts : List Talk → List ℕ
+abbrev pub talk_texts : List Conversation → List ℕ
 talk_texts talks = talk_texts_in Text talks
 
 -- the line of that at a place, in a form
-abbrev pub line_at_in : Form → List Talk → ℕ → List ℕ
+abbrev pub line_at_in : Form → List Conversation → ℕ → List ℕ
 line_at_in form talks place = option_map_or (λ talk. line_in form (talk_facts talk.0 talk.1)) (slice_get talks place) []
 
 -- the line that says how many they are

@@ -5,19 +5,19 @@ use Rattle.std.specs.Option.{option_cmp}
 use Rattle.std.specs.declared.cmp.Ordering.{Ordering}
 use Rattle.cap_ip.specs.declared.transports.Transport.{Transport}
 use Rattle.cap_ip.specs.declared.transports.Transport.TheVariants.{Ports, NoPorts, Bad, Cut}
-use Rattle.cap_talks.specs.declared.table.units.End.{End}
+use Rattle.cap_talks.specs.declared.table.units.Endpoint.{Endpoint}
 
 -- an end of an address, with a port if it has one
-abbrev pub end_at : ℕ → Option ℕ → End
+abbrev pub end_at : ℕ → Option ℕ → Endpoint
 end_at address port = record { address = address; port = port }
 
 -- the source and the destination of a datagram, by what its data says of its ports
-abbrev pub ends_of : ℕ → ℕ → Transport → Option (End × End)
+abbrev pub ends_of : ℕ → ℕ → Transport → Option (Endpoint × Endpoint)
 ends_of source destination (Ports from to) = Some (end_at source (Some from), end_at destination (Some to))
 ends_of source destination NoPorts = Some (end_at source None, end_at destination None)
 ends_of source destination Bad = None
 ends_of source destination Cut = None
 
 -- ends compare as pairs of numbers: by address, and then by port
-abbrev pub end_cmp : End → End → Ordering
+abbrev pub end_cmp : Endpoint → Endpoint → Ordering
 end_cmp a b = ordering_then (nat_cmp a.address b.address) (option_cmp nat_cmp a.port b.port)

@@ -2,14 +2,14 @@
 ghost use Rattle.std.specs.Prelude.{◌≡◌, ◌+◌, ◌++◌, ◌<◌, ◌≤◌, ◌^◌, List, length, IfSome, OnOk, OnErr};
 ghost use Rattle.cap_ip.specs.Transport.{transport_of};
 ghost use Rattle.cap_talks.specs.table.Rows.{TalksStandFor, IsUnitInOrder, frames_in, bytes_in};
-ghost use Rattle.cap_talks.specs.table.Talks.{frames_of, units_bytes};
+ghost use Rattle.cap_talks.specs.table.Conversations.{frames_of, units_bytes};
 ghost use Rattle.cap_talks.specs.declared.table.units.CountedUnit.{CountedUnit};
 ghost use Rattle.cap_talks.specs.inner.table.Adding.{datagram_unit, datagram_class, is_over};
 ghost use Rattle.cap_talks.specs.table.Classes.{class_of};
 ghost use Rattle.cap_talks.specs.inner.table.Tallies.{LimitBy};
 ghost use Rattle.cap_talks.specs.table.CountedUnits.{listed, timed_frame, whole_unit};
 
-use crate::table::talks::{Talks, TalksFault};
+use crate::table::conversations::{Conversations, ConversationsFault};
 use crate::table::units::{CountedUnit, TimedFrame, ends_of};
 use cap_class::Class;
 use cap_ip::{Header, Transport, transport};
@@ -95,7 +95,10 @@ pub(crate) fn joined_class(datagram: &Datagram) -> Class
 
 /// Adds a unit to the conversations, if there is one.
 #[inline(always)]
-pub(crate) fn add_unit(talks: &mut Talks, unit: &Option<CountedUnit>) -> Result<(), TalksFault>
+pub(crate) fn add_unit(
+    talks: &mut Conversations,
+    unit: &Option<CountedUnit>,
+) -> Result<(), ConversationsFault>
     requires frames { frames_in talks.old.rows + frames_of (listed unit.now) < 2 ^ 64 }
     requires bytes { bytes_in talks.old.rows + units_bytes (listed unit.now) < 2 ^ 128 }
     requires unit { IfSome unit.now IsUnitInOrder }

@@ -3,13 +3,13 @@ ghost use Rattle.std.specs.Prelude.{◌≡◌, ◌+◌, ◌<◌, ◌^◌, true, 
 ghost use Rattle.std.proofs.Common.{rules};
 ghost use Rattle.std.specs.Cmp.Rules.{hashing};
 ghost use Rattle.std.specs.Hash as fed;
-ghost use Rattle.cap_talks.specs.table.Talks.{talk_key, is_forward};
+ghost use Rattle.cap_talks.specs.table.Conversations.{talk_key, is_forward};
 ghost use Rattle.cap_talks.specs.inner.table.Packed.{both_numbers, port_number, port_of, end_number, end_at_number};
 ghost use Rattle.cap_talks.specs.inner.table.Packed.{packed};
 ghost use Rattle.cap_talks.specs.inner.table.Packed.{unpacked, IsNarrow, IsNarrowEnd, is_end_number, is_packed};
 
 use crate::table::rows::TalkKey;
-use crate::table::units::{CountedUnit, End};
+use crate::table::units::{CountedUnit, Endpoint};
 use std::hash::{Hash, Hasher};
 
 /// A key as two numbers, which are compared and hashed in a fraction of the time that its fields take.
@@ -62,7 +62,7 @@ fn port_of(number: u64) -> Option<u16>
 
 // An end as a number: the address, and below it the port.
 #[inline(always)]
-fn end_number(end: &End) -> u64
+fn end_number(end: &Endpoint) -> u64
     ensures value { result ≡ end_number end.now }
     ensures bound { result < 2 ^ 49 }
     ensures narrow { IsNarrowEnd end.now }
@@ -71,11 +71,11 @@ fn end_number(end: &End) -> u64
 }
 
 // The end of a number.
-fn end_of(number: u64) -> End
+fn end_of(number: u64) -> Endpoint
     requires { is_end_number number ≡ true }
     ensures { result ≡ end_at_number number }
 {
-    End {
+    Endpoint {
         address: (number / 131_072) as u32,
         port: port_of(number % 131_072),
     }

@@ -1,10 +1,11 @@
 //! The row of a conversation: what is counted of its units.
 ghost use Rattle.std.specs.Prelude.{◌≡◌, ◌+◌, ◌<◌, ◌^◌, [], true, if◌then◌else◌};
-ghost use Rattle.cap_talks.specs.table.Talks.{is_forward, earlier_frame, later_frame, frame_time, place_or, row_of};
-ghost use Rattle.cap_talks.specs.table.Rows.{share_of, with_share, with_frames, frames_of_row, bytes_of_row, row_frame};
+ghost use Rattle.cap_talks.specs.table.Conversations.{is_forward, earlier_frame, later_frame, frame_time, place_or};
+ghost use Rattle.cap_talks.specs.table.Conversations.{row_of};
+ghost use Rattle.cap_talks.specs.table.Rows.{delta_of, with_delta, with_frames, frames_of_row, bytes_of_row, row_frame};
 ghost use Rattle.cap_talks.specs.table.Rows.{is_earlier, is_after, is_in_order};
 
-use crate::table::units::{CountedUnit, End, TimedFrame};
+use crate::table::units::{CountedUnit, Endpoint, TimedFrame};
 use cap_time::Stamp;
 use std::cmp::Ordering;
 
@@ -14,9 +15,9 @@ pub struct TalkKey {
     /// The number of the protocol: 6 TCP, 17 UDP.
     pub protocol: u8,
     /// The lesser of the two ends.
-    pub lesser: End,
+    pub lesser: Endpoint,
     /// The other end, which is the same if a datagram goes from an end to itself.
-    pub greater: End,
+    pub greater: Endpoint,
 }
 
 /// What is counted of the units of a conversation. What a unit changes stands side by side, whichever way it goes, so
@@ -45,7 +46,7 @@ pub struct TalkRow {
 /// What a unit adds to the row of its conversation: all of it but its ends, which need not be kept once the row is
 /// found.
 #[derive(Clone, Copy)]
-pub(crate) struct Share {
+pub(crate) struct RowDelta {
     // whether the unit goes from the lesser of its ends, or from an end to itself
     pub(crate) is_forward: bool,
     pub(crate) frames: u64,
@@ -54,14 +55,14 @@ pub(crate) struct Share {
     pub(crate) last: Option<TimedFrame>,
 }
 
-impl Share {
+impl RowDelta {
     // What a unit adds, which goes from the lesser of its ends or not.
     #[inline(always)]
-    pub(crate) fn of(unit: &CountedUnit, forward: bool) -> Share
+    pub(crate) fn of(unit: &CountedUnit, forward: bool) -> RowDelta
         requires { forward ≡ is_forward unit.now }
-        ensures { result ≡ share_of unit.now }
+        ensures { result ≡ delta_of unit.now }
     {
-        Share {
+        RowDelta {
             is_forward: forward,
             frames: unit.frames,
             bytes: unit.bytes,
@@ -90,21 +91,21 @@ impl TalkRow {
 
     // Counts one unit more.
     #[inline(always)]
-    pub(crate) fn take(&mut self, share: Share)
-        requires frames { frames_of_row self.old + share.frames < 2 ^ 64 }
-        requires bytes { bytes_of_row self.old + share.bytes < 2 ^ 128 }
+    pub(crate) fn take(&mut self, delta: RowDelta)
+        requires frames { frames_of_row self.old + delta.frames < 2 ^ 64 }
+        requires bytes { bytes_of_row self.old + delta.bytes < 2 ^ 128 }
         requires order { is_in_order self.old ≡ true }
-        requires one { share.frames ≡ 1 → share.first ≡ share.last }
-        ensures { self.new ≡ with_share self.old share }
+        requires one { delta.frames ≡ 1 → delta.first ≡ delta.last }
+        ensures { self.new ≡ with_delta self.old delta }
     {
-        if share.is_forward {
-            self.forward_frames += share.frames;
-            self.forward_bytes += share.bytes;
+        if delta.is_forward {
+            self.forward_frames += delta.frames;
+            self.forward_bytes += delta.bytes;
         } else {
-            self.backward_frames += share.frames;
-            self.backward_bytes += share.bytes;
+            self.backward_frames += delta.frames;
+            self.backward_bytes += delta.bytes;
         }
-        take_frames(self, share);
+        take_frames(self, delta);
     }
 }
 
@@ -127,15 +128,15 @@ fn is_earlier(frame: &TimedFrame, first: &Option<Stamp>, place: u64) -> bool
 // Takes the first and the last frame of a unit into the least and the greatest time so far. Most units came in one
 // frame, which is later than all before it: it isn't compared with the first of those.
 #[inline(always)]
-fn take_frames(row: &mut TalkRow, share: Share)
+fn take_frames(row: &mut TalkRow, delta: RowDelta)
     requires order { is_in_order row.old ≡ true }
-    requires one { share.frames ≡ 1 → share.first ≡ share.last }
-    ensures { row.new ≡ with_frames row.old share.first share.last }
+    requires one { delta.frames ≡ 1 → delta.first ≡ delta.last }
+    ensures { row.new ≡ with_frames row.old delta.first delta.last }
 {
-    if share.frames == 1 && goes_on(&mut row.last, &mut row.last_place, &share.last) {
+    if delta.frames == 1 && goes_on(&mut row.last, &mut row.last_place, &delta.last) {
         return;
     }
-    take_both(row, share.first, share.last);
+    take_both(row, delta.first, delta.last);
 }
 
 // Takes a first and a last frame, whatever times they have. It takes copies, and isn't inlined, so that where a frame

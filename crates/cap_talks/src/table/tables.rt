@@ -17,8 +17,8 @@ ghost use Rattle.cap_talks.specs.table.TakenText.{text_of, text_of_in};
 ghost use Rattle.cap_class.specs.Taken.{Taken};
 
 use crate::counts::{Counted, Counts, put_files};
+use crate::table::conversations::ConversationsFault;
 use crate::table::report_lines::total_line;
-use crate::table::talks::TalksFault;
 use crate::table::tallies::Tally;
 use crate::table::totals::Totals;
 use arrayvec::ArrayVec;
@@ -107,7 +107,7 @@ impl<F: PacketFeed> Table<F> {
         ensures keeps { StepKeeps (table_of self.old) (table_of self.new) }
         ensures again { AnswersAgain (merged_feed (table_of self.old).parts).known result }
     {
-        if !self.merged.has_packet()? {
+        if !self.merged.peek()? {
             self.done = true;
             return Ok(Step::Done);
         }
@@ -119,8 +119,8 @@ impl<F: PacketFeed> Table<F> {
                 self.merged.pass();
                 Ok(Step::Took)
             }
-            Err(TalksFault::Limit) => Err(Fault::Refused(talk_limit(packet.meta))),
-            Err(TalksFault::Memory) => Err(Fault::Memory),
+            Err(ConversationsFault::Limit) => Err(Fault::Refused(talk_limit(packet.meta))),
+            Err(ConversationsFault::Memory) => Err(Fault::Memory),
         }
     }
 

@@ -9,9 +9,9 @@ ghost use Rattle.cap_print.specs.inner.Parts.{name_room};
 ghost use Rattle.cap_talks.specs.table.TalkLines.{address_text, end_field, line_at_in, port_facts, protocol_text};
 ghost use Rattle.cap_talks.specs.table.TalkLines.{talk_facts, talk_texts_in, talks_facts, traffic_field};
 
+use crate::table::conversations::Conversations;
 use crate::table::rows::{TalkKey, TalkRow};
-use crate::table::talks::Talks;
-use crate::table::units::End;
+use crate::table::units::Endpoint;
 use cap_bytes::{Fault, Sink, put_all};
 use cap_print::{Form, Line};
 
@@ -61,7 +61,7 @@ fn put_port(line: &mut Line, form: Form, port: Option<u16>)
 }
 
 // Puts an end: its address, and its port if it has one.
-fn put_end(line: &mut Line, form: Form, key: &[u8], end: End)
+fn put_end(line: &mut Line, form: Form, key: &[u8], end: Endpoint)
     requires { length key.now + 47 ≤ room_in line.old }
     ensures text { text_in line.new ≡ fields_in form (end_field key.now end ∷ []) (text_in line.old) }
     ensures room { room_in line.old ≤ room_in line.new + length key.now + 47 }
@@ -132,7 +132,7 @@ fn talks_line(form: Form, count: usize) -> Line
 }
 
 // The line of the conversation at a place.
-fn line_at(form: Form, talks: &Talks, place: usize) -> Line
+fn line_at(form: Form, talks: &Conversations, place: usize) -> Line
     requires { place < length talks.now.rows }
     ensures { text_in result ≡ line_at_in form talks.now.rows place }
 {
@@ -143,7 +143,7 @@ fn line_at(form: Form, talks: &Talks, place: usize) -> Line
 }
 
 // Writes the lines of all conversations, in a form.
-fn put_each<W: Sink>(writer: &mut W, form: Form, talks: &Talks) -> Result<(), Fault>
+fn put_each<W: Sink>(writer: &mut W, form: Form, talks: &Conversations) -> Result<(), Fault>
     ensures text { IsTrue (W.tells_held writer.old)
         → Prints (talk_texts_in form talks.now.rows) None (W.held writer.old) result (W.held writer.new) }
     ensures writer { WriterKeeps (writer_of W.Sink writer.old) (is_write result) (writer_of W.Sink writer.new) }
@@ -159,7 +159,7 @@ fn put_each<W: Sink>(writer: &mut W, form: Form, talks: &Talks) -> Result<(), Fa
 /// Writes a line that says how many conversations there are, and a line for each, in the order of their first
 /// units, in a form. Returns `Fault::Write`, and no other fault, if the writer failed: a prefix of the lines is
 /// written then.
-pub fn put_talks<W: Sink>(writer: &mut W, form: Form, talks: &Talks) -> Result<(), Fault>
+pub fn put_talks<W: Sink>(writer: &mut W, form: Form, talks: &Conversations) -> Result<(), Fault>
     ensures text { IsTrue (W.tells_held writer.old)
         → Prints (line_in form (talks_facts (length talks.now.rows)) ++ talk_texts_in form talks.now.rows) None
         (W.held writer.old) result (W.held writer.new) }

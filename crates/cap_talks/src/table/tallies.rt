@@ -9,23 +9,23 @@ ghost use Rattle.cap_join.specs.Joiners.{most_bytes};
 ghost use Rattle.cap_talks.specs.inner.table.Looking.{is_plain, taken_of};
 ghost use Rattle.cap_print.specs.Facts.{line_in};
 ghost use Rattle.cap_talks.specs.table.TakenText.{frames_facts, joined_facts};
-ghost use Rattle.cap_class.specs.Taken.{Taken, datagram, fragment, look, plain, stamped_of};
+ghost use Rattle.cap_class.specs.Taken.{Taken, datagram, fragment, classify, plain, stamped_of};
 ghost use Rattle.cap_talks.specs.inner.table.Tallies.{TallyStands, LimitBy, one_if_waiting, tally_text_in};
 ghost use Rattle.cap_talks.specs.inner.table.Tallies.{counted_one, waiting_bytes};
 ghost use Rattle.cap_talks.specs.inner.table.Tallies.{Looks};
 ghost use Rattle.cap_talks.specs.inner.table.Tallies.{WaitsIf, with_frames, with_group};
 ghost use Rattle.cap_source.specs.Times.{meta_time};
-ghost use Rattle.cap_talks.specs.declared.table.talks.TalksFault.TheVariants.{Memory};
+ghost use Rattle.cap_talks.specs.declared.table.conversations.ConversationsFault.TheVariants.{Memory};
 ghost use Rattle.cap_talks.specs.table.Classes.{sum_of};
 ghost use Rattle.cap_talks.specs.table.CountedUnits.{is_limit_at};
 
 use crate::table::adding::{add_unit, class_of, joined_class, joined_unit, whole_unit};
 use crate::table::classes::ClassCounts;
+use crate::table::conversations::{Conversations, ConversationsFault};
 use crate::table::report_lines::{frames_line, joined_line};
 use crate::table::talk_lines::put_talks;
-use crate::table::talks::{Talks, TalksFault};
 use cap_bytes::{Fault, Sink, put_all};
-use cap_class::{Class, Seen, look, stamped_of};
+use cap_class::{Class, Classified, classify, stamped_of};
 use cap_ip::{Header, transport};
 use cap_join::{Datagram, Joiner, Put, Stamped};
 use cap_merge::RunPacket;
@@ -41,7 +41,7 @@ pub(crate) struct Tally {
     place: u64,
     classes: ClassCounts,
     joined: u64,
-    talks: Talks,
+    talks: Conversations,
     joiner: Joiner,
     // a joined datagram whose conversation got no memory, or is one too many
     waiting: Option<Datagram>,
@@ -125,7 +125,7 @@ impl Tally {
                 counted: 0,
             },
             joined: 0,
-            talks: Talks::new(alloc),
+            talks: Conversations::new(alloc),
             joiner: Joiner::new(alloc),
             waiting: None,
         }
@@ -138,19 +138,19 @@ impl Tally {
         packet: RunPacket<'_>,
         header: Header,
         bytes: &[u8],
-    ) -> Result<bool, TalksFault>
+    ) -> Result<bool, ConversationsFault>
         requires none { self.old.waiting ≡ None }
         requires few { self.old.place < 2 ^ 62 }
         requires fragment { IsSome header.fragment }
         requires whole { length bytes.now ≡ header.data_length }
-        requires look { (place : ℕ) → look place (taken_of packet)
+        requires classify { (place : ℕ) → classify place (taken_of packet)
             ≡ fragment (piece_of header bytes.now (stamped_of place packet.meta.now)) }
         ensures looks { IfOk result (λ waits. Looks self.old (taken_of packet.entry) waits self.new) }
         ensures waits { IfOk result (λ waits. WaitsIf self.new.waiting waits) }
         ensures place { IfOk result (λ waits. self.new.place ≡ (if waits then self.old.place else self.old.place + 1)) }
         ensures fault { IfErr result (λ e. e ≡ Memory) }
         ensures grows { OnErr result ((xs : List Taken) → TallyStands self.old xs (Some (taken_of packet.entry))
-            → is_plain (look (length xs) (taken_of packet.entry)) ≡ false) }
+            → is_plain (classify (length xs) (taken_of packet.entry)) ≡ false) }
         ensures err { OnErr result (self.new ≡ self.old) }
     {
         let stamped = stamped_of(self.place, packet.meta.time(), packet.meta);
@@ -164,7 +164,7 @@ impl Tally {
                 self.waiting = Some(datagram);
                 Ok(true)
             }
-            Err(_) => Err(TalksFault::Memory),
+            Err(_) => Err(ConversationsFault::Memory),
         }
     }
 
@@ -176,18 +176,18 @@ impl Tally {
         time: Option<Stamp>,
         header: Header,
         captured: &[u8],
-    ) -> Result<(), TalksFault>
+    ) -> Result<(), ConversationsFault>
         requires none { self.old.waiting ≡ None }
         requires few { self.old.place < 2 ^ 62 }
         requires time { time ≡ meta_time packet.meta.now }
-        requires look { (place : ℕ) → look place (taken_of packet) ≡ datagram header captured.now }
+        requires classify { (place : ℕ) → classify place (taken_of packet) ≡ datagram header captured.now }
         ensures looks { OnOk result (Looks self.old (taken_of packet.entry) false self.new) }
         ensures none { OnOk result (self.new.waiting ≡ None) }
         ensures place { OnOk result (self.new.place ≡ self.old.place + 1) }
         ensures limit { IfErr result (λ e. (xs : List Taken) → TallyStands self.old xs (Some (taken_of packet.entry))
             → LimitBy (Err e) (is_limit_at xs (taken_of packet.entry))) }
         ensures grows { OnErr result ((xs : List Taken) → TallyStands self.old xs (Some (taken_of packet.entry))
-            → is_plain (look (length xs) (taken_of packet.entry)) ≡ false) }
+            → is_plain (classify (length xs) (taken_of packet.entry)) ≡ false) }
         ensures err { OnErr result (self.new ≡ self.old) }
     {
         let seen = transport(header.key().protocol, captured, header.data_length());
@@ -207,18 +207,19 @@ impl Tally {
     fn count_plain(&mut self, packet: RunPacket<'_>, class: Class)
         requires none { self.old.waiting ≡ None }
         requires few { self.old.place < 2 ^ 62 }
-        requires look { (place : ℕ) → look place (taken_of packet) ≡ plain class }
+        requires classify { (place : ℕ) → classify place (taken_of packet) ≡ plain class }
         ensures looks { Looks self.old (taken_of packet.entry) false self.new }
         ensures none { self.new.waiting ≡ None }
         ensures place { self.new.place ≡ self.old.place + 1 }
     {
+        // only the contract speaks of the packet: its class says all that is counted
         let _ = packet;
         self.classes = with_frames(self.classes, class, 1);
         self.place += 1;
     }
 
     // Counts the datagram that waits, and with it the packet that completed it.
-    fn take_waiting(&mut self) -> Result<(), TalksFault>
+    fn take_waiting(&mut self) -> Result<(), ConversationsFault>
         requires some { IsSome self.old.waiting }
         requires few { self.old.place < 2 ^ 62 }
         ensures stands { OnOk result ((xs : List Taken) (x : Taken) → TallyStands self.old xs (Some x)
@@ -226,7 +227,7 @@ impl Tally {
         ensures limit { IfErr result (λ e. (xs : List Taken) (x : Taken) → TallyStands self.old xs (Some x)
             → LimitBy (Err e) (is_limit_at xs x)) }
         ensures grows { OnErr result ((xs : List Taken) (x : Taken) → TallyStands self.old xs (Some x)
-            → is_plain (look (length xs) x) ≡ false) }
+            → is_plain (classify (length xs) x) ≡ false) }
         ensures none { OnOk result (self.new.waiting ≡ None) }
         ensures place { OnOk result (self.new.place ≡ self.old.place + 1) }
         ensures err { OnErr result (self.new ≡ self.old) }
@@ -252,18 +253,18 @@ impl Tally {
         packet: RunPacket<'_>,
         header: Header,
         bytes: &[u8],
-    ) -> Result<(), TalksFault>
+    ) -> Result<(), ConversationsFault>
         requires none { self.old.waiting ≡ None }
         requires few { self.old.place < 2 ^ 62 }
         requires fragment { IsSome header.fragment }
         requires whole { length bytes.now ≡ header.data_length }
-        requires look { (place : ℕ) → look place (taken_of packet)
+        requires classify { (place : ℕ) → classify place (taken_of packet)
             ≡ fragment (piece_of header bytes.now (stamped_of place packet.meta.now)) }
         ensures stands { OnOk result (Looks self.old (taken_of packet.entry) false self.new) }
         ensures limit { IfErr result (λ e. (xs : List Taken) → TallyStands self.old xs (Some (taken_of packet.entry))
             → LimitBy (Err e) (is_limit_at xs (taken_of packet.entry))) }
         ensures grows { OnErr result ((xs : List Taken) → TallyStands self.old xs (Some (taken_of packet.entry))
-            → is_plain (look (length xs) (taken_of packet.entry)) ≡ false) }
+            → is_plain (classify (length xs) (taken_of packet.entry)) ≡ false) }
         ensures none { OnOk result (self.new.waiting ≡ None) }
         ensures place { OnOk result (self.new.place ≡ self.old.place + 1) }
         ensures same { OnErr result (self.new.place ≡ self.old.place) }
@@ -286,14 +287,14 @@ impl Tally {
         &mut self,
         packet: RunPacket<'_>,
         time: Option<Stamp>,
-    ) -> Result<(), TalksFault>
+    ) -> Result<(), ConversationsFault>
         requires time { time ≡ meta_time packet.meta.now }
         requires few { self.old.place < 2 ^ 62 }
         ensures stands { OnOk result (Looks self.old (taken_of packet.entry) false self.new) }
         ensures limit { IfErr result (λ e. (xs : List Taken) → TallyStands self.old xs (Some (taken_of packet.entry))
             → LimitBy (Err e) (is_limit_at xs (taken_of packet.entry))) }
         ensures grows { OnErr result ((xs : List Taken) → TallyStands self.old xs (Some (taken_of packet.entry))
-            → is_plain (look (length xs) (taken_of packet.entry)) ≡ false) }
+            → is_plain (classify (length xs) (taken_of packet.entry)) ≡ false) }
         ensures none { OnOk result (self.new.waiting ≡ None) }
         ensures place { OnOk result (self.new.place ≡ self.old.place + 1) }
         ensures same { OnErr result (self.new.place ≡ self.old.place) }
@@ -303,13 +304,15 @@ impl Tally {
         if self.is_waiting() {
             return self.take_waiting();
         }
-        match look(packet.meta, packet.frame) {
-            Seen::Plain(class) => {
+        match classify(packet.meta, packet.frame) {
+            Classified::Plain(class) => {
                 self.count_plain(packet, class);
                 Ok(())
             }
-            Seen::Datagram(header, captured) => self.take_datagram(packet, time, header, captured),
-            Seen::Fragment(header, bytes) => self.take_fragment(packet, header, bytes),
+            Classified::Datagram(header, captured) => self.take_datagram(
+                packet, time, header, captured,
+            ),
+            Classified::Fragment(header, bytes) => self.take_fragment(packet, header, bytes),
         }
     }
 

@@ -8,7 +8,7 @@ use cap_time::Stamp;
 /// An end of a conversation: an IPv4 address (RFC 791, 3.1), and a port if the protocol has ports
 /// (RFC 768; RFC 9293, 3.1). Ends compare as pairs of numbers, by address and then by port.
 #[derive(Clone, Copy, PartialEq, Eq, PartialOrd, Ord)]
-pub struct End {
+pub struct Endpoint {
     /// The address, its first byte the highest.
     pub address: u32,
     /// The port; `None` if the protocol has none.
@@ -17,7 +17,7 @@ pub struct End {
 
 /// The source and the destination of a datagram between two addresses, whose transport was read; `None`
 /// if that is bad or cut.
-pub fn ends_of(source: u32, destination: u32, transport: Transport) -> Option<(End, End)>
+pub fn ends_of(source: u32, destination: u32, transport: Transport) -> Option<(Endpoint, Endpoint)>
     ensures { result ≡ ends_of source destination transport }
 {
     let (source_port, destination_port) = match transport {
@@ -26,11 +26,11 @@ pub fn ends_of(source: u32, destination: u32, transport: Transport) -> Option<(E
         Transport::Bad | Transport::Cut => return None,
     };
     Some((
-        End {
+        Endpoint {
             address: source,
             port: source_port,
         },
-        End {
+        Endpoint {
             address: destination,
             port: destination_port,
         },
@@ -52,9 +52,9 @@ pub struct CountedUnit {
     /// The number of the protocol that its data is of: 6 TCP, 17 UDP.
     pub protocol: u8,
     /// Where it comes from.
-    pub source: End,
+    pub source: Endpoint,
     /// Where it goes to.
-    pub destination: End,
+    pub destination: Endpoint,
     /// How many frames it came in: 1 if it came whole.
     pub frames: u64,
     /// The sum of their original lengths, in bytes.

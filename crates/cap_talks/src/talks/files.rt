@@ -27,7 +27,7 @@ fn count_packets<F: PacketFeed>(feed: &mut F) -> Result<Counts, Fault>
     ensures write { is_write result ≡ false }
 {
     let mut counts = Counts::new();
-    while feed.has_packet()? {
+    while feed.peek()? {
         let meta = feed.packet();
         // A length that is read is known to be below 2^32, so the sum of them all stays small.
         let _length = meta.original;

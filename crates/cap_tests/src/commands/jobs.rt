@@ -7,7 +7,7 @@ use crate::files::{ask_written, readers_of, room_of};
 use cap_bytes::{Fault, Order, Sink};
 use cap_line::{Job, Task, can_replace, is_whole};
 use cap_source::Format;
-use cap_tool::{Done, Finding, Left, job_to};
+use cap_tool::{Done, DroppedInfo, Finding, job_to};
 use std::alloc::Global;
 use std::process::Abort;
 
@@ -267,7 +267,7 @@ fn leaves(rt: &impl Abort, alloc: Global, task: Task, skipped: u128) {
     let answer = counts(rt, alloc, &job, &[SKIPPING, SKIPPING], &mut writer);
     let wanted = Done {
         finding: Finding::Nothing,
-        left: Left {
+        left: DroppedInfo {
             skipped,
             named: 0,
             ran_back: 0,

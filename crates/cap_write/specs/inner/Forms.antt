@@ -11,8 +11,8 @@ use Rattle.cap_write.specs.Numbering.{Origin, refusal_in, with_origin}
 use Rattle.cap_write.specs.Pcap.{bare_refusal, records_bytes, records_refusal}
 use Rattle.cap_write.specs.PcapRun.{run_bytes, run_refusal}
 use Rattle.cap_write.specs.Texts.{text_behind}
-use Rattle.cap_write.specs.declared.forms.Form.{Form}
-use Rattle.cap_write.specs.declared.forms.Form.TheVariants.{Pcap, Pcapng}
+use Rattle.cap_write.specs.declared.forms.WrittenForm.{WrittenForm}
+use Rattle.cap_write.specs.declared.forms.WrittenForm.TheVariants.{Pcap, Pcapng}
 
 -- A file that is being written: the origins of the interfaces that a pcapng file has described, or the interface of the
 -- header that a pcap file has.
@@ -20,7 +20,7 @@ pub data FormState : Type 0 where
   numbered : List Origin → FormState
   headed : Option Interface → FormState
 
-abbrev pub form_state : Form → FormState
+abbrev pub form_state : WrittenForm → FormState
 form_state (Pcapng origins) = numbered origins.keys
 form_state (Pcap first) = headed first
 

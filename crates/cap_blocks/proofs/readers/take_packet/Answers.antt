@@ -15,6 +15,7 @@ returns-in-None-body_rule-clause-sees g c = rw c.in-Some.is (λ tail.
     c.args.given (c.offset.result + c.args.given) c.split_at.result.1.now
     c.pass.ensures.passes (rw c.bytes.ensures at c.split_at.ensures.back)
     (ap (λ n. n + c.args.given) c.offset.ensures.value)
-    (c.if-not-shows.ensures.0 refl).0 (c.if-not-shows.ensures.0 refl).1 c.in-Some-enhanced_at.ensures.header
+    (c.if-not-has_buffered.ensures.0 refl).0 (c.if-not-has_buffered.ensures.0 refl).1
+    c.in-Some-enhanced_at.ensures.header
     (ap is_known_kind c.in-Some-enhanced_at.ensures.kind) c.if-bytes-block.false
     (sym c.in-None-body_rule.is ∙ c.body_rule.ensures))

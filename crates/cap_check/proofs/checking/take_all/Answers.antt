@@ -1,7 +1,7 @@
 use Rattle.std.proofs.lemmas.Result.{err_from_is_err_and}
 use Rattle.cap_source.proofs.Onward.{Keeps-trans}
 use Rattle.cap_source.specs.inner.Captures.{capture_feed, capture_fronts}
-use Rattle.cap_source.specs.inner.Reached.{progress_of}
+use Rattle.cap_source.specs.inner.SectionState.{progress_of}
 use Rattle.cap_check.proofs.Reaching.{Reaching-more, Reaching-none, Reaching-stops, told-kept}
 use Rattle.cap_check.proofs.Taking.{Fails-taking, Taking-end, Taking-fault, Taking-more, Taking-none}
 use Rattle.cap_check.proofs.checking.take_all.Goals as goal

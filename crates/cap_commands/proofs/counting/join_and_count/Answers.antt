@@ -7,7 +7,7 @@ use Rattle.cap_merge.specs.inner.View.{parts_of}
 use Rattle.cap_commands.proofs.Leaving.{Walks-done, Drops-merged}
 use Rattle.cap_commands.proofs.Merging.{Prints-joined, Prints-nothing}
 use Rattle.cap_commands.proofs.Telling.{FailsOf-fault, Prints-fault}
-use Rattle.cap_commands.specs.declared.left.Left.{Left}
+use Rattle.cap_commands.specs.declared.left.DroppedInfo.{DroppedInfo}
 use Rattle.cap_commands.proofs.counting.join_and_count.Goals as goal
 
 pub returns-in_err-run-clause-text : goal.returns-in_err-run-clause-text
@@ -19,7 +19,7 @@ returns-in_err-write_datagrams-clause-text g c =
     let r = c.from_residual-in_err-write_datagrams in
     let p = err_from_is_err_and r.result r.ensures.1 in
     rw (p.1, p.2)
-    (λ t w. Prints-fault (Unit {0}) Left c.in_err-write_datagrams.field-0.0 _ _ (g.W.Sink.held c.args.writer.now)
+    (λ t w. Prints-fault (Unit {0}) DroppedInfo c.in_err-write_datagrams.field-0.0 _ _ (g.W.Sink.held c.args.writer.now)
     (g.W.Sink.held c.write_datagrams.new.writer)
     (Prints-joined reader c.args.tail c.args.format c.args.order c.args.sources.items _
     (g.W.Sink.held c.args.writer.now) (g.W.Sink.held c.write_datagrams.new.writer)
@@ -32,7 +32,7 @@ returns-in_err-write_datagrams-clause-read g c =
     let r = c.from_residual-in_err-write_datagrams in
     let p = err_from_is_err_and r.result r.ensures.1 in
     rw (p.1, p.2)
-    (FailsOf-fault (Unit {0}) Left c.in_err-write_datagrams.field-0.0 _
+    (FailsOf-fault (Unit {0}) DroppedInfo c.in_err-write_datagrams.field-0.0 _
     (Fails-merged {B = Unit {0}} reader c.args.tail c.args.sources.items _
     (merged_feed (parts_of c.write_datagrams.new.merged))
     (Err c.in_err-write_datagrams.field-0.0) c.in_ok-run.ensures.unread c.in_err-write_datagrams.ensures.walks))

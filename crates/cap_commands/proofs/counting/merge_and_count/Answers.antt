@@ -7,7 +7,7 @@ use Rattle.cap_merge.specs.inner.View.{parts_of}
 use Rattle.cap_commands.proofs.Leaving.{Walks-done, Drops-merged}
 use Rattle.cap_commands.proofs.Merging.{Prints-merged, Prints-nothing}
 use Rattle.cap_commands.proofs.Telling.{FailsOf-fault, Prints-fault}
-use Rattle.cap_commands.specs.declared.left.Left.{Left}
+use Rattle.cap_commands.specs.declared.left.DroppedInfo.{DroppedInfo}
 use Rattle.cap_commands.proofs.counting.merge_and_count.Goals as goal
 
 pub returns-in_err-merged-clause-text : goal.returns-in_err-merged-clause-text
@@ -18,7 +18,7 @@ returns-in_err-write_run-clause-text g c =
     let reader = reader_of g.R.Source.tells_coming g.R.Device.can_fail g.R.Source.coming in
     let p = err_from_is_err_and c.from_residual-in_err-write_run.result c.from_residual-in_err-write_run.ensures.1 in
     rw (p.1, p.2)
-    (λ t w. Prints-fault (Unit {0}) Left c.in_err-write_run.field-0.0 _ _ (g.W.Sink.held c.args.writer.now)
+    (λ t w. Prints-fault (Unit {0}) DroppedInfo c.in_err-write_run.field-0.0 _ _ (g.W.Sink.held c.args.writer.now)
     (g.W.Sink.held c.write_run.new.writer)
     (Prints-merged reader c.args.tail c.args.format c.args.order c.args.sources.items _
     (g.W.Sink.held c.args.writer.now) (g.W.Sink.held c.write_run.new.writer) (Err c.in_err-write_run.field-0.0)
@@ -29,7 +29,7 @@ returns-in_err-write_run-clause-read g c =
     let reader = reader_of g.R.Source.tells_coming g.R.Device.can_fail g.R.Source.coming in
     let p = err_from_is_err_and c.from_residual-in_err-write_run.result c.from_residual-in_err-write_run.ensures.1 in
     rw (p.1, p.2)
-    (FailsOf-fault (Unit {0}) Left c.in_err-write_run.field-0.0 _
+    (FailsOf-fault (Unit {0}) DroppedInfo c.in_err-write_run.field-0.0 _
     (Fails-merged {B = Unit {0}} reader c.args.tail c.args.sources.items _
     (merged_feed (parts_of c.write_run.new.merged))
     (Err c.in_err-write_run.field-0.0) c.in_ok-merged.ensures.unread c.in_err-write_run.ensures.walks))

@@ -1,6 +1,6 @@
 use Rattle.std.proofs.Common.{◌≡◌, ◌∙◌, false, sym}
 use Rattle.std.proofs.lemmas.Result.{err_from_is_err_and}
-use Rattle.cap_commands.proofs.Parting.{Matched-next, Parts-first, Parts-parted, Parts-second}
+use Rattle.cap_commands.proofs.Divergence.{Matched-next, Parts-first, Parts-parted, Parts-second}
 use Rattle.cap_commands.specs.inner.DiffWalk.{are_alike, compared_of, known_packet}
 use Rattle.cap_commands.proofs.diff.part.Goals as goal
 

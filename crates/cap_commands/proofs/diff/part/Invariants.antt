@@ -1,4 +1,4 @@
-use Rattle.cap_commands.proofs.Parting.{Matched}
+use Rattle.cap_commands.proofs.Divergence.{Matched}
 use Rattle.cap_commands.proofs.diff.part.Given as goal
 
 -- so many packets of the two feeds were passed, which are the same

@@ -8,8 +8,8 @@ use Rattle.cap_commands.proofs.diff.put_difference.Goals as goal
 pub returns-in_err-put_all-clause-text : goal.returns-in_err-put_all-clause-text
 returns-in_err-put_all-clause-text g c = λ w.
     let p = err_from_is_err_and c.from_residual.result c.from_residual.ensures.1 in
-    let a = compared_of c.args.parting.now.first (g.F.PacketFeed.feed c.args.first.now).frame in
-    let b = compared_of c.args.parting.now.second (g.F.PacketFeed.feed c.args.second.now).frame in
+    let a = compared_of c.args.divergence.now.first (g.F.PacketFeed.feed c.args.first.now).frame in
+    let b = compared_of c.args.divergence.now.second (g.F.PacketFeed.feed c.args.second.now).frame in
     let first = before_side c.args.form (codes "-") ++ side_in c.args.form c.args.n a in
     let second = before_side c.args.form (codes "+") ++ side_in c.args.form c.args.n b in
     rw (p.1, p.2)
@@ -20,8 +20,8 @@ returns-in_err-put_all-clause-text g c = λ w.
 
 pub returns-clause-text : goal.returns-clause-text
 returns-clause-text g c = λ w.
-    let a = compared_of c.args.parting.now.first (g.F.PacketFeed.feed c.args.first.now).frame in
-    let b = compared_of c.args.parting.now.second (g.F.PacketFeed.feed c.args.second.now).frame in
+    let a = compared_of c.args.divergence.now.first (g.F.PacketFeed.feed c.args.first.now).frame in
+    let b = compared_of c.args.divergence.now.second (g.F.PacketFeed.feed c.args.second.now).frame in
     let first = before_side c.args.form (codes "-") ++ side_in c.args.form c.args.n a in
     let second = before_side c.args.form (codes "+") ++ side_in c.args.form c.args.n b in
     Prints-behind None (g.W.Sink.held c.args.writer.now) (g.W.Sink.held c.put_all.new.writer)

@@ -1,4 +1,4 @@
-use Rattle.cap_commands.proofs.Parting.{Prints-line}
+use Rattle.cap_commands.proofs.Divergence.{Prints-line}
 use Rattle.cap_commands.proofs.diff.put_line.Goals as goal
 
 pub returns-clause-text : goal.returns-clause-text

@@ -2,7 +2,7 @@ use Rattle.std.proofs.Common.{ℕ, List, Err, None, ◌++◌, codes, subst}
 use Rattle.std.proofs.lemmas.Result.{err_from_is_err_and}
 use Rattle.cap_bytes.proofs.Putting.{Prints-behind}
 use Rattle.cap_bytes.specs.Printing.{Prints}
-use Rattle.cap_commands.proofs.Parting.{Prints-more}
+use Rattle.cap_commands.proofs.Divergence.{Prints-more}
 use Rattle.cap_commands.specs.DiffText.{before_side, side_in}
 use Rattle.cap_commands.specs.inner.DiffWalk.{compared_of}
 use Rattle.cap_commands.proofs.diff.put_sides.Goals as goal
@@ -12,8 +12,8 @@ returns-in_err-put_side-clause-text g c = λ w.
     let p = err_from_is_err_and c.from_residual.result c.from_residual.ensures.1 in
     let old = g.W.Sink.held c.args.writer.now in
     let new = g.W.Sink.held c.put_side.new.writer in
-    let one = compared_of c.args.parting.now.first (g.F.PacketFeed.feed c.args.first.now).frame in
-    let other = compared_of c.args.parting.now.second (g.F.PacketFeed.feed c.args.second.now).frame in
+    let one = compared_of c.args.divergence.now.first (g.F.PacketFeed.feed c.args.first.now).frame in
+    let other = compared_of c.args.divergence.now.second (g.F.PacketFeed.feed c.args.second.now).frame in
     let side = side_in c.args.form c.args.n one in
     let second = before_side c.args.form (codes "+") ++ side_in c.args.form c.args.n other in
     let fault = c.in_err-put_side.field-0.0 in
@@ -25,8 +25,8 @@ returns-in_err-put_side-clause-text g c = λ w.
 
 pub returns-clause-text : goal.returns-clause-text
 returns-clause-text g c = λ w.
-    let one = compared_of c.args.parting.now.first (g.F.PacketFeed.feed c.args.first.now).frame in
-    let other = compared_of c.args.parting.now.second (g.F.PacketFeed.feed c.args.second.now).frame in
+    let one = compared_of c.args.divergence.now.first (g.F.PacketFeed.feed c.args.first.now).frame in
+    let other = compared_of c.args.divergence.now.second (g.F.PacketFeed.feed c.args.second.now).frame in
     let first = before_side c.args.form (codes "-") ++ side_in c.args.form c.args.n one in
     let second = before_side c.args.form (codes "+") ++ side_in c.args.form c.args.n other in
     Prints-behind None (g.W.Sink.held c.args.writer.now) (g.W.Sink.held c.put_side.new.writer)

@@ -15,16 +15,16 @@ use Rattle.cap_join.proofs.queues.expire.Goals as goal
 
 pub first_old-requires-clause-unique : goal.first_old-requires-clause-unique
 first_old-requires-clause-unique c =
-    unique-rest c.loop-key.aside.entries c.loop-key.rest.entries c.loop-key.invariant.unique
+    unique-rest c.loop-key.timeless.entries c.loop-key.rest.entries c.loop-key.invariant.unique
 
 pub first_old-requires-clause-in_turn : goal.first_old-requires-clause-in_turn
-first_old-requires-clause-in_turn c = λ o. AreInTurn-rest c.loop-key.aside.entries c.loop-key.rest.entries
+first_old-requires-clause-in_turn c = λ o. AreInTurn-rest c.loop-key.timeless.entries c.loop-key.rest.entries
     (c.loop-key.invariant.in_turn o)
 
 pub set_aside-requires-in-Some-clause-unique : goal.set_aside-requires-in-Some-clause-unique
 set_aside-requires-in-Some-clause-unique c =
     let key = c.in-Some.key in
-    let xs = c.loop-key.aside.entries in
+    let xs = c.loop-key.timeless.entries in
     let ys = c.loop-key.rest.entries in
     let is : xs ++ c.pop.new.self.entries ≡ remove_entry (same_key key) (xs ++ ys) =
     ap (λ (x : LruCache Key GroupState). xs ++ x.entries) c.pop.ensures.entries
@@ -35,7 +35,7 @@ set_aside-requires-in-Some-clause-unique c =
 pub set_aside-requires-in-Some-clause-few : goal.set_aside-requires-in-Some-clause-few
 set_aside-requires-in-Some-clause-few c =
     let key = c.in-Some.key in
-    let xs = c.loop-key.aside.entries in
+    let xs = c.loop-key.timeless.entries in
     let ys = c.loop-key.rest.entries in
     let is : xs ++ c.pop.new.self.entries ≡ remove_entry (same_key key) (xs ++ ys) =
     ap (λ (x : LruCache Key GroupState). xs ++ x.entries) c.pop.ensures.entries
@@ -53,13 +53,13 @@ loop-key-smaller c = omega (
 pub loop-key-preserved : goal.loop-key-preserved
 loop-key-preserved c =
     let key = c.in-Some.key in
-    let xs = c.loop-key.aside.entries in
+    let xs = c.loop-key.timeless.entries in
     let ys = c.loop-key.rest.entries in
     let i = c.loop-key.invariant in
     let gone = ap (λ (x : LruCache Key GroupState). xs ++ x.entries) c.pop.ensures.entries in
     let is : xs ++ c.pop.new.self.entries ≡ remove_entry (same_key key) (xs ++ ys) = gone
     ∙ expired_whole key c.args.now xs ys i.unique c.in-Some.ensures.old in
-    let whole : c.set_aside-in-Some.new.aside.entries ++ c.set_aside-in-Some.new.rest.entries
+    let whole : c.set_aside-in-Some.new.timeless.entries ++ c.set_aside-in-Some.new.rest.entries
     ≡ remove_entry (same_key key) (xs ++ ys) = c.set_aside-in-Some.ensures.whole ∙ is in
     record {
       unique = subst (λ (l : List Entry). IsDistinct same_key (keys_of l)) (sym whole)
@@ -69,12 +69,12 @@ loop-key-preserved c =
       in_turn = λ o. subst AreInTurn (sym whole) (AreInTurn-remove_entry (same_key key) (xs ++ ys) (i.in_turn o));
       live = ap (live_entries c.args.now) (c.set_aside-in-Some.ensures.whole ∙ gone)
           ∙ live-whole key c.args.now xs ys i.timeless c.in-Some.ensures.old ∙ i.live;
-      aside_cap = c.set_aside-in-Some.ensures.aside_cap ∙ i.aside_cap;
+      timeless_cap = c.set_aside-in-Some.ensures.timeless_cap ∙ i.timeless_cap;
       rest_cap = c.set_aside-in-Some.ensures.rest_cap
           ∙ ap (λ (x : LruCache Key GroupState). x.cap) c.pop.ensures.entries ∙ i.rest_cap;
     }
 
 pub returns-clause-entries : goal.returns-clause-entries
 returns-clause-entries c =
-    sym (live-none c.args.now c.loop-key.aside.entries c.loop-key.rest.entries c.loop-key.invariant.timeless
+    sym (live-none c.args.now c.loop-key.timeless.entries c.loop-key.rest.entries c.loop-key.invariant.timeless
     c.in_default.ensures.none) ∙ c.loop-key.invariant.live

@@ -10,13 +10,13 @@ use Rattle.cap_join.proofs.queues.expire.Given as goal
 -- what isn't too old of the groups stays
 abbrev pub invariant-loop-key : goal.invariant-loop-key
 invariant-loop-key l = record {
-  unique : IsDistinct same_key (keys_of (l.aside.entries ++ l.rest.entries));
-  few : length (l.aside.entries ++ l.rest.entries) ≤ open_limit + 1;
-  timeless : AreTimeless l.aside.entries;
-  in_turn : l.in_order ≡ true → AreInTurn (l.aside.entries ++ l.rest.entries);
-  live : live_entries l.now (l.aside.entries ++ l.rest.entries)
-      ≡ live_entries l.now (l.fn.aside.entries ++ l.fn.rest.entries);
-  aside_cap : l.aside.cap ≡ l.fn.aside.cap;
+  unique : IsDistinct same_key (keys_of (l.timeless.entries ++ l.rest.entries));
+  few : length (l.timeless.entries ++ l.rest.entries) ≤ open_limit + 1;
+  timeless : AreTimeless l.timeless.entries;
+  in_turn : l.in_order ≡ true → AreInTurn (l.timeless.entries ++ l.rest.entries);
+  live : live_entries l.now (l.timeless.entries ++ l.rest.entries)
+      ≡ live_entries l.now (l.fn.timeless.entries ++ l.fn.rest.entries);
+  timeless_cap : l.timeless.cap ≡ l.fn.timeless.cap;
   rest_cap : l.rest.cap ≡ l.fn.rest.cap;
 }
 

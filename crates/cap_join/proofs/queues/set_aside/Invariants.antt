@@ -5,10 +5,10 @@ use Rattle.cap_join.proofs.queues.set_aside.Given as goal
 -- both are what they were, one after the other
 abbrev pub invariant-loop-key : goal.invariant-loop-key
 invariant-loop-key l = record {
-  whole : l.aside.entries ++ l.rest.entries ≡ l.fn.aside.entries ++ l.fn.rest.entries;
-  timeless : AreTimeless l.fn.aside.entries → AreTimeless l.aside.entries;
+  whole : l.timeless.entries ++ l.rest.entries ≡ l.fn.timeless.entries ++ l.fn.rest.entries;
+  timeless : AreTimeless l.fn.timeless.entries → AreTimeless l.timeless.entries;
   fewer : length l.rest.entries ≤ length l.fn.rest.entries;
-  aside_cap : l.aside.cap ≡ l.fn.aside.cap;
+  timeless_cap : l.timeless.cap ≡ l.fn.timeless.cap;
   rest_cap : l.rest.cap ≡ l.fn.rest.cap;
 }
 

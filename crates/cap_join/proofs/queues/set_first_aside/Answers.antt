@@ -14,31 +14,31 @@ use Rattle.cap_join.proofs.queues.set_first_aside.Goals as goal
 
 pub replace-requires-clause-few : goal.replace-requires-clause-few
 replace-requires-clause-few c =
-    let mid : c.append.new.groups.entries ≡ remove_entry (same_key c.args.key.now) c.args.aside.now.entries
+    let mid : c.append.new.groups.entries ≡ remove_entry (same_key c.args.key.now) c.args.timeless.now.entries
     ++ (c.args.key.now, c.blank-blank.result) ∷ [] =
     ok_now c.append.result _ (sym c.is_err.ensures.value ∙ c.if-is_err.false) c.append.ensures.ok in
     omega (
       arith,
       ap (λ (l : List Entry). length l) mid,
-      appended-few c.args.key.now c.blank-blank.result c.args.aside.now.entries,
+      appended-few c.args.key.now c.blank-blank.result c.args.timeless.now.entries,
       c.append.ensures.cap,
       c.requires.room,
     )
 
 pub replace-requires-clause-there : goal.replace-requires-clause-there
 replace-requires-clause-there c =
-    let mid : c.append.new.groups.entries ≡ remove_entry (same_key c.args.key.now) c.args.aside.now.entries
+    let mid : c.append.new.groups.entries ≡ remove_entry (same_key c.args.key.now) c.args.timeless.now.entries
     ++ (c.args.key.now, c.blank-blank.result) ∷ [] =
     ok_now c.append.result _ (sym c.is_err.ensures.value ∙ c.if-is_err.false) c.append.ensures.ok in
     subst (λ (l : List Entry). IsSome (entry_at c.args.key.now l)) (sym mid)
     (found_last c.args.key.now c.blank-blank.result
-    (remove_entry (same_key c.args.key.now) c.args.aside.now.entries))
+    (remove_entry (same_key c.args.key.now) c.args.timeless.now.entries))
 
 pub returns-clause-whole : goal.returns-clause-whole
 returns-clause-whole c =
     let f = c.requires.first in
     let key = c.args.key.now in
-    let xs = c.args.aside.now.entries in
+    let xs = c.args.timeless.now.entries in
     let rest = c.args.rest.now.entries in
     let mid : c.append.new.groups.entries ≡ remove_entry (same_key key) xs ++ (key, c.blank-blank.result) ∷ [] =
     ok_now c.append.result _ (sym c.is_err.ensures.value ∙ c.if-is_err.false) c.append.ensures.ok in
@@ -58,7 +58,7 @@ pub returns-clause-timeless : goal.returns-clause-timeless
 returns-clause-timeless c = λ h.
     let f = c.requires.first in
     let key = c.args.key.now in
-    let xs = c.args.aside.now.entries in
+    let xs = c.args.timeless.now.entries in
     let rest = c.args.rest.now.entries in
     let mid : c.append.new.groups.entries ≡ remove_entry (same_key key) xs ++ (key, c.blank-blank.result) ∷ [] =
     ok_now c.append.result _ (sym c.is_err.ensures.value ∙ c.if-is_err.false) c.append.ensures.ok in

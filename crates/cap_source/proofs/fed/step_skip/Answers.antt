@@ -1,37 +1,37 @@
 use Rattle.std.proofs.Common.{ℕ, ◌+◌, Some, refl, sym, ap, ◌∙◌, arith}
 use Rattle.cap_source.proofs.FedBlockSteps.{skip-cut, skip-on, skip-passes, skip-trailer}
 use Rattle.cap_source.specs.Items.{after}
-use Rattle.cap_source.specs.declared.contents.Content.TheVariants as contents
+use Rattle.cap_source.specs.declared.contents.BlockContent.TheVariants as contents
 use Rattle.cap_source.specs.declared.fed.Stage.TheVariants.{Blocks}
-use Rattle.cap_source.specs.inner.FedSteps.{course_of}
-use Rattle.cap_source.specs.inner.Reached.{progress_of}
+use Rattle.cap_source.specs.inner.FedSteps.{push_view}
+use Rattle.cap_source.specs.inner.SectionState.{progress_of}
 use Rattle.cap_source.proofs.fed.step_skip.Goals as goal
 
 pub returns-then-passed-gt0-clause-step : goal.returns-then-passed-gt0-clause-step
 returns-then-passed-gt0-clause-step c =
-    skip-on (course_of c.args.course.now) c.args.block c.args.left c.args.bytes.now c.requires.stage
+    skip-on (push_view c.args.state.now) c.args.block c.args.left c.args.bytes.now c.requires.stage
     c.passed_of-passed.result _ c.if-passed-gt0.true c.passed_of-passed.ensures refl
 
 pub returns-then-bytes-lt4-clause-step : goal.returns-then-bytes-lt4-clause-step
 returns-then-bytes-lt4-clause-step c =
-    skip-cut (course_of c.args.course.now) c.args.block c.args.left c.args.bytes.now c.requires.stage c.requires.sound
+    skip-cut (push_view c.args.state.now) c.args.block c.args.left c.args.bytes.now c.requires.stage c.requires.sound
     (sym c.passed_of-passed.ensures ∙ grind (arith, c.if-passed-gt0.false)) c.break_skip.result
-    (course_of c.break_skip.new.course) c.if-bytes-lt4.true c.break_skip.ensures
+    (push_view c.break_skip.new.state) c.if-bytes-lt4.true c.break_skip.ensures
 
 pub returns-then-u32_at-block-clause-step : goal.returns-then-u32_at-block-clause-step
 returns-then-u32_at-block-clause-step c =
-    skip-trailer (course_of c.args.course.now) c.args.block c.args.left c.args.bytes.now c.requires.stage
+    skip-trailer (push_view c.args.state.now) c.args.block c.args.left c.args.bytes.now c.requires.stage
     c.requires.sound (sym c.passed_of-passed.ensures ∙ grind (arith, c.if-passed-gt0.false))
-    c.break_skip-then-u32_at-block.result (course_of c.break_skip-then-u32_at-block.new.course) c.if-bytes-lt4.false
+    c.break_skip-then-u32_at-block.result (push_view c.break_skip-then-u32_at-block.new.state) c.if-bytes-lt4.false
     (λ is. c.if-u32_at-block.true (c.u32_at.ensures ∙ is)) c.break_skip-then-u32_at-block.ensures
 
 pub returns-clause-step : goal.returns-clause-step
 returns-clause-step c =
-    skip-passes (course_of c.args.course.now) c.args.block c.args.left c.args.bytes.now c.requires.stage
+    skip-passes (push_view c.args.state.now) c.args.block c.args.left c.args.bytes.now c.requires.stage
     c.requires.sound (sym c.passed_of-passed.ensures ∙ grind (arith, c.if-passed-gt0.false)) _ c.if-bytes-lt4.false
     (sym c.u32_at.ensures ∙ c.if-u32_at-block.false)
-    (ap (λ (n : ℕ). record (course_of c.args.course.now) {
-      offset = c.args.course.now.offset + n;
+    (ap (λ (n : ℕ). record (push_view c.args.state.now) {
+      offset = c.args.state.now.offset + n;
       stage = Blocks (Some c.args.block.order);
-      progress = after (progress_of c.args.course.now.reached) contents.Other;
+      progress = after (progress_of c.args.state.now.reached) contents.Other;
     }) c.from.ensures)

@@ -7,12 +7,12 @@ use Rattle.cap_source.proofs.fed.stop_of.Goals.{else-inside-via-then-inside+else
 
 pub returns-then-is_empty : goal.returns-then-is_empty
 returns-then-is_empty c =
-    stop-none c.args.inside c.args.course.now.tail c.args.course.now.file c.args.course.now.offset c.args.bytes.now
+    stop-none c.args.inside c.args.state.now.tail c.args.state.now.file c.args.state.now.offset c.args.bytes.now
     (Some c.args.rule) (grind (arith, nat_tests, c.if-inside.true, c.is_empty.ensures, c.if-is_empty.true))
 
 pub returns : goal.returns
 returns c =
-    stop_where-fault c.args.inside c.args.course.now.tail c.args.course.now.file c.args.course.now.offset
+    stop_where-fault c.args.inside c.args.state.now.tail c.args.state.now.file c.args.state.now.offset
     c.args.bytes.now (Some c.args.rule) c.args.rule some refl ∙ ap Some (sym c.by.ensures)
   where
     some : (c.args.inside && (length c.args.bytes.now == 0)) ≡ false

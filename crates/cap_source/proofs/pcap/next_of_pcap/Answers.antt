@@ -4,7 +4,7 @@ use Rattle.cap_source.proofs.PcapFronts.{header-fault, header-passed}
 use Rattle.cap_source.proofs.Pcaps.{header_reads, header_refused, header_waits, pcap_keeps}
 use Rattle.cap_source.specs.inner.FileState.{pcap_state}
 use Rattle.cap_source.specs.inner.Fronts.{pcap_fronts}
-use Rattle.cap_source.specs.declared.readers.Next.TheVariants as nexts
+use Rattle.cap_source.specs.declared.readers.Peeked.TheVariants as peeks
 use Rattle.cap_source.proofs.pcap.next_of_pcap.Goals as goal
 
 pub returns-in-Ok-clause-answer : goal.returns-in-Ok-clause-answer
@@ -26,7 +26,7 @@ returns-in-Ok-clause-keeps g c = λ p.
 pub returns-in-Err-Refused-clause-answer : goal.returns-in-Err-Refused-clause-answer
 returns-in-Err-Refused-clause-answer g c = λ p.
     let e = rw c.in-Err-Refused.field-0-is at c.in-Err-Refused.ensures in (
-      nexts.Refused c.in-Err-Refused.refusal c.ending_of_pcap.result,
+      peeks.Refused c.in-Err-Refused.refusal c.ending_of_pcap.result,
       c.set_refused.ensures,
       rw c.ending_of_pcap.ensures
           (header_refused c.in-Err-Refused.refusal c.args.reader.now c.header.new.self p c.requires.free e.answer

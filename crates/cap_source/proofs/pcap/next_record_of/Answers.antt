@@ -1,5 +1,5 @@
 use Rattle.std.proofs.Common.{◌∙◌}
-use Rattle.cap_source.specs.declared.readers.Next.TheVariants as nexts
+use Rattle.cap_source.specs.declared.readers.Peeked.TheVariants as peeks
 use Rattle.cap_bytes.proofs.Parsing.{from_some}
 use Rattle.cap_source.proofs.PcapFronts.{record-fault, record-passed}
 use Rattle.cap_source.proofs.Pcaps.{record_taken, record_learned, end_learned, refusal_learned, pcap_keeps}
@@ -8,7 +8,7 @@ use Rattle.cap_source.proofs.pcap.next_record_of.Goals as goal
 pub returns-in-Ok-Some-clause-answer : goal.returns-in-Ok-Some-clause-answer
 returns-in-Ok-Some-clause-answer g c = λ progress.
     let e = rw c.in-Ok-Some.field-0-is at c.in-Ok-Some.ensures in (
-      nexts.Packet c.meta_of_record.result 0,
+      peeks.Packet c.meta_of_record.result 0,
       c.set_packet.ensures,
       rw c.meta_of_record.ensures
           (record_learned c.args.header c.file-file.result c.in-Ok-Some.record c.args.reader.now
@@ -21,7 +21,7 @@ pub returns-in-Ok-None-clause-answer : goal.returns-in-Ok-None-clause-answer
 returns-in-Ok-None-clause-answer g c = λ progress.
     let e = rw c.in-Ok-None.field-0-is at c.in-Ok-None.ensures in
     let answer = from_some _ _ _ c.requires.header e.answer in (
-      nexts.End c.ending_of_pcap.result,
+      peeks.End c.ending_of_pcap.result,
       c.set_end.ensures,
       rw c.ending_of_pcap.ensures
           (end_learned c.args.header c.was_cut.result answer.0 c.args.reader.now c.next_record.new.self progress
@@ -32,7 +32,7 @@ pub returns-in-Err-Refused-clause-answer : goal.returns-in-Err-Refused-clause-an
 returns-in-Err-Refused-clause-answer g c = λ progress.
     let e = rw c.in-Err-Refused.field-0-is at c.in-Err-Refused.ensures in
     let answer = from_some _ _ _ c.requires.header e.answer in (
-      nexts.Refused c.in-Err-Refused.refusal c.ending_of_pcap-in-Err-Refused.result,
+      peeks.Refused c.in-Err-Refused.refusal c.ending_of_pcap-in-Err-Refused.result,
       rw c.in-Err-Refused.field-0-is at c.set_refused.ensures,
       rw c.ending_of_pcap-in-Err-Refused.ensures
           (refusal_learned c.args.header c.in-Err-Refused.refusal c.args.reader.now c.next_record.new.self progress

@@ -6,7 +6,7 @@ use Rattle.cap_source.proofs.Going.{ReadsTo-here, ReadsTo-further, taken_last}
 use Rattle.cap_source.proofs.Fronts.{Fronts-answer, Fronts-further, Fronts-same, Fronts-taken}
 use Rattle.cap_source.specs.inner.FileState.{pcapng_state}
 use Rattle.cap_source.specs.inner.Fronts.{pcapng_fronts}
-use Rattle.cap_source.specs.inner.Reached.{progress_of}
+use Rattle.cap_source.specs.inner.SectionState.{progress_of}
 use Rattle.cap_source.proofs.pcapng.next_of_blocks.Goals as goal
 
 pub returns-then-is_some-clause-answer : goal.returns-then-is_some-clause-answer

@@ -1,7 +1,7 @@
 use Rattle.std.proofs.Common.{◌≡◌, ◌≤◌, ◌-◌, ◌^◌, None, IsTrue}
 use Rattle.cap_source.specs.inner.FileState.{FileKeeps, ReadsTo, FileWaits, pcapng_state}
 use Rattle.cap_source.specs.inner.Fronts.{FrontsPass, pcapng_fronts}
-use Rattle.cap_source.specs.inner.Reached.{progress_of, counted_blocks, has_room}
+use Rattle.cap_source.specs.inner.SectionState.{progress_of, counted_blocks, has_room}
 use Rattle.cap_source.proofs.pcapng.next_of_blocks.Given as goal
 
 abbrev pub invariant-loop-known : goal.invariant-loop-known

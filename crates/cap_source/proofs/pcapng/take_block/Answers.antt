@@ -1,6 +1,6 @@
 use Rattle.std.proofs.Common.{◌∙◌, ap, unwrap_or, []}
 use Rattle.cap_source.specs.Contents.{content_in}
-use Rattle.cap_source.specs.inner.Reached.{progress_of}
+use Rattle.cap_source.specs.inner.SectionState.{progress_of}
 use Rattle.cap_source.proofs.Going.{IfTaken-so}
 use Rattle.cap_source.proofs.Blocks.{block_taken, block_stepped, block_kept, end_learned, refusal_kept}
 use Rattle.cap_source.proofs.Fronts.{block-fault, block-passed}

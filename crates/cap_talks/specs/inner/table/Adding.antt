@@ -4,7 +4,7 @@ use Rattle.std.specs.Option.{option_map, option_map_or}
 use Rattle.cap_ip.specs.Transport.{transport_of}
 use Rattle.cap_join.specs.declared.datagrams.Datagram.{Datagram}
 use Rattle.cap_talks.specs.table.Rows.{is_refused, talk_limit}
-use Rattle.cap_talks.specs.table.Talks.{Talk, talk_key}
+use Rattle.cap_talks.specs.table.Conversations.{Conversation, talk_key}
 use Rattle.cap_talks.specs.table.Units.{ends_of}
 use Rattle.cap_talks.specs.declared.table.units.CountedUnit.{CountedUnit}
 use Rattle.cap_talks.specs.table.Classes.{class_of}
@@ -22,5 +22,5 @@ unfoldable pub datagram_class : Datagram → Class
 datagram_class d = class_of (transport_of d.header.key.protocol d.payload.items (length d.payload.items))
 
 -- its conversation is one too many
-abbrev pub is_over : List Talk → Option CountedUnit → Bool
+abbrev pub is_over : List Conversation → Option CountedUnit → Bool
 is_over rows unit = option_map_or (λ u. is_refused talk_limit rows (talk_key u)) unit false

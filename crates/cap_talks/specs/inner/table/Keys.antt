@@ -3,9 +3,9 @@ use Rattle.std.proofs.Common.{◌≡◌, ℕ, Bool, true, false, ◌&&◌, refl,
 use Rattle.std.specs.Prelude.{◌==◌, nat_eq}
 use Rattle.std.specs.Option.{option_eq}
 use Rattle.std.proofs.lemmas.Bool.{eqb-true}
-use Rattle.cap_talks.specs.table.Talks.{same_end, same_talk}
+use Rattle.cap_talks.specs.table.Conversations.{same_end, same_talk}
 use Rattle.cap_talks.specs.declared.table.rows.TalkKey.{TalkKey}
-use Rattle.cap_talks.specs.declared.table.units.End.{End}
+use Rattle.cap_talks.specs.declared.table.units.Endpoint.{Endpoint}
 
 pub and_left : (x y : Bool) → (x && y) ≡ true → x ≡ true
 and_left true y h = refl
@@ -21,7 +21,7 @@ same_port-is None (Some b) h = absurd (true≢false (sym h))
 same_port-is (Some a) None h = absurd (true≢false (sym h))
 same_port-is (Some a) (Some b) h = ap Some (eqb-true a b h)
 
-pub same_end-is : (a b : End) → same_end a b ≡ true → a ≡ b
+pub same_end-is : (a b : Endpoint) → same_end a b ≡ true → a ≡ b
 same_end-is a b h =
     let address = eqb-true a.address b.address (and_left (a.address == b.address) (option_eq nat_eq a.port b.port) h) in
     let port = same_port-is a.port b.port (and_right (a.address == b.address) (option_eq nat_eq a.port b.port) h) in

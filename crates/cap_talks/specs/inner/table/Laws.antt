@@ -5,9 +5,9 @@ use Rattle.std.specs.Ordering.{is_lt}
 use Rattle.std.specs.declared.cmp.Ordering.{Ordering}
 use Rattle.cap_talks.specs.declared.table.units.TimedFrame.{TimedFrame}
 use Rattle.cap_talks.specs.table.Rows.{frames_in, bytes_in}
-use Rattle.cap_talks.specs.table.Talks.{talk_key, same_end, same_talk, by_time, by_time_down, least_frame}
-use Rattle.cap_talks.specs.table.Talks.{greatest_frame}
-use Rattle.cap_talks.specs.table.Talks.{frames_of, units_bytes, rows_of}
+use Rattle.cap_talks.specs.table.Conversations.{talk_key, same_end, same_talk, by_time, by_time_down, least_frame}
+use Rattle.cap_talks.specs.table.Conversations.{greatest_frame}
+use Rattle.cap_talks.specs.table.Conversations.{frames_of, units_bytes, rows_of}
 use Rattle.cap_talks.specs.declared.table.units.CountedUnit.{CountedUnit}
 
 -- two units go the same way between two ends, or one of them goes back

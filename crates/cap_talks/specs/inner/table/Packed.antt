@@ -5,8 +5,8 @@ use Rattle.std.specs.List.{list_all}
 use Rattle.cap_talks.specs.declared.table.keys.PackedKey.{PackedKey}
 use Rattle.cap_talks.specs.declared.table.rows.TalkKey.{TalkKey}
 use Rattle.cap_talks.specs.declared.table.rows.TalkRow.{TalkRow}
-use Rattle.cap_talks.specs.declared.table.units.End.{End}
-use Rattle.cap_talks.specs.table.Talks.{Talk}
+use Rattle.cap_talks.specs.declared.table.units.Endpoint.{Endpoint}
+use Rattle.cap_talks.specs.table.Conversations.{Conversation}
 
 -- a port as a number: 0 is none
 abbrev pub port_number : Option ℕ → ℕ
@@ -18,10 +18,10 @@ port_of zero = None
 port_of (suc port) = Some port
 
 -- an end as a number, which has room for 2^17 ports
-abbrev pub end_number : End → ℕ
+abbrev pub end_number : Endpoint → ℕ
 end_number end = end.address * 131072 + port_number end.port
 
-abbrev pub end_at_number : ℕ → End
+abbrev pub end_at_number : ℕ → Endpoint
 end_at_number number = record { address = number / 131072; port = port_of (number % 131072) }
 
 -- a key as two numbers: its lesser end, with the protocol, and its greater end
@@ -37,7 +37,7 @@ unpacked key = record {
 }
 
 -- an address has 32 bits (RFC 791, 3.1), and a port 16 (RFC 768; RFC 9293, 3.1)
-pub record IsNarrowEnd (end : End) : Type 0 where
+pub record IsNarrowEnd (end : Endpoint) : Type 0 where
   pub address : end.address < 2 ^ 32
   pub port : IfSome end.port (λ port. port < 65536)
 
@@ -63,10 +63,10 @@ abbrev pub same_packed : PackedKey → PackedKey → Bool
 same_packed a b = (a.lesser == b.lesser) && (a.greater == b.greater)
 
 -- the conversations of a table, whose keys are packed
-abbrev pub unpacked_talk : PackedKey × TalkRow → Talk
+abbrev pub unpacked_talk : PackedKey × TalkRow → Conversation
 unpacked_talk entry = (unpacked entry.0, entry.1)
 
-abbrev pub unpacked_talks : List (PackedKey × TalkRow) → List Talk
+abbrev pub unpacked_talks : List (PackedKey × TalkRow) → List Conversation
 unpacked_talks entries = map unpacked_talk entries
 
 abbrev pub are_packed : List (PackedKey × TalkRow) → Bool

@@ -14,7 +14,7 @@ use Rattle.cap_time.specs.declared.stamps.Stamp.{Stamp}
 use Rattle.cap_talks.specs.table.CountedUnits.{is_limit_at}
 use Rattle.cap_talks.specs.table.CountedUnits.{limit_refusal}
 use Rattle.cap_talks.specs.inner.table.Looking.{is_plain}
-use Rattle.cap_class.specs.Taken.{Taken, look}
+use Rattle.cap_class.specs.Taken.{Taken, classify}
 use Rattle.cap_talks.specs.inner.table.Tallies.{TallyState, TallyStands}
 use Rattle.cap_talks.specs.inner.table.Totals.{TotalsState, TotalsStand}
 use Rattle.cap_talks.specs.declared.table.tables.Step.{Step}
@@ -119,7 +119,7 @@ pub record TableFails (file offset : ℕ) (old new : TableState) : Type 0 where
 pub record KeepsNext (old new : TableState) : Type 0 where
   pub item : Taken
   pub next : next_taken new.parts ≡ Some item
-  pub kept : (xs : List Taken) → TableStands old xs → is_plain (look (length xs) item) ≡ false
+  pub kept : (xs : List Taken) → TableStands old xs → is_plain (classify (length xs) item) ≡ false
 
 -- A growth was refused, of the feed or of what is kept of the packet that comes first: the packets to come are the
 -- same.

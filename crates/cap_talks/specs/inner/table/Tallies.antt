@@ -16,13 +16,13 @@ use Rattle.cap_talks.specs.table.Rows as talks
 use Rattle.cap_talks.specs.table.Classes.{classes, counts_of, is_class}
 use Rattle.cap_talks.specs.table.TakenText.{frames_facts, joined_facts}
 use Rattle.cap_talks.specs.table.TalkLines.{talk_texts_in, talks_facts}
-use Rattle.cap_class.specs.Taken.{Taken, fragment, look, events_of}
+use Rattle.cap_class.specs.Taken.{Taken, fragment, classify, events_of}
 use Rattle.cap_talks.specs.table.CountedUnits.{counted_units, joined_in, is_limit_at}
 use Rattle.cap_class.specs.declared.classes.Class.{Class}
 use Rattle.cap_class.specs.declared.classes.Class.TheVariants as class
 use Rattle.cap_talks.specs.declared.table.classes.ClassCounts.{ClassCounts}
-use Rattle.cap_talks.specs.declared.table.talks.TalksFault.{TalksFault}
-use Rattle.cap_talks.specs.declared.table.talks.TalksFault.TheVariants as faults
+use Rattle.cap_talks.specs.declared.table.conversations.ConversationsFault.{ConversationsFault}
+use Rattle.cap_talks.specs.declared.table.conversations.ConversationsFault.TheVariants as faults
 
 -- How many packets were taken, how many of each class there are, how many joined datagrams count, the conversations,
 -- the joiner, and a joined datagram that waits for its conversation.
@@ -39,7 +39,7 @@ pub record WaitsFor (d : Datagram) (joiner : JoinerState) (xs : List Taken) (nex
   pub packet : Taken
   pub is_next : next ≡ Some packet
   pub piece : Piece
-  pub is_fragment : look (length xs) packet ≡ fragment piece
+  pub is_fragment : classify (length xs) packet ≡ fragment piece
   pub stands : joiners.JoinerStandsFor joiner (events_of (packet ∷ xs))
   pub whole : completes (joined_pieces packet.clock piece (open_groups_after open_limit (events_of xs))) ≡ true
   pub datagram : IsDatagramOf d (joined_pieces packet.clock piece (open_groups_after open_limit (events_of xs)))
@@ -118,7 +118,7 @@ WaitsIf None waits = waits ≡ false
 WaitsIf (Some d) waits = waits ≡ true
 
 -- What a call for one packet more returns: `Limit` exactly if the packet's conversation would be one too many.
-abbrev pub LimitBy : Result (Unit {0}) TalksFault → Bool → Type 0
+abbrev pub LimitBy : Result (Unit {0}) ConversationsFault → Bool → Type 0
 LimitBy (Ok _) limit = limit ≡ false
 LimitBy (Err faults.Limit) limit = limit ≡ true
 LimitBy (Err faults.Memory) limit = ⊤

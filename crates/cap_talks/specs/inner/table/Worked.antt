@@ -6,10 +6,10 @@ use Rattle.cap_talks.specs.declared.table.units.TimedFrame.{TimedFrame}
 use Rattle.cap_time.specs.declared.stamps.Stamp.{Stamp}
 use Rattle.cap_talks.specs.table.Rows.{is_refused}
 use Rattle.cap_talks.specs.table.TalkLines.{talk_texts, talk_texts_in}
-use Rattle.cap_talks.specs.table.Talks.{talk_key, rows_of}
+use Rattle.cap_talks.specs.table.Conversations.{talk_key, rows_of}
 use Rattle.cap_talks.specs.table.Units.{end_at}
 use Rattle.cap_talks.specs.declared.table.units.CountedUnit.{CountedUnit}
-use Rattle.cap_talks.specs.declared.table.units.End.{End}
+use Rattle.cap_talks.specs.declared.table.units.Endpoint.{Endpoint}
 
 -- a time of that many seconds in millionths, and half a second in 1,024ths and in tenths
 abbrev pub at_second : ℕ → Stamp
@@ -25,14 +25,14 @@ abbrev pub worked_frame_at : ℕ → Stamp → Option TimedFrame
 worked_frame_at place time = Some (record { time = time; place = place })
 
 -- 10.0.0.1 and 10.0.0.2, with a port
-abbrev pub one : ℕ → End
+abbrev pub one : ℕ → Endpoint
 one port = end_at 167772161 (Some port)
 
-abbrev pub two : ℕ → End
+abbrev pub two : ℕ → Endpoint
 two port = end_at 167772162 (Some port)
 
 -- a UDP datagram of that many frames and bytes
-abbrev pub unit_of : End → End → ℕ → ℕ → Option TimedFrame → Option TimedFrame → CountedUnit
+abbrev pub unit_of : Endpoint → Endpoint → ℕ → ℕ → Option TimedFrame → Option TimedFrame → CountedUnit
 unit_of source destination frames bytes first last =
     record {
       protocol = 17;

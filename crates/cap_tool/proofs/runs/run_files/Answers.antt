@@ -24,5 +24,5 @@ returns-clause-runs g c =
       made = subst (λ ids. makes ids (Ok (c.in_ok-writer.writer, c.in_ok-writer.name))) c.as_slice.ensures.value
           (subst (λ made. makes c.as_slice.result.now made) c.in_ok-writer.was c.create.ensures.makes);
       runs = λ t w. RunsJob-as _ _ _ _ _ _ _ _ c.with_read_cause.ensures.ended (c.run_job-ended.ensures.runs t w);
-      settled = c.settle.ensures.settles;
+      committed = c.commit.ensures.commits;
     })

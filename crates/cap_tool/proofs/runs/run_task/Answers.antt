@@ -12,7 +12,7 @@ returns-then-is_check-clause-runs g c =
       told = g.S.Writer.Sink.tells_held w;
       held = g.S.Writer.Sink.held w;
       waiting = g.S.Writer.Outlet.waiting w;
-    }) (g.S.System.settles c.args.system.now) (g.S.System.lacks_input c.args.system.now) c.args.job.now
+    }) (g.S.System.commits c.args.system.now) (g.S.System.lacks_input c.args.system.now) c.args.job.now
     c.run_checks.result
     c.is_check.result true c.is_check.ensures c.if-is_check.true c.run_checks.ensures.runs
 
@@ -26,6 +26,6 @@ returns-else-is_check-clause-runs g c =
       told = g.S.Writer.Sink.tells_held w;
       held = g.S.Writer.Sink.held w;
       waiting = g.S.Writer.Outlet.waiting w;
-    }) (g.S.System.settles c.args.system.now) (g.S.System.lacks_input c.args.system.now) c.args.job.now
+    }) (g.S.System.commits c.args.system.now) (g.S.System.lacks_input c.args.system.now) c.args.job.now
     c.run_files.result
     c.is_check.result false c.is_check.ensures c.if-is_check.false c.run_files.ensures.runs

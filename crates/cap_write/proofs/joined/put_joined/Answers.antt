@@ -11,22 +11,22 @@ use Rattle.cap_write.proofs.Joining.{Joining-more, Joining-part, feeding, shows-
 use Rattle.cap_write.specs.inner.Forms.{form_state}
 use Rattle.cap_write.proofs.joined.put_joined.Goals as goal
 
-pub returns-in_err-has_packet-clause-text : goal.returns-in_err-has_packet-clause-text
-returns-in_err-has_packet-clause-text g c = λ t w.
+pub returns-in_err-peek-clause-text : goal.returns-in_err-peek-clause-text
+returns-in_err-peek-clause-text g c = λ t w.
     let p = err_from_is_err_and c.from_residual.result c.from_residual.ensures.1 in
     let i = c.loop-joining.invariant in
     let mid = parts_of c.loop-joining.merged in
-    let after = parts_of c.has_packet.new.self in
-    let law = merged-is-feed c.has_packet.new.self g.met.F.PacketFeed.lawful in
-    let e = c.in_err-has_packet.ensures in
+    let after = parts_of c.peek.new.self in
+    let law = merged-is-feed c.peek.new.self g.met.F.PacketFeed.lawful in
+    let e = c.in_err-peek.ensures in
     let rest = feeding mid c.loop-joining.joining.place i.events in
     rw (p.1, p.2)
-    (Prints-stop c.args.order (form_state c.loop-joining.form) c.in_err-has_packet.field-0.0 _ _ _ _ rest rest
+    (Prints-stop c.args.order (form_state c.loop-joining.form) c.in_err-peek.field-0.0 _ _ _ _ rest rest
     (i.walk.text t) w
     (i.walk.refusal_same t)
-    (shows-fault c.in_err-has_packet.field-0.0 mid (merged_feed after) c.loop-joining.joining.place i.events
-    (shown.shows-fault (merged_feed mid) (merged_feed after) c.in_err-has_packet.field-0.0 law
-    (c.has_packet.ensures.keeps.told (i.walk.told t)) e.answer (e.items (i.walk.told t)))))
+    (shows-fault c.in_err-peek.field-0.0 mid (merged_feed after) c.loop-joining.joining.place i.events
+    (shown.shows-fault (merged_feed mid) (merged_feed after) c.in_err-peek.field-0.0 law
+    (c.peek.ensures.keeps.told (i.walk.told t)) e.answer (e.items (i.walk.told t)))))
 
 pub put_completed-requires-clause-last : goal.put_completed-requires-clause-last
 put_completed-requires-clause-last g c =
@@ -42,11 +42,11 @@ returns-in_err-put_completed-clause-text g c = λ t w.
     c.from_residual-in_err-put_completed.ensures.1 in
     let i = c.loop-joining.invariant in
     let mid = parts_of c.loop-joining.merged in
-    let after = parts_of c.has_packet.new.self in
-    let law = merged-is-feed c.has_packet.new.self g.met.F.PacketFeed.lawful in
-    let e = c.in_ok-has_packet.ensures in
+    let after = parts_of c.peek.new.self in
+    let law = merged-is-feed c.peek.new.self g.met.F.PacketFeed.lawful in
+    let e = c.in_ok-peek.ensures in
     let n = c.next_packet in
-    let told = c.has_packet.ensures.keeps.told (i.walk.told t) in
+    let told = c.peek.ensures.keeps.told (i.walk.told t) in
     let shows = shows-packet (merged_feed mid) (merged_feed after) n.result.meta.now law told n.ensures.packet
     (e.items (i.walk.told t)) in
     rw (p.1, p.2)
@@ -73,9 +73,9 @@ pub loop-joining-preserved : goal.loop-joining-preserved
 loop-joining-preserved g c =
     let i = c.loop-joining.invariant in
     let mid = parts_of c.loop-joining.merged in
-    let after = parts_of c.has_packet.new.self in
-    let law = merged-is-feed c.has_packet.new.self g.met.F.PacketFeed.lawful in
-    let has = c.in_ok-has_packet.ensures in
+    let after = parts_of c.peek.new.self in
+    let law = merged-is-feed c.peek.new.self g.met.F.PacketFeed.lawful in
+    let has = c.in_ok-peek.ensures in
     let n = c.next_packet in
     let e = c.in_ok-put_completed.ensures in
     rw e.same
@@ -98,9 +98,9 @@ pub returns-clause-text : goal.returns-clause-text
 returns-clause-text g c = λ t w.
     let i = c.loop-joining.invariant in
     let mid = parts_of c.loop-joining.merged in
-    let after = parts_of c.has_packet.new.self in
-    let law = merged-is-feed c.has_packet.new.self g.met.F.PacketFeed.lawful in
-    let has = c.in_ok-has_packet.ensures in
+    let after = parts_of c.peek.new.self in
+    let law = merged-is-feed c.peek.new.self g.met.F.PacketFeed.lawful in
+    let has = c.in_ok-peek.ensures in
     let shows : ShowsItem (merged_feed mid) (Ok None) (merged_feed after) =
     shown.shows-end (merged_feed mid) (merged_feed after) law (has.keeps.told (i.walk.told t))
     (rw c.if-branch.false at has.answer).known (has.items (i.walk.told t)) in

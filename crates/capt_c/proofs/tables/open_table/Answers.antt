@@ -3,15 +3,16 @@ use denote.RawPtr.{Ptr}
 use Rattle.cap_bytes.specs.declared.faults.Fault.{Fault}
 use Rattle.cap_bytes.specs.declared.faults.Fault.TheVariants.{Memory}
 use Rattle.capt_c.specs.Answers.{status_of_result, status_of_unit}
-use Rattle.capt_c.specs.Held.{IsClosed}
+use Rattle.capt_c.specs.HandleValue.{IsClosed}
 use Rattle.capt_c.specs.Tables.{OpensTable}
-use Rattle.capt_c.specs.declared.handles.Held.{Held}
-use Rattle.capt_c.specs.declared.handles.Held.TheVariants as helds
+use Rattle.capt_c.specs.declared.handles.HandleValue.{HandleValue}
+use Rattle.capt_c.specs.declared.handles.HandleValue.TheVariants as helds
 use Rattle.capt_c.proofs.SameReaders.{same-readers}
 use Rattle.capt_c.proofs.tables.open_table.Goals as goal
 
 -- either the value is held, or nothing is for want of memory
-opens-held : (Opens : ℕ → Option Held → Type 0) (value : Held) (answer : Result Unit Fault) (new : Option Held)
+opens-held : (Opens : ℕ → Option HandleValue → Type 0) (value : HandleValue) (answer : Result Unit Fault)
+    (new : Option HandleValue)
     (address : Ptr) (is_open : Bool) → OnOk answer (new ≡ Some value) → OnErr answer (IsClosed new address is_open)
     → IsOkUnless answer Memory → Opens 0 (Some value) → Opens 5 None
     → Opens (status_of_result status_of_unit answer) new

@@ -13,7 +13,7 @@ pub invariant_of-self : goal.invariant_of-self
 invariant_of-self c =
     let q = c.self.inside in
     let key = c.args.key.now in
-    let xs = q.aside.entries in
+    let xs = q.timeless.entries in
     let ys = q.rest.entries in
     let none : is_some (entry_at key xs) ≡ false =
     aged-rest (same_key key) xs ys c.self.invariant.timeless
@@ -25,7 +25,7 @@ invariant_of-self c =
     let short : length (xs ++ ys) ≤ open_limit = subst (λ (l : List Entry). length l ≤ open_limit)
     (sym c.self.view_is) c.requires.few in
     record {
-      aside_room = c.self.invariant.aside_room;
+      timeless_room = c.self.invariant.timeless_room;
       rest_room = subst (λ (n : ℕ). open_limit + 2 < n) (sym c.append.ensures.cap) c.self.invariant.rest_room;
       few = made_cases (λ l. length (xs ++ l) ≤ open_limit + 1) ys made c.append.new.groups.entries c.append.result
           c.append.ensures.ok c.append.ensures.err
@@ -42,8 +42,8 @@ pub returns-clause-ok : goal.returns-clause-ok
 returns-clause-ok c =
     let q = c.self.inside in
     let key = c.args.key.now in
-    let none : is_some (entry_at key q.aside.entries) ≡ false =
-    aged-rest (same_key key) q.aside.entries q.rest.entries c.self.invariant.timeless
+    let none : is_some (entry_at key q.timeless.entries) ≡ false =
+    aged-rest (same_key key) q.timeless.entries q.rest.entries c.self.invariant.timeless
     (subst (λ (l : List Entry). IfSome (entry_at key l) (λ s. IsSome s.clock))
     (sym c.self.view_is) c.requires.aged) in
     grind (arith, c.self.view_is, c.append.ensures.ok, appended-rest)
@@ -52,7 +52,7 @@ pub returns-clause-unique : goal.returns-clause-unique
 returns-clause-unique c =
     let q = c.self.inside in
     let key = c.args.key.now in
-    let xs = q.aside.entries in
+    let xs = q.timeless.entries in
     let ys = q.rest.entries in
     let none : is_some (entry_at key xs) ≡ false =
     aged-rest (same_key key) xs ys c.self.invariant.timeless

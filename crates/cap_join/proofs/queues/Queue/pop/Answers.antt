@@ -16,21 +16,21 @@ invariant_of-self c =
     let q = c.self.inside in
     let test = same_key c.args.key.now in
     let new = c.pop.new.self.entries in
-    let is : new ++ q.rest.entries ≡ remove_entry test (q.aside.entries ++ q.rest.entries) =
+    let is : new ++ q.rest.entries ≡ remove_entry test (q.timeless.entries ++ q.rest.entries) =
     ap (λ (x : LruCache Key GroupState). x.entries ++ q.rest.entries) c.pop.ensures.entries
-    ∙ sym (remove_entry-left test q.aside.entries q.rest.entries (sym c.holds.ensures ∙ c.if-holds.true)) in
+    ∙ sym (remove_entry-left test q.timeless.entries q.rest.entries (sym c.holds.ensures ∙ c.if-holds.true)) in
     record {
-      aside_room = subst (λ (n : ℕ). open_limit + 2 < n)
-          (sym (ap (λ (x : LruCache Key GroupState). x.cap) c.pop.ensures.entries)) c.self.invariant.aside_room;
+      timeless_room = subst (λ (n : ℕ). open_limit + 2 < n)
+          (sym (ap (λ (x : LruCache Key GroupState). x.cap) c.pop.ensures.entries)) c.self.invariant.timeless_room;
       rest_room = c.self.invariant.rest_room;
       few = omega (
         arith,
         ap (λ (l : List Entry). length l) is,
-        removed-few test (q.aside.entries ++ q.rest.entries),
+        removed-few test (q.timeless.entries ++ q.rest.entries),
         c.self.invariant.few,
       );
       unique = subst (λ (l : List Entry). IsDistinct same_key (keys_of l)) (sym is)
-          (IsDistinct-remove_entry test (q.aside.entries ++ q.rest.entries) c.self.invariant.unique);
+          (IsDistinct-remove_entry test (q.timeless.entries ++ q.rest.entries) c.self.invariant.unique);
       timeless = grind (arith, c.pop.ensures.entries, timeless-removed, c.self.invariant.timeless);
     }
 
@@ -39,22 +39,22 @@ invariant_of-self-else-holds c =
     let q = c.self.inside in
     let test = same_key c.args.key.now in
     let new = c.pop-else-holds.new.self.entries in
-    let is : q.aside.entries ++ new ≡ remove_entry test (q.aside.entries ++ q.rest.entries) =
-    ap (λ (x : LruCache Key GroupState). q.aside.entries ++ x.entries) c.pop-else-holds.ensures.entries
-    ∙ sym (remove_entry-right test q.aside.entries q.rest.entries (sym c.holds.ensures ∙ c.if-holds.false)) in
+    let is : q.timeless.entries ++ new ≡ remove_entry test (q.timeless.entries ++ q.rest.entries) =
+    ap (λ (x : LruCache Key GroupState). q.timeless.entries ++ x.entries) c.pop-else-holds.ensures.entries
+    ∙ sym (remove_entry-right test q.timeless.entries q.rest.entries (sym c.holds.ensures ∙ c.if-holds.false)) in
     record {
-      aside_room = c.self.invariant.aside_room;
+      timeless_room = c.self.invariant.timeless_room;
       rest_room = subst (λ (n : ℕ). open_limit + 2 < n)
           (sym (ap (λ (x : LruCache Key GroupState). x.cap) c.pop-else-holds.ensures.entries))
           c.self.invariant.rest_room;
       few = omega (
         arith,
         ap (λ (l : List Entry). length l) is,
-        removed-few test (q.aside.entries ++ q.rest.entries),
+        removed-few test (q.timeless.entries ++ q.rest.entries),
         c.self.invariant.few,
       );
       unique = subst (λ (l : List Entry). IsDistinct same_key (keys_of l)) (sym is)
-          (IsDistinct-remove_entry test (q.aside.entries ++ q.rest.entries) c.self.invariant.unique);
+          (IsDistinct-remove_entry test (q.timeless.entries ++ q.rest.entries) c.self.invariant.unique);
       timeless = c.self.invariant.timeless;
     }
 
@@ -71,11 +71,11 @@ returns-then-holds-clause-unique c =
     let q = c.self.inside in
     let test = same_key c.args.key.now in
     let new = c.pop.new.self.entries in
-    let is : new ++ q.rest.entries ≡ remove_entry test (q.aside.entries ++ q.rest.entries) =
+    let is : new ++ q.rest.entries ≡ remove_entry test (q.timeless.entries ++ q.rest.entries) =
     ap (λ (x : LruCache Key GroupState). x.entries ++ q.rest.entries) c.pop.ensures.entries
-    ∙ sym (remove_entry-left test q.aside.entries q.rest.entries (sym c.holds.ensures ∙ c.if-holds.true)) in
+    ∙ sym (remove_entry-left test q.timeless.entries q.rest.entries (sym c.holds.ensures ∙ c.if-holds.true)) in
     subst (λ (l : List Entry). IsDistinct same_key (keys_of l)) (sym is)
-    (IsDistinct-remove_entry test (q.aside.entries ++ q.rest.entries) c.self.invariant.unique)
+    (IsDistinct-remove_entry test (q.timeless.entries ++ q.rest.entries) c.self.invariant.unique)
 
 pub returns-else-holds-clause-value : goal.returns-else-holds-clause-value
 returns-else-holds-clause-value c =
@@ -97,8 +97,8 @@ returns-else-holds-clause-unique c =
     let q = c.self.inside in
     let test = same_key c.args.key.now in
     let new = c.pop-else-holds.new.self.entries in
-    let is : q.aside.entries ++ new ≡ remove_entry test (q.aside.entries ++ q.rest.entries) =
-    ap (λ (x : LruCache Key GroupState). q.aside.entries ++ x.entries) c.pop-else-holds.ensures.entries
-    ∙ sym (remove_entry-right test q.aside.entries q.rest.entries (sym c.holds.ensures ∙ c.if-holds.false)) in
+    let is : q.timeless.entries ++ new ≡ remove_entry test (q.timeless.entries ++ q.rest.entries) =
+    ap (λ (x : LruCache Key GroupState). q.timeless.entries ++ x.entries) c.pop-else-holds.ensures.entries
+    ∙ sym (remove_entry-right test q.timeless.entries q.rest.entries (sym c.holds.ensures ∙ c.if-holds.false)) in
     subst (λ (l : List Entry). IsDistinct same_key (keys_of l)) (sym is)
-    (IsDistinct-remove_entry test (q.aside.entries ++ q.rest.entries) c.self.invariant.unique)
+    (IsDistinct-remove_entry test (q.timeless.entries ++ q.rest.entries) c.self.invariant.unique)

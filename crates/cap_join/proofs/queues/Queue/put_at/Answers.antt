@@ -27,7 +27,7 @@ invariant_of-self c =
     let q = c.self.inside in
     let key = c.args.key.now in
     let p = piece_in c.args.incoming.now in
-    let old = q.aside.entries in
+    let old = q.timeless.entries in
     let new = c.put_in.new.groups.entries in
     let ok = c.put_in.ensures.ok in
     let err = c.put_in.ensures.err in
@@ -35,7 +35,7 @@ invariant_of-self c =
     let whole : keys_of (new ++ q.rest.entries) ≡ keys_of (old ++ q.rest.entries) =
     keys-same new q.rest.entries old q.rest.entries same refl in
     record {
-      aside_room = subst (λ (n : ℕ). open_limit + 2 < n) (sym c.put_in.ensures.cap) c.self.invariant.aside_room;
+      timeless_room = subst (λ (n : ℕ). open_limit + 2 < n) (sym c.put_in.ensures.cap) c.self.invariant.timeless_room;
       rest_room = c.self.invariant.rest_room;
       few = omega (arith, length-same (new ++ q.rest.entries) (old ++ q.rest.entries) whole, c.self.invariant.few);
       unique = subst (λ (l : List Key). IsDistinct same_key l) (sym whole) c.self.invariant.unique;
@@ -52,13 +52,18 @@ invariant_of-self-else-holds c =
     let ok = c.put_in-else-holds.ensures.ok in
     let err = c.put_in-else-holds.ensures.err in
     let same : keys_of new ≡ keys_of old = grind (arith, put_cases, keys_of-set_value) in
-    let whole : keys_of (q.aside.entries ++ new) ≡ keys_of (q.aside.entries ++ old) =
-    keys-same q.aside.entries new q.aside.entries old refl same in
+    let whole : keys_of (q.timeless.entries ++ new) ≡ keys_of (q.timeless.entries ++ old) =
+    keys-same q.timeless.entries new q.timeless.entries old refl same in
     record {
-      aside_room = c.self.invariant.aside_room;
+      timeless_room = c.self.invariant.timeless_room;
       rest_room = subst (λ (n : ℕ). open_limit + 2 < n)
           (sym c.put_in-else-holds.ensures.cap) c.self.invariant.rest_room;
-      few = omega (arith, length-same (q.aside.entries ++ new) (q.aside.entries ++ old) whole, c.self.invariant.few);
+      few = omega (
+        arith,
+        length-same (q.timeless.entries ++ new)
+            (q.timeless.entries ++ old) whole,
+        c.self.invariant.few,
+      );
       unique = subst (λ (l : List Key). IsDistinct same_key l) (sym whole) c.self.invariant.unique;
       timeless = c.self.invariant.timeless;
     }

@@ -5,7 +5,7 @@ use Rattle.cap_source.proofs.PcapFronts.{told-same}
 use Rattle.cap_source.specs.inner.Captures.{capture_fronts}
 use Rattle.cap_source.specs.inner.Fronts.{pcap_fronts, pcapng_fronts}
 use Rattle.cap_source.specs.inner.FileState.{pcap_state, pcapng_state}
-use Rattle.cap_source.specs.inner.Reached.{progress_of}
+use Rattle.cap_source.specs.inner.SectionState.{progress_of}
 use Rattle.cap_source.specs.inner.Readers.{reader_file_state}
 use Rattle.cap_source.proofs.captures.Capture.find.Goals as goal
 

@@ -1,7 +1,7 @@
 use Rattle.std.proofs.Common.{◌∙◌}
 use Rattle.cap_source.proofs.Firsts.{knows, first_told, first_kept}
 use Rattle.cap_source.specs.inner.FileState.{head_of}
-use Rattle.cap_source.specs.inner.Reached.{progress_of}
+use Rattle.cap_source.specs.inner.SectionState.{progress_of}
 use Rattle.cap_source.specs.inner.Readers.{reader_file_state}
 use Rattle.cap_source.proofs.captures.Capture.first.Goals as goal
 

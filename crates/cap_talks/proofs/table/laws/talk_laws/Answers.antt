@@ -2,7 +2,7 @@ use Rattle.std.proofs.Common.{refl}
 use Rattle.std.specs.Fmt.{digits}
 use Rattle.cap_time.specs.Stamp.{stamp_cmp}
 use Rattle.cap_time.specs.Time.{time_cmp, time_at}
-use Rattle.cap_talks.specs.table.Talks.{rows_of}
+use Rattle.cap_talks.specs.table.Conversations.{rows_of}
 use Rattle.cap_talks.proofs.FrameLaws.{frame_law}
 use Rattle.cap_talks.proofs.KeyLaws.{key_law}
 use Rattle.cap_talks.proofs.SumLaws.{sum_law}

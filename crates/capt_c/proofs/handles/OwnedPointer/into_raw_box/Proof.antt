@@ -12,7 +12,7 @@ use mir.Raw.{raw as bare}
 use types.Logic.{sem}
 use denote.Memory.{lone}
 use Rattle.std.specs.Box.Ownership.{box_owns}
-use Rattle.capt_c.specs.Held.{owned, token}
+use Rattle.capt_c.specs.HandleValue.{owned, token}
 use contract.Monad.{fact, fact_i}
 use contract.Running.{tables}
 use denote.Exit.{yes}
@@ -28,8 +28,8 @@ use Rattle.std.proofs.raw_atomic.Walks.{proved_at, leaves}
 use Rattle.std.specs.contracts.alloc.Global as global
 use Rattle.std.specs.contracts.impls.GlobalAllocator.TheImpl.{ghosts}
 use Rattle.std.proofs.alloc.Global.TheLaws as global_laws
-use Rattle.capt_c.specs.declared.handles.Held.{Held}
-use Rattle.capt_c.specs.contracts.handles.Held as inner
+use Rattle.capt_c.specs.declared.handles.HandleValue.{HandleValue}
+use Rattle.capt_c.specs.contracts.handles.HandleValue as inner
 use Rattle.capt_c.proofs.RawBoxValues.{both, raw_box_good, raw_box_in}
 use Rattle.capt_c.proofs.PointerValues.{Row, word, inside, word_good, pointer_out}
 use Rattle.capt_c.specs.contracts.handles.OwnedPointer.into_raw_box.{ended, clauses}
@@ -55,8 +55,8 @@ into_raw_box_spec 𝓤 𝓛 𝓜 𝓡 wired =
     ∷ raw ((c z.0.0 z.0.3).requires z.1) ∷ []) ∵ split ! $ move ! (1 ∷ []) $ fsplit ! $ pointer_out ! v z.0.4.0 (λ is.
     move ! (1 ∷ []) $ fsplit ! $ handle_tells al ! a z.0.4.1.0
     (λ h ea fits. move ! (4 ∷ []) $ heard ! (IsSome v.value)
-    (λ there. let x : Held = (inside v.value there).0 in let e = (inside v.value there).1 in
-    move ! (2 ∷ []) $ rewrite ! 0 (λ (m : Option Held). ‵ (owned v.at m)) e refl $ in_a_block ! v.at
+    (λ there. let x : HandleValue = (inside v.value there).0 in let e = (inside v.value there).1 in
+    move ! (2 ∷ []) $ rewrite ! 0 (λ (m : Option HandleValue). ‵ (owned v.at m)) e refl $ in_a_block ! v.at
     (λ p. box_owns token R p x) (fst∗ 𝓤 (never 𝓤) (sem 𝓛 (token (bare (lone R.mir)) null_ptr))) (λ b o eb.
     let w : Val = word (block_ptr b o) in let out : Val = both (vptr b o) h in let us : List Val = w ∷ h ∷ [] in
     suffices ! (Run us) (subst (λ (ws : List Val). ent 𝓤 (Run us) (Run ws))

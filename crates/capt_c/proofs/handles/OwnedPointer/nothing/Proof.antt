@@ -19,7 +19,7 @@ use denote.Triple.Entry.{alive}
 use denote.Triple.Walked.{Stays, stay_dropped, walk_of, Goes-dropped}
 use Rattle.std.specs.Prelude.{Option, None}
 use Rattle.std.proofs.raw_atomic.Walks.{proved, leaves}
-use Rattle.capt_c.specs.declared.handles.Held.{Held}
+use Rattle.capt_c.specs.declared.handles.HandleValue.{HandleValue}
 use Rattle.capt_c.proofs.PointerValues.{word, word_good, pointer_in}
 use Rattle.capt_c.specs.contracts.handles.OwnedPointer.nothing.{ended, clauses}
 use Rattle.capt_c.specs.contracts.handles.OwnedPointer.nothing.Key.{name as #self}
@@ -33,7 +33,7 @@ nothing_spec 𝓤 𝓛 𝓜 𝓡 wired =
     proved 𝓛 ended hs c 𝓜 𝓡 (Goes-dropped 𝓛 0 (plain (λ _. RawPtr)) yes (λ κs x f. refl), tt) #self fn
     (code.unfolded 𝓤 𝓛.H 𝓜 𝓡 wired)
     (λ κs. (rawptr_vals, tt)) (λ κs. (rawptr_Tells, tt)) (λ κs qs bounds a g are.
-    let p : Ptr = a.0 in let none : Option Held = None in let z : (walk_of 𝓛 ended hs c).Ghost =
+    let p : Ptr = a.0 in let none : Option HandleValue = None in let z : (walk_of 𝓛 ended hs c).Ghost =
     ((κs, qs, bounds, a, (rawptr_vals p, tt)), g) in let Post : Val → SProp 𝓤 = (walk_of 𝓛 ended hs c).post z in
     qed 𝓛 ((raw (alive 𝓛 ended.signature κs qs) ⊛ ‵ (owns (types_at ended.signature.params κs) a (rawptr_vals p, tt)))
     ∷ ‵ ftrue ∷ []) ∵ split ! $

@@ -16,25 +16,25 @@ use Rattle.cap_talks.proofs.Stepping.{stayed, went}
 use Rattle.cap_merge.proofs.Numbers.{numbers-within}
 use Rattle.cap_talks.proofs.table.tables.Table.step.Goals as goal
 
-pub returns-in_err-has_packet-clause-step : goal.returns-in_err-has_packet-clause-step
-returns-in_err-has_packet-clause-step g c =
-    let m = c.has_packet.new.self in
+pub returns-in_err-peek-clause-step : goal.returns-in_err-peek-clause-step
+returns-in_err-peek-clause-step g c =
+    let m = c.peek.new.self in
     let p = parts_of c.args.self.now.merged in
     let q = parts_of m in
     let law = merged-is-feed m g.met.F.PacketFeed.lawful in
-    let e = c.in_err-has_packet.ensures in
+    let e = c.in_err-peek.ensures in
     let t = c.args.self.now in
     let is = err_from_is_err_and c.from_residual.result c.from_residual.ensures.1 in
-    rw (is.1, is.2) (faulted t.totals t.tally t.done p q c.in_err-has_packet.field-0.0 law e.keeps e.answer e.items
+    rw (is.1, is.2) (faulted t.totals t.tally t.done p q c.in_err-peek.field-0.0 law e.keeps e.answer e.items
     e.asks e.run)
 
 pub returns-then-not-branch-clause-step : goal.returns-then-not-branch-clause-step
 returns-then-not-branch-clause-step g c =
-    let m = c.has_packet.new.self in
+    let m = c.peek.new.self in
     let p = parts_of c.args.self.now.merged in
     let q = parts_of m in
-    let e = c.in_ok-has_packet.ensures in
-    let known = known-end (merged_feed p) (merged_feed q) c.in_ok-has_packet.field-0 c.if-not-branch.true e.answer in
+    let e = c.in_ok-peek.ensures in
+    let known = known-end (merged_feed p) (merged_feed q) c.in_ok-peek.field-0 c.if-not-branch.true e.answer in
     let law = merged-is-feed m g.met.F.PacketFeed.lawful in
     record {
       known = known.known;
@@ -48,12 +48,12 @@ returns-then-not-branch-clause-step g c =
 -- the packet is of one of the files
 pub take-requires-in-Ok-clause-first : goal.take-requires-in-Ok-clause-first
 take-requires-in-Ok-clause-first g c =
-    let m = c.has_packet.new.self in
+    let m = c.peek.new.self in
     let p = parts_of c.args.self.now.merged in
     let q = parts_of m in
-    let e = c.in_ok-has_packet.ensures in
+    let e = c.in_ok-peek.ensures in
     let meta = c.next_packet-packet.result.meta.now in
-    let known = known-packet (merged_feed p) (merged_feed q) c.in_ok-has_packet.field-0 meta c.if-not-branch.false
+    let known = known-packet (merged_feed p) (merged_feed q) c.in_ok-peek.field-0 meta c.if-not-branch.false
     e.answer
     c.next_packet-packet.ensures.packet in
     let law = merged-is-feed m g.met.F.PacketFeed.lawful in
@@ -63,12 +63,12 @@ take-requires-in-Ok-clause-first g c =
 
 pub take-requires-in-Ok-clause-last : goal.take-requires-in-Ok-clause-last
 take-requires-in-Ok-clause-last g c =
-    let m = c.has_packet.new.self in
+    let m = c.peek.new.self in
     let p = parts_of c.args.self.now.merged in
     let q = parts_of m in
-    let e = c.in_ok-has_packet.ensures in
+    let e = c.in_ok-peek.ensures in
     let meta = c.next_packet-packet.result.meta.now in
-    let known = known-packet (merged_feed p) (merged_feed q) c.in_ok-has_packet.field-0 meta c.if-not-branch.false
+    let known = known-packet (merged_feed p) (merged_feed q) c.in_ok-peek.field-0 meta c.if-not-branch.false
     e.answer
     c.next_packet-packet.ensures.packet in
     let law = merged-is-feed m g.met.F.PacketFeed.lawful in
@@ -81,12 +81,12 @@ take-requires-in-Ok-clause-last g c =
 
 pub take-requires-in-Ok-clause-few : goal.take-requires-in-Ok-clause-few
 take-requires-in-Ok-clause-few g c =
-    let m = c.has_packet.new.self in
+    let m = c.peek.new.self in
     let p = parts_of c.args.self.now.merged in
     let q = parts_of m in
-    let e = c.in_ok-has_packet.ensures in
+    let e = c.in_ok-peek.ensures in
     let meta = c.next_packet-packet.result.meta.now in
-    let known = known-packet (merged_feed p) (merged_feed q) c.in_ok-has_packet.field-0 meta c.if-not-branch.false
+    let known = known-packet (merged_feed p) (merged_feed q) c.in_ok-peek.field-0 meta c.if-not-branch.false
     e.answer
     c.next_packet-packet.ensures.packet in
     let law = merged-is-feed m g.met.F.PacketFeed.lawful in
@@ -95,12 +95,12 @@ take-requires-in-Ok-clause-few g c =
 
 pub returns-in-Ok-clause-step : goal.returns-in-Ok-clause-step
 returns-in-Ok-clause-step g c =
-    let m = c.has_packet.new.self in
+    let m = c.peek.new.self in
     let p = parts_of c.args.self.now.merged in
     let q = parts_of m in
-    let e = c.in_ok-has_packet.ensures in
+    let e = c.in_ok-peek.ensures in
     let meta = c.next_packet-packet.result.meta.now in
-    let known = known-packet (merged_feed p) (merged_feed q) c.in_ok-has_packet.field-0 meta c.if-not-branch.false
+    let known = known-packet (merged_feed p) (merged_feed q) c.in_ok-peek.field-0 meta c.if-not-branch.false
     e.answer
     c.next_packet-packet.ensures.packet in
     let law = merged-is-feed m g.met.F.PacketFeed.lawful in
@@ -139,12 +139,12 @@ returns-in-Ok-clause-step g c =
 
 pub returns-in-Err-Limit-clause-step : goal.returns-in-Err-Limit-clause-step
 returns-in-Err-Limit-clause-step g c =
-    let m = c.has_packet.new.self in
+    let m = c.peek.new.self in
     let p = parts_of c.args.self.now.merged in
     let q = parts_of m in
-    let e = c.in_ok-has_packet.ensures in
+    let e = c.in_ok-peek.ensures in
     let meta = c.next_packet-packet.result.meta.now in
-    let known = known-packet (merged_feed p) (merged_feed q) c.in_ok-has_packet.field-0 meta c.if-not-branch.false
+    let known = known-packet (merged_feed p) (merged_feed q) c.in_ok-peek.field-0 meta c.if-not-branch.false
     e.answer
     c.next_packet-packet.ensures.packet in
     let law = merged-is-feed m g.met.F.PacketFeed.lawful in
@@ -179,12 +179,12 @@ returns-in-Err-Limit-clause-step g c =
 
 pub returns-in-Err-Memory-clause-step : goal.returns-in-Err-Memory-clause-step
 returns-in-Err-Memory-clause-step g c =
-    let m = c.has_packet.new.self in
+    let m = c.peek.new.self in
     let p = parts_of c.args.self.now.merged in
     let q = parts_of m in
-    let e = c.in_ok-has_packet.ensures in
+    let e = c.in_ok-peek.ensures in
     let meta = c.next_packet-packet.result.meta.now in
-    let known = known-packet (merged_feed p) (merged_feed q) c.in_ok-has_packet.field-0 meta c.if-not-branch.false
+    let known = known-packet (merged_feed p) (merged_feed q) c.in_ok-peek.field-0 meta c.if-not-branch.false
     e.answer
     c.next_packet-packet.ensures.packet in
     let law = merged-is-feed m g.met.F.PacketFeed.lawful in
@@ -213,36 +213,36 @@ returns-in-Err-Memory-clause-step g c =
 
 -- what every answer keeps, and what it says again
 
-pub returns-in_err-has_packet-clause-keeps : goal.returns-in_err-has_packet-clause-keeps
-returns-in_err-has_packet-clause-keeps g c =
-    let e = c.in_err-has_packet.ensures in
+pub returns-in_err-peek-clause-keeps : goal.returns-in_err-peek-clause-keeps
+returns-in_err-peek-clause-keeps g c =
+    let e = c.in_err-peek.ensures in
     record { keeps = e.keeps; places = stayed _ _ _ _ refl e.keeps.left; files = refl }
 
-pub returns-in_err-has_packet-clause-again : goal.returns-in_err-has_packet-clause-again
-returns-in_err-has_packet-clause-again g c =
+pub returns-in_err-peek-clause-again : goal.returns-in_err-peek-clause-again
+returns-in_err-peek-clause-again g c =
     let is = err_from_is_err_and c.from_residual.result c.from_residual.ensures.1 in
-    rw (is.1, is.2) (again-fault _ _ _ c.in_err-has_packet.ensures.answer)
+    rw (is.1, is.2) (again-fault _ _ _ c.in_err-peek.ensures.answer)
 
 pub returns-then-not-branch-clause-keeps : goal.returns-then-not-branch-clause-keeps
 returns-then-not-branch-clause-keeps g c =
-    let e = c.in_ok-has_packet.ensures in
+    let e = c.in_ok-peek.ensures in
     record { keeps = e.keeps; places = stayed _ _ _ _ refl e.keeps.left; files = refl }
 
 pub returns-then-not-branch-clause-again : goal.returns-then-not-branch-clause-again
 returns-then-not-branch-clause-again g c =
-    again-end _ _ (known-end _ _ _ c.if-not-branch.true c.in_ok-has_packet.ensures.answer)
+    again-end _ _ (known-end _ _ _ c.if-not-branch.true c.in_ok-peek.ensures.answer)
 
 pub next_packet-packet-requires : goal.next_packet-packet-requires
 next_packet-packet-requires g c =
-    found-packet _ _ _ c.if-not-branch.false c.in_ok-has_packet.ensures.answer
+    found-packet _ _ _ c.if-not-branch.false c.in_ok-peek.ensures.answer
 
 pub pass-requires : goal.pass-requires
 pass-requires g c =
-    record { packet = found-packet _ _ _ c.if-not-branch.false c.in_ok-has_packet.ensures.answer }
+    record { packet = found-packet _ _ _ c.if-not-branch.false c.in_ok-peek.ensures.answer }
 
 pub returns-in-Ok-clause-keeps : goal.returns-in-Ok-clause-keeps
 returns-in-Ok-clause-keeps g c =
-    let e = c.in_ok-has_packet.ensures in
+    let e = c.in_ok-peek.ensures in
     record {
       keeps = Keeps-trans _ _ _ e.keeps c.pass.ensures.keeps;
       places = went _ _ _ _ _ c.in-Ok.ensures.place e.keeps.left c.pass.ensures.passes.left;
@@ -251,22 +251,22 @@ returns-in-Ok-clause-keeps g c =
 
 pub returns-in-Ok-clause-again : goal.returns-in-Ok-clause-again
 returns-in-Ok-clause-again g c =
-    again-packet _ _ _ _ c.if-not-branch.false c.in_ok-has_packet.ensures.answer
+    again-packet _ _ _ _ c.if-not-branch.false c.in_ok-peek.ensures.answer
 
 pub returns-in-Err-Limit-clause-keeps : goal.returns-in-Err-Limit-clause-keeps
 returns-in-Err-Limit-clause-keeps g c =
-    let e = c.in_ok-has_packet.ensures in
+    let e = c.in_ok-peek.ensures in
     record { keeps = e.keeps; places = stayed _ _ _ _ c.in-Err-Limit.ensures.same e.keeps.left; files = refl }
 
 pub returns-in-Err-Limit-clause-again : goal.returns-in-Err-Limit-clause-again
 returns-in-Err-Limit-clause-again g c =
-    again-packet _ _ _ _ c.if-not-branch.false c.in_ok-has_packet.ensures.answer
+    again-packet _ _ _ _ c.if-not-branch.false c.in_ok-peek.ensures.answer
 
 pub returns-in-Err-Memory-clause-keeps : goal.returns-in-Err-Memory-clause-keeps
 returns-in-Err-Memory-clause-keeps g c =
-    let e = c.in_ok-has_packet.ensures in
+    let e = c.in_ok-peek.ensures in
     record { keeps = e.keeps; places = stayed _ _ _ _ c.in-Err-Memory.ensures.same e.keeps.left; files = refl }
 
 pub returns-in-Err-Memory-clause-again : goal.returns-in-Err-Memory-clause-again
 returns-in-Err-Memory-clause-again g c =
-    again-packet _ _ _ _ c.if-not-branch.false c.in_ok-has_packet.ensures.answer
+    again-packet _ _ _ _ c.if-not-branch.false c.in_ok-peek.ensures.answer

@@ -24,7 +24,7 @@ invariant_of-self c =
     let x = taken_of c.args.packet in
     sound-plain t x (ap (λ (n : TallyState). n.waiting) c.self.view_is ∙ c.requires.none) c.self.invariant
     (omega (arith, c.requires.few, ap (λ (n : TallyState). n.place) c.self.view_is)) c.args.class
-    c.requires.look _ c.with_frames-self-inside.ensures
+    c.requires.classify _ c.with_frames-self-inside.ensures
 
 pub returns-clause-looks : goal.returns-clause-looks
 returns-clause-looks c =
@@ -32,4 +32,4 @@ returns-clause-looks c =
     let x = taken_of c.args.packet in
     rw (← c.self.view_is)
     (looks-plain t x (ap (λ (n : TallyState). n.waiting) c.self.view_is ∙ c.requires.none) c.args.class
-    c.requires.look _ c.with_frames-self-inside.ensures)
+    c.requires.classify _ c.with_frames-self-inside.ensures)

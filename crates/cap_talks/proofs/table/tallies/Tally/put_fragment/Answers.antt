@@ -22,7 +22,7 @@ invariant_of-self c =
     let p = λ (place : ℕ). piece_of c.args.header c.args.bytes.now (stamped_of place c.args.packet.meta.now) in
     let own = c.stamped_of-stamped.ensures in
     sound-kept t x (ap (λ (n : TallyState). n.waiting) c.self.view_is ∙ c.requires.none) p
-    c.requires.look
+    c.requires.classify
     c.put.new.self
     (λ es stands. subst (λ s. joiners.JoinerStandsFor c.put.new.self
     (arrives c.args.packet.clock.now (piece_of c.args.header c.args.bytes.now s) ∷ es)) own (e.stands es stands))
@@ -45,7 +45,7 @@ returns-in-Ok-Kept-clause-looks c =
     let own = c.stamped_of-stamped.ensures in
     rw (← c.self.view_is)
     (looks-kept t x (ap (λ (n : TallyState). n.waiting) c.self.view_is ∙ c.requires.none) p
-    c.requires.look
+    c.requires.classify
     c.put.new.self
     (λ es stands. subst (λ s. joiners.JoinerStandsFor c.put.new.self
     (arrives c.args.packet.clock.now (piece_of c.args.header c.args.bytes.now s) ∷ es)) own (e.stands es stands))
@@ -65,7 +65,7 @@ invariant_of-self-in-Ok-Joined c =
     let p = λ (place : ℕ). piece_of c.args.header c.args.bytes.now (stamped_of place c.args.packet.meta.now) in
     let own = c.stamped_of-stamped.ensures in
     sound-waiting t x (ap (λ (n : TallyState). n.waiting) c.self.view_is ∙ c.requires.none) p
-    c.requires.look
+    c.requires.classify
     c.put.new.self
     (λ es stands. subst (λ s. joiners.JoinerStandsFor c.put.new.self
     (arrives c.args.packet.clock.now (piece_of c.args.header c.args.bytes.now s) ∷ es)) own (e.stands es stands))
@@ -87,7 +87,7 @@ returns-in-Ok-Joined-clause-looks c =
     let own = c.stamped_of-stamped.ensures in
     rw (← c.self.view_is)
     (looks-waiting t x (ap (λ (n : TallyState). n.waiting) c.self.view_is ∙ c.requires.none) p
-    c.requires.look
+    c.requires.classify
     c.put.new.self
     (λ es stands. subst (λ s. joiners.JoinerStandsFor c.put.new.self
     (arrives c.args.packet.clock.now (piece_of c.args.header c.args.bytes.now s) ∷ es)) own (e.stands es stands))

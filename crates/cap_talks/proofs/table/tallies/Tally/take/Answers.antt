@@ -1,14 +1,14 @@
 use Rattle.std.proofs.Common.{◌≡◌, false, ◌∷◌, List, length, Some, Err, arith}
 use Rattle.std.specs.Prelude.{OnOk, OnErr, Result, Ok, Option}
 use Rattle.cap_talks.specs.inner.table.Looking.{is_plain}
-use Rattle.cap_class.specs.Taken.{Taken, look}
+use Rattle.cap_class.specs.Taken.{Taken, classify}
 use Rattle.cap_talks.specs.inner.table.Tallies.{TallyState, TallyStands, Looks}
 use Rattle.cap_talks.specs.table.CountedUnits.{is_limit_at}
-use Rattle.cap_talks.specs.declared.table.talks.TalksFault.{TalksFault}
+use Rattle.cap_talks.specs.declared.table.conversations.ConversationsFault.{ConversationsFault}
 use Rattle.cap_talks.proofs.table.tallies.Tally.take.Goals as goal
 
 -- a datagram that waited, of the packet
-taken_on : (old mid new : TallyState) (x : Taken) (result : Result (Unit {0}) TalksFault)
+taken_on : (old mid new : TallyState) (x : Taken) (result : Result (Unit {0}) ConversationsFault)
     → ((xs : List Taken) → TallyStands old xs (Some x) → TallyStands mid xs (Some x))
     → OnOk result ((xs : List Taken) (y : Taken) → TallyStands mid xs (Some y) → (is_limit_at xs y ≡ false)
     × ((next : Option Taken) → TallyStands new (y ∷ xs) next))
@@ -20,10 +20,11 @@ pub returns-then-is_waiting-clause-stands : goal.returns-then-is_waiting-clause-
 returns-then-is_waiting-clause-stands c = grind (arith, taken_on, c.take_waiting.ensures.stands)
 
 -- a packet of which something is kept
-kept_on : (old mid : TallyState) (x : Taken) (result : Result (Unit {0}) TalksFault)
+kept_on : (old mid : TallyState) (x : Taken) (result : Result (Unit {0}) ConversationsFault)
     → ((xs : List Taken) → TallyStands old xs (Some x) → TallyStands mid xs (Some x))
-    → OnErr result ((xs : List Taken) (y : Taken) → TallyStands mid xs (Some y) → is_plain (look (length xs) y) ≡ false)
-    → OnErr result ((xs : List Taken) → TallyStands old xs (Some x) → is_plain (look (length xs) x) ≡ false)
+    → OnErr result ((xs : List Taken) (y : Taken) → TallyStands mid xs (Some y)
+    → is_plain (classify (length xs) y) ≡ false)
+    → OnErr result ((xs : List Taken) → TallyStands old xs (Some x) → is_plain (classify (length xs) x) ≡ false)
 kept_on old mid x (Ok u) f h = tt
 kept_on old mid x (Err e) f h = λ xs s. h xs x (f xs s)
 

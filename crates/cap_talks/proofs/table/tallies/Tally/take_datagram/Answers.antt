@@ -2,7 +2,7 @@ use Rattle.std.proofs.Common.{rules, ℕ, ◌<◌, ◌++◌, length, Some, Err, 
 use Rattle.std.proofs.lemmas.Result.{err_from_is_err_and}
 use Rattle.cap_ip.specs.Transport.{transport_of}
 use Rattle.cap_talks.specs.table.Rows.{TalksStandFor}
-use Rattle.cap_talks.specs.table.Talks.{frames_of, units_bytes}
+use Rattle.cap_talks.specs.table.Conversations.{frames_of, units_bytes}
 use Rattle.cap_talks.proofs.SumLaws.{sum_law}
 use Rattle.cap_talks.specs.inner.table.Adding.{is_over}
 use Rattle.cap_talks.specs.table.Classes.{class_of}
@@ -61,7 +61,7 @@ returns-in_err-add_unit-clause-limit c =
     (limit-is t x xs (Some x) (whole_unit c.args.header c.args.captured.now
     (stamped_of t.place c.args.packet.meta.now)) h
     (unit-is x xs (datagram c.args.header c.args.captured.now)
-    (c.requires.look (length xs))
+    (c.requires.classify (length xs))
     ∙ ap (λ (n : ℕ). whole_unit c.args.header c.args.captured.now (stamped_of n c.args.packet.meta.now)) (sym h.place)))
     (subst (λ u. LimitBy (Err c.in_err-add_unit.field-0.0) (is_over t.talks.rows u))
     (c.whole_unit.ensures ∙ ap (whole_unit c.args.header c.args.captured.now) c.stamped_of-stamped.ensures)
@@ -85,7 +85,7 @@ invariant_of-self-2 c =
     let original : c.stamped_of-stamped.result.original < 4294967296 = search rules in
     let one = numbers-whole header captured c.stamped_of-stamped.result original in
     sound-datagram t x (ap (λ (n : TallyState). n.waiting) c.self.view_is ∙ c.requires.none) header captured
-    c.requires.look
+    c.requires.classify
     c.add_unit.new.talks _
     (λ us stands. subst (λ u. TalksStandFor c.add_unit.new.talks (us ++ listed u)) unit (e.stands us stands))
     (λ es stands. search rules)
@@ -113,7 +113,7 @@ returns-clause-looks c =
     let unit = c.whole_unit.ensures ∙ ap (whole_unit header captured) c.stamped_of-stamped.ensures in
     rw (← c.self.view_is)
     (looks-datagram t x (ap (λ (n : TallyState). n.waiting) c.self.view_is ∙ c.requires.none) header captured
-    c.requires.look
+    c.requires.classify
     c.add_unit.new.talks _
     (λ us stands. subst (λ u. TalksStandFor c.add_unit.new.talks (us ++ listed u)) unit (e.stands us stands))
     (λ es stands. search rules)
@@ -125,4 +125,4 @@ returns-clause-looks c =
 pub returns-in_err-add_unit-clause-grows : goal.returns-in_err-add_unit-clause-grows
 returns-in_err-add_unit-clause-grows c =
     let p = err_from_is_err_and c.from_residual.result c.from_residual.ensures.1 in
-    rw p.1 (λ xs h. ap is_plain (c.requires.look (length xs)))
+    rw p.1 (λ xs h. ap is_plain (c.requires.classify (length xs)))

@@ -1,7 +1,7 @@
 use Rattle.std.proofs.Common.{rules, ◌≤◌, ◌++◌, sym, ap, ◌∙◌, subst, arith}
 use Rattle.std.proofs.lemmas.Result.{err_from_is_err_and}
 use Rattle.cap_talks.specs.table.Rows.{TalksStandFor}
-use Rattle.cap_talks.specs.table.Talks.{frames_of, units_bytes}
+use Rattle.cap_talks.specs.table.Conversations.{frames_of, units_bytes}
 use Rattle.cap_talks.proofs.SumLaws.{sum_law}
 use Rattle.cap_talks.specs.inner.table.Adding.{is_over}
 use Rattle.cap_talks.specs.inner.table.Tallies.{TallyState, WaitingFits, counted_one, with_group}

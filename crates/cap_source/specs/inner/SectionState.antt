@@ -1,0 +1,23 @@
+-- How far a pcapng file was read, as it is kept.
+use Rattle.std.specs.Prelude.{◌+◌, ℕ, nat_lt, Bool, true, length, Option, Some, None, vec_len, vec_capacity}
+use Rattle.cap_source.specs.Items.{SectionProgress}
+use Rattle.cap_source.specs.declared.section_states.SectionState.{SectionState}
+
+abbrev pub progress_of : SectionState → SectionProgress
+progress_of reached =
+    record {
+      interfaces = reached.interfaces.items;
+      base = reached.base;
+      skipped = reached.skipped;
+      named = reached.named;
+      first = reached.first;
+    }
+
+-- how many blocks of the file are counted in it, those of interfaces with a name twice
+abbrev pub counted_blocks : SectionProgress → ℕ
+counted_blocks progress = progress.base + length progress.interfaces + progress.skipped + progress.named
+
+-- whether there is room for an interface, once a read has failed
+abbrev pub has_room : Option ℕ → SectionState → Bool
+has_room None reached = true
+has_room (Some first) reached = nat_lt (vec_len reached.interfaces) (vec_capacity reached.interfaces)

@@ -1,0 +1,72 @@
+//! How far a pcapng file was read, and what a block adds to that.
+ghost use Rattle.std.specs.Prelude.{◌≡◌, ◌<◌, ◌+◌, ◌^◌, vec_len, vec_capacity};
+ghost use Rattle.cap_source.specs.Items.{after, fresh};
+ghost use Rattle.cap_source.specs.inner.SectionState.{progress_of, counted_blocks};
+
+use crate::contents::{BlockContent, InterfaceDescription};
+use cap_time::Interface;
+use std::alloc::Global;
+
+/// How far a pcapng file was read.
+#[derive(Drop)]
+pub struct SectionState {
+    /// The interfaces of the section that is being read, in order.
+    pub interfaces: Vec<Interface>,
+    /// How many interface blocks of the file stand before the section.
+    pub base: u64,
+    /// How many blocks of the file were skipped.
+    pub skipped: u64,
+    /// How many interfaces of the file have a name.
+    pub named: u64,
+    /// The first interface of the file, once it was read.
+    pub first: Option<Interface>,
+}
+
+/// Nothing was read yet.
+pub fn nothing_reached(alloc: Global) -> SectionState
+    ensures { progress_of result ≡ fresh }
+{
+    SectionState {
+        interfaces: Vec::new(alloc),
+        base: 0,
+        skipped: 0,
+        named: 0,
+        first: None,
+    }
+}
+
+// After a section header.
+fn begin_section(reached: &mut SectionState)
+    requires { counted_blocks (progress_of reached.old) < 2 ^ 40 }
+    ensures { progress_of reached.new ≡ after (progress_of reached.old) BlockContent.Section }
+{
+    reached.base += reached.interfaces.len() as u64;
+    reached.interfaces.clear();
+}
+
+// After an interface block.
+fn add_interface(reached: &mut SectionState, described: InterfaceDescription)
+    requires room { vec_len reached.old.interfaces < vec_capacity reached.old.interfaces }
+    requires limit { counted_blocks (progress_of reached.old) < 2 ^ 40 }
+    ensures { progress_of reached.new ≡ after (progress_of reached.old) (BlockContent.Interface described) }
+{
+    reached.first = Some(reached.first.unwrap_or(described.interface));
+    if described.is_named {
+        reached.named += 1;
+    }
+    reached.interfaces.push_reserved(described.interface);
+}
+
+/// Goes on after a block that says this. There is room for an interface.
+pub fn go_on(reached: &mut SectionState, content: BlockContent)
+    requires room { vec_len reached.old.interfaces < vec_capacity reached.old.interfaces }
+    requires limit { counted_blocks (progress_of reached.old) < 2 ^ 40 }
+    ensures { progress_of reached.new ≡ after (progress_of reached.old) content }
+{
+    match content {
+        BlockContent::Section => begin_section(reached),
+        BlockContent::Interface(described) => add_interface(reached, described),
+        BlockContent::Packet(_) => {}
+        BlockContent::Other => reached.skipped += 1,
+    }
+}

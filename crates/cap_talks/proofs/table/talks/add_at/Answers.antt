@@ -1,5 +1,0 @@
-use Rattle.std.proofs.Common.{arith}
-use Rattle.cap_talks.proofs.table.talks.add_at.Goals as goal
-
-pub returns : goal.returns
-returns c = grind arith

@@ -1,0 +1,176 @@
+//! The table of conversations.
+ghost use Rattle.std.specs.Prelude.{◌≡◌, ◌+◌, ◌≤◌, ◌<◌, ◌^◌, ◌++◌, List, [], ◌∷◌, length, slice_get, true, nat_lt, not};
+ghost use Rattle.std.specs.Prelude.{OnOk, OnErr};
+ghost use Rattle.indexmap.specs.IndexMap.{insert_entry};
+ghost use Rattle.indexmap.specs.Layout.{set_value_at};
+ghost use Rattle.cap_talks.specs.inner.table.Packed.{unpacked, IsNarrow, unpacked_talks, are_packed};
+ghost use Rattle.cap_talks.specs.table.Conversations.{talk_key, row_of, same_talk};
+ghost use Rattle.cap_talks.specs.table.Rows.{TalksStandFor, is_refused, is_limit, talk_limit, frames_in, bytes_in};
+ghost use Rattle.cap_talks.specs.table.Rows.{frames_of_row, bytes_of_row, row_in, with_delta, with_talk, IsUnitInOrder};
+ghost use Rattle.cap_talks.specs.table.Rows.{is_in_order, are_all_in_order};
+ghost use Rattle.cap_talks.specs.declared.table.units.CountedUnit.{CountedUnit};
+
+use crate::table::keys::PackedKey;
+use crate::table::rows::{RowDelta, TalkKey, TalkRow};
+use crate::table::units::CountedUnit;
+use indexmap::IndexMap;
+use std::alloc::Global;
+use std::marker::Model;
+
+// How many conversations a table may have.
+const TALK_LIMIT: usize = 1_048_576;
+
+/// Why a unit, or the packet that completes it, wasn't counted. The table is as it was.
+#[derive(Clone, Copy)]
+pub enum ConversationsFault {
+    /// The unit's conversation is a new one, and there are 1,048,576 already.
+    Limit,
+    /// A growth was refused.
+    Memory,
+}
+
+/// The conversations of counted units: those of a protocol between two ends, whichever of them is the
+/// source. Each has a row, which counts its units; rows stand in the order of their first units.
+///
+/// What a table holds is stated by the units that it stands for.
+#[derive(Drop)]
+pub struct Conversations {
+    rows: IndexMap<PackedKey, TalkRow>,
+}
+
+impl Model for Conversations {
+    ghost use Rattle.cap_talks.specs.table.Rows.{TalksState};
+
+    ghost Value = { TalksState };
+
+    ghost use Rattle.cap_talks.specs.inner.table.ConversationsView.{talks_view, IsSoundTalksInside};
+
+    ghost view = { talks_view };
+
+    ghost invariant = { IsSoundTalksInside };
+}
+
+impl Conversations {
+    /// The table of no unit.
+    pub fn new(alloc: Global) -> Conversations
+        ensures stands { TalksStandFor result [] }
+        ensures empty { result.rows ≡ [] }
+    {
+        Conversations {
+            rows: IndexMap::new(alloc),
+        }
+    }
+
+    /// Counts one unit more, after those that the table stands for: units come in the order of the frames
+    /// that completed them. All frames of its rows and the unit's are fewer than 2^64, and their bytes fewer
+    /// than 2^128. The unit's first frame isn't later than its last one, and is the same if it came in one.
+    ///
+    /// Returns `Limit` exactly if the unit's conversation is a new one and there are 1,048,576 already, `Memory`
+    /// if a growth was refused. Both leave the table as it was.
+    #[inline(always)]
+    pub fn add(&mut self, unit: &CountedUnit) -> Result<(), ConversationsFault>
+        requires frames { frames_in self.old.rows + unit.now.frames < 2 ^ 64 }
+        requires bytes { bytes_in self.old.rows + unit.now.bytes < 2 ^ 128 }
+        requires unit { IsUnitInOrder unit.now }
+        ensures stands { OnOk result ((units : List CountedUnit) → TalksStandFor self.old units
+            → TalksStandFor self.new (units ++ unit.now ∷ [])) }
+        ensures frames { OnOk result (frames_in self.new.rows ≡ frames_in self.old.rows + unit.now.frames) }
+        ensures bytes { OnOk result (bytes_in self.new.rows ≡ bytes_in self.old.rows + unit.now.bytes) }
+        ensures limit { is_limit result ≡ is_refused talk_limit self.old.rows (talk_key unit.now) }
+        ensures err { OnErr result (self.new ≡ self.old) }
+    {
+        add_unit(&mut self.rows, unit)
+    }
+
+    /// How many conversations there are: at most 1,048,576.
+    pub fn len(&self) -> usize
+        ensures value { result ≡ length self.now.rows }
+        ensures bound { result ≤ 1048576 }
+    {
+        self.rows.len()
+    }
+
+    /// The conversation at a place in the order of their first units, counted from 0, and its row; `None`
+    /// past the last.
+    pub fn get(&self, place: usize) -> Option<(TalkKey, TalkRow)>
+        ensures { result ≡ slice_get self.now.rows place }
+    {
+        match self.rows.get_index(place) {
+            None => None,
+            Some((key, row)) => Some((key.unpacked(), *row)),
+        }
+    }
+}
+
+// Counts one unit more in the row at a place.
+#[inline(always)]
+fn add_at(rows: &mut IndexMap<PackedKey, TalkRow>, place: usize, delta: RowDelta)
+    requires place { place < length rows.old.entries }
+    requires frames { frames_of_row (row_in rows.old.entries place) + delta.frames < 2 ^ 64 }
+    requires bytes { bytes_of_row (row_in rows.old.entries place) + delta.bytes < 2 ^ 128 }
+    requires order { is_in_order (row_in rows.old.entries place) ≡ true }
+    requires one { delta.frames ≡ 1 → delta.first ≡ delta.last }
+    ensures { rows.new.entries ≡ set_value_at rows.old.entries place
+        (with_delta (row_in rows.old.entries place) delta) }
+{
+    let Some(row) = rows.get_index_mut(place) else {
+        unreachable!();
+    };
+    row.take(delta);
+}
+
+// Adds the row of a new conversation, of one unit.
+#[inline(never)]
+fn add_row(
+    rows: &mut IndexMap<PackedKey, TalkRow>,
+    key: PackedKey,
+    delta: RowDelta,
+) -> Result<(), ConversationsFault>
+    requires key { IsNarrow (unpacked key) }
+    requires keys { are_packed rows.old.entries ≡ true }
+    requires frames { delta.frames < 2 ^ 64 }
+    requires bytes { delta.bytes < 2 ^ 128 }
+    requires one { delta.frames ≡ 1 → delta.first ≡ delta.last }
+    ensures entries { OnOk result (unpacked_talks rows.new.entries
+        ≡ insert_entry same_talk (unpacked_talks rows.old.entries) (unpacked key) (with_delta (row_of []) delta)) }
+    ensures keys { are_packed rows.new.entries ≡ true }
+    ensures limit { is_limit result ≡ not (nat_lt (length rows.old.entries) talk_limit) }
+    ensures err { OnErr result (rows.new.entries ≡ rows.old.entries) }
+{
+    if rows.len() >= TALK_LIMIT {
+        return Err(ConversationsFault::Limit);
+    }
+    let mut row = TalkRow::new();
+    row.take(delta);
+    match rows.insert(key, row) {
+        Ok(_) => Ok(()),
+        Err(_) => Err(ConversationsFault::Memory),
+    }
+}
+
+// Counts one unit more in the rows.
+#[inline(always)]
+fn add_unit(
+    rows: &mut IndexMap<PackedKey, TalkRow>,
+    unit: &CountedUnit,
+) -> Result<(), ConversationsFault>
+    requires keys { are_packed rows.old.entries ≡ true }
+    requires frames { frames_in (unpacked_talks rows.old.entries) + unit.now.frames < 2 ^ 64 }
+    requires bytes { bytes_in (unpacked_talks rows.old.entries) + unit.now.bytes < 2 ^ 128 }
+    requires order { are_all_in_order (unpacked_talks rows.old.entries) ≡ true }
+    requires one { unit.now.frames ≡ 1 → unit.now.first ≡ unit.now.last }
+    ensures entries { OnOk result (unpacked_talks rows.new.entries
+        ≡ with_talk (unpacked_talks rows.old.entries) unit.now) }
+    ensures keys { are_packed rows.new.entries ≡ true }
+    ensures limit { is_limit result ≡ is_refused talk_limit (unpacked_talks rows.old.entries) (talk_key unit.now) }
+    ensures err { OnErr result (unpacked_talks rows.new.entries ≡ unpacked_talks rows.old.entries) }
+{
+    let (key, forward) = PackedKey::of(unit);
+    match rows.get_index_of(&key) {
+        Some(place) => {
+            add_at(rows, place, RowDelta::of(unit, forward));
+            Ok(())
+        }
+        None => add_row(rows, key, RowDelta::of(unit, forward)),
+    }
+}
