@@ -102,7 +102,7 @@ MERGED_BEFORE = {
 }
 # Tests that meet a refused growth, by crate, and how many together at most: they call again, or look at what a call left.
 TESTS = [
-    ("cap_tests", "^(bytes|join|source)::.*(a_window|a_standard_reader|a_refused_growth)", 1),
+    ("cap_layer_tests", "^(bytes|join|source)::.*(a_window|a_standard_reader|a_refused_growth)", 1),
     ("cap_tests", "^steps::a_refused_growth", 2),
     ("cap_tests", "^commands::.*a_refused_growth", 1),
 ]

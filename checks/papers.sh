@@ -100,11 +100,12 @@ claims = text_of("docs/CLAIMS.md")
 cells = [row.split("|")[3] for row in re.findall(r"^\|.*\|$", claims, re.M) if row.count("|") == 4]
 named = {test for cell in cells for test in re.findall(r"`([a-z_]+(?:::\w+)+)`", cell)}
 kept = set()
-for place, _, files in os.walk(f"{top}/crates/cap_tests/src"):
-    for file in files:
-        path = os.path.relpath(f"{place}/{file}", f"{top}/crates/cap_tests/src")
-        for test in re.findall(r"^#\[test\]\nfn (\w+)", text_of(f"crates/cap_tests/src/{path}"), re.M):
-            kept.add(f"{path[:-3].replace('/', '::')}::{test}")
+for crate in ("cap_layer_tests", "cap_tests", "cap_tool_tests"):
+    for place, _, files in os.walk(f"{top}/crates/{crate}/src"):
+        for file in files:
+            path = os.path.relpath(f"{place}/{file}", f"{top}/crates/{crate}/src")
+            for test in re.findall(r"^#\[test\]\nfn (\w+)", text_of(f"crates/{crate}/src/{path}"), re.M):
+                kept.add(f"{path[:-3].replace('/', '::')}::{test}")
 judged("docs/CLAIMS.md, tests", named == kept, f"no such test: {sorted(named - kept)}; not named: {sorted(kept - named)}")
 
 page = subprocess.run([f"{top}/checks/trusted.py", "--page"], capture_output=True, text=True).stdout
@@ -204,7 +205,7 @@ judged("docs/DECISIONS.md, words", words <= 3000, f"{words} words, at most 3,000
 
 # each file of code has a row in FILES, but for those that only name others
 shown = text_of("docs/FILES.md")
-code = [file for file in glob.glob("crates/*/src/**/*.rt", root_dir=top, recursive=True) if not re.search(r"/cap_tests/|/libcapt/|/(?:lib|table)\.rt$", file)]
+code = [file for file in glob.glob("crates/*/src/**/*.rt", root_dir=top, recursive=True) if not re.search(r"/cap_\w*tests/|/libcapt/|/(?:lib|table)\.rt$", file)]
 judged("docs/FILES.md, files", not (left := [file for file in code if os.path.basename(file) not in shown]), f"has no row for {left}")
 
 # the version, and the kit that proves it, where they are told

@@ -1,15 +1,12 @@
-//! What commands leave out of what they write, or as it was, and the lines that tell it.
+//! What commands leave out of what they write, or as it was.
 
 use crate::checks::{holds, same};
 use crate::files::{reader_of, room_of, sources_of};
 use crate::hex_vectors::{CUT_PCAP, File, OPTIONS_PCAPNG, RUNS_BACK, RUNS_ON};
 use cap_bytes::{Fault, Order, Pieces, Refusal, Rule, Sink, Source, Tail};
-use cap_line::LineFault;
+use cap_commands::{DroppedInfo, convert_and_count, join_and_count, merge_and_count};
 use cap_merge::{Merged, merge_files};
 use cap_source::{Capture, Format, PacketFeed};
-use cap_tool::{
-    DroppedInfo, Outcome, convert_and_count, join_and_count, left_lines, merge_and_count,
-};
 use std::alloc::Global;
 use std::process::Abort;
 
@@ -167,56 +164,5 @@ fn a_packet_runs_back(rt: HostRuntime) {
         feed.count_backward(counts);
         passes(&rt, &mut feed, 0);
         passes(&rt, &mut feed, u64::from(counts));
-    }
-}
-
-// How a run ended, what is left, and what is known of it.
-const TOLD: [(Outcome, [u128; 3], &str); 12] = [
-    (Outcome::Done, [0, 0, 0], ""),
-    (Outcome::Done, [1, 0, 0], "not carried on: 1 block\n"),
-    (Outcome::Done, [3, 0, 0], "not carried on: 3 blocks\n"),
-    (
-        Outcome::Done,
-        [0, 1, 0],
-        "not carried on: names of 1 interface\n",
-    ),
-    (
-        Outcome::Done,
-        [0, 2, 0],
-        "not carried on: names of 2 interfaces\n",
-    ),
-    (
-        Outcome::Done,
-        [3, 1, 0],
-        "not carried on: 3 blocks, names of 1 interface\n",
-    ),
-    (Outcome::Done, [0, 0, 2], "ran back: 2 packets\n"),
-    (
-        Outcome::Done,
-        [12, 0, 1],
-        "not carried on: 12 blocks\nran back: 1 packet\n",
-    ),
-    (Outcome::Fault(CUT), [12, 1, 1], ""),
-    (Outcome::Line(LineFault::Help), [12, 1, 1], ""),
-    (Outcome::Differ, [12, 1, 1], ""),
-    (Outcome::NotWhole, [12, 1, 1], ""),
-];
-
-// What is printed of what is left.
-fn tells(rt: &impl Abort, outcome: &Outcome, counts: [u128; 3], text: &str) {
-    let [skipped, named, ran_back] = counts;
-    let left = DroppedInfo {
-        skipped,
-        named,
-        ran_back,
-    };
-    let line = left_lines(outcome, &left);
-    same!(rt; line.as_slice(), text.as_bytes());
-}
-
-#[test]
-fn what_is_left_is_told(rt: HostRuntime) {
-    for (outcome, counts, text) in &TOLD {
-        tells(&rt, outcome, *counts, *text);
     }
 }

@@ -5,7 +5,7 @@ use crate::checks::same;
 use crate::commands::answer_of_file;
 use crate::files::{reader_of, room_of};
 use cap_bytes::{Rule, Tail};
-use cap_tool::blocks_to;
+use cap_commands::blocks_to;
 use std::alloc::Global;
 use std::process::Abort;
 

@@ -5,7 +5,7 @@ use crate::checks::same;
 use crate::commands::answer_of_file;
 use crate::files::{bytes_of, reader_of, room_of};
 use cap_bytes::{Fault, Pieces, Rule, Tail};
-use cap_tool::blocks_json_to;
+use cap_commands::blocks_json_to;
 use std::alloc::Global;
 use std::process::Abort;
 

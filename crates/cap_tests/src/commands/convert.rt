@@ -7,8 +7,8 @@ use crate::commands::captures::{
 };
 use crate::files::{ask_written, reader_of, room_of};
 use cap_bytes::{Order, Rule, Tail};
+use cap_commands::convert_to;
 use cap_source::Format;
-use cap_tool::convert_to;
 use std::alloc::Global;
 use std::process::Abort;
 

@@ -5,8 +5,8 @@ use crate::checks::same;
 use crate::files::{reader_of, room_of};
 use crate::hex_vectors::{CARRY_PCAP, CARRY_PCAPNG, CUT_PCAP, ETHERNET, File};
 use cap_bytes::{Fault, Refusal, Rule, Tail};
+use cap_commands::{diff_in, diff_to};
 use cap_print::Form;
-use cap_tool::{diff_in, diff_to};
 use std::alloc::Global;
 use std::process::Abort;
 

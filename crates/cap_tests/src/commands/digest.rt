@@ -7,9 +7,9 @@ use crate::hex_vectors::{
     CARRY_PCAP, CARRY_PCAPNG, CUT_PCAP, File, HEADER_ONLY, RUNS_BACK, SIMPLE_PACKET,
 };
 use cap_bytes::{Fault, Pieces, Rule, Tail};
+use cap_commands::digests_to;
 use cap_digest::{digest_to, lowest_terms};
 use cap_print::Form;
-use cap_tool::digests_to;
 use std::alloc::Global;
 use std::process::Abort;
 

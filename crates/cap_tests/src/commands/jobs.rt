@@ -5,9 +5,9 @@ use crate::commands::captures::{
 };
 use crate::files::{ask_written, readers_of, room_of};
 use cap_bytes::{Fault, Order, Sink};
+use cap_commands::{Done, DroppedInfo, Finding, job_to};
 use cap_line::{Job, Task, can_replace, is_whole};
 use cap_source::Format;
-use cap_tool::{Done, DroppedInfo, Finding, job_to};
 use std::alloc::Global;
 use std::process::Abort;
 

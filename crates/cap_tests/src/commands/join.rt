@@ -5,7 +5,7 @@ use crate::checks::same;
 use crate::commands::{ask_front, reader_again, room_again};
 use crate::files::{ask_written, readers_of, room_of, roomy};
 use cap_bytes::{Fault, Order, Sink, Source, Tail};
-use cap_tool::{join_to, join_to_pcap};
+use cap_commands::{join_to, join_to_pcap};
 use std::alloc::Global;
 use std::process::Abort;
 

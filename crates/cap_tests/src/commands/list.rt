@@ -5,7 +5,7 @@ use crate::checks::same;
 use crate::commands::captures::{CARRY_PCAP, CARRY_PCAPNG, OBSOLETE_PCAPNG};
 use crate::files::{bytes_of, reader_of, room_of};
 use cap_bytes::{Pieces, Tail};
-use cap_tool::list_to;
+use cap_commands::list_to;
 use std::alloc::Global;
 use std::process::Abort;
 

@@ -6,7 +6,7 @@ use crate::commands::answer_of_file;
 use crate::files::{bytes_of, reader_of, room_of};
 use crate::hex_vectors::{CARRY_PCAP, CUT_PCAP, ETHERNET, File};
 use cap_bytes::{Fault, Pieces, Rule, Tail};
-use cap_tool::list_json_to;
+use cap_commands::list_json_to;
 use std::alloc::Global;
 use std::process::Abort;
 

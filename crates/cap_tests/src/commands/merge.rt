@@ -6,7 +6,7 @@ use crate::commands::captures::{CARRY_PCAP, SECTION, TWICE};
 use crate::commands::{ask_front, reader_again, room_again};
 use crate::files::{answer_of_files, ask_written, pair_of, readers_of, room_of};
 use cap_bytes::{Fault, Order, Rule, Sink, Source, Tail};
-use cap_tool::{merge_to, merge_to_pcap};
+use cap_commands::{merge_to, merge_to_pcap};
 use std::alloc::Global;
 use std::process::Abort;
 

@@ -1,7 +1,7 @@
 use Rattle.std.proofs.Common.{Some}
 use Rattle.cap_blocks.proofs.Looking.{IsHeader-parsed}
 use Rattle.cap_bytes.specs.declared.numbers.Order.TheVariants.{Little}
-use Rattle.cap_tests.proofs.blocks.wrong_with.Goals as goal
+use Rattle.cap_layer_tests.proofs.blocks.wrong_with.Goals as goal
 
 pub rest_of-requires : goal.rest_of-requires
 rest_of-requires c =

@@ -1,8 +1,6 @@
 //! Runs over a system in memory: files by their names, and an output.
 ghost use Rattle.std.specs.Prelude.{if◌then◌else◌, Some, None, option_map};
 
-use crate::checks::same;
-use crate::files::bytes_of;
 use cap_bytes::{Fault, Refusal, Rule, Tracked};
 use cap_line::{Job, LineFault};
 use cap_tool::{
@@ -148,7 +146,7 @@ impl<'a> System for Desk<'a> {
 
 // How a run of some words ends over a shelf, and what it writes.
 fn runs(rt: &impl Abort, alloc: Global, words: &[&str], ending: Outcome, text: &str) {
-    let one = bytes_of(rt, alloc, &[ONE]);
+    let one = hex::decode(alloc, ONE).expect(rt, "bytes in hex");
     let written = RefCell::new(Vec::new(alloc));
     let desk = Desk {
         alloc,
@@ -157,9 +155,9 @@ fn runs(rt: &impl Abort, alloc: Global, words: &[&str], ending: Outcome, text: &
         },
         written: &written,
     };
-    same!(rt; run_words(&desk, alloc, words), ending);
+    assert_eq!(rt; run_words(&desk, alloc, words), ending);
     match written.try_borrow() {
-        Ok(bytes) => same!(rt; bytes.as_slice(), text.as_bytes()),
+        Ok(bytes) => assert_eq!(rt; bytes.as_slice(), text.as_bytes()),
         Err(_) => panic!(rt; "it is borrowed"),
     }
 }

@@ -1,5 +1,4 @@
 //! What a terminal shows of names and messages.
-use crate::checks::same;
 use cap_line::{escape, escape_lines};
 use cap_tool::{Kind, kind_of};
 
@@ -35,14 +34,14 @@ const SHOWN: [(&str, &str, &str); 8] = [
 fn what_controls_a_terminal_is_told_by_its_code(rt: HostRuntime) {
     for (text, line, lines) in &SHOWN {
         let one = escape(rt.alloc(), text).expect(&rt, "memory");
-        same!(&rt; one.as_str(), *line, *text);
+        assert_eq!(rt; one.as_str(), *line);
         let several = escape_lines(rt.alloc(), text).expect(&rt, "memory");
-        same!(&rt; several.as_str(), *lines, *text);
+        assert_eq!(rt; several.as_str(), *lines);
     }
 }
 
 // The first four bytes of files, and what they are.
-const KINDS: [([u8; 4], Kind); 12] = [
+const KINDS: [([u8; 4], Kind); 14] = [
     ([0xd4, 0xc3, 0xb2, 0xa1], Kind::Pcap),
     ([0xa1, 0xb2, 0xc3, 0xd4], Kind::Pcap),
     ([0x4d, 0x3c, 0xb2, 0xa1], Kind::Pcap),
@@ -62,6 +61,6 @@ const KINDS: [([u8; 4], Kind); 12] = [
 #[test]
 fn a_file_is_known_by_its_first_bytes(rt: HostRuntime) {
     for (first, kind) in &KINDS {
-        same!(&rt; kind_of(u32::from_be_bytes(*first)), *kind, *kind);
+        assert_eq!(rt; kind_of(u32::from_be_bytes(*first)), *kind);
     }
 }

@@ -1,7 +1,6 @@
 //! The line that shows how far a run is, and devices that are watched.
 
-use crate::checks::{holds, same};
-use crate::files::room_of;
+use crate::rooms::room_of;
 use cap_bytes::{Device, Pieces, Sink, Source};
 use cap_tool::{Progress, ProgressDevice, progress_line};
 use std::process::Abort;
@@ -44,7 +43,7 @@ const LINES: [(u64, Option<u64>, u64, &str); 6] = [
 #[test]
 fn a_line_tells_bytes_rate_and_time_left(rt: HostRuntime) {
     for (read, total, millis, wanted) in &LINES {
-        same!(&rt;
+        assert_eq!(rt;
             progress_line(*read, *total, *millis).as_slice(),
             wanted.as_bytes()
         );
@@ -54,10 +53,10 @@ fn a_line_tells_bytes_rate_and_time_left(rt: HostRuntime) {
 // A reader gives "cap", and then fails.
 fn gives_three_and_fails<R: Source>(rt: &impl Abort, source: &mut R) {
     let mut buffer = [0; 8];
-    same!(rt; source.take(&mut buffer), Ok(3));
-    same!(rt; &buffer[..3], b"cap".as_slice());
-    holds!(rt; source.take(&mut buffer).is_err());
-    holds!(rt; source.failed());
+    assert_eq!(rt; source.take(&mut buffer), Ok(3));
+    assert_eq!(rt; &buffer[..3], b"cap".as_slice());
+    assert!(rt; source.take(&mut buffer).is_err());
+    assert!(rt; source.failed());
 }
 
 #[test]
@@ -70,9 +69,9 @@ fn a_watched_reader_does_what_its_inner_one_does(rt: HostRuntime) {
 
 // A writer takes three bytes, and then fails.
 fn takes_three_and_fails<W: Sink>(rt: &impl Abort, sink: &mut W) {
-    same!(rt; sink.give(b"ca"), Ok(2));
-    same!(rt; sink.give(b"pt"), Ok(1));
-    holds!(rt; sink.give(b"t").is_err());
+    assert_eq!(rt; sink.give(b"ca"), Ok(2));
+    assert_eq!(rt; sink.give(b"pt"), Ok(1));
+    assert!(rt; sink.give(b"t").is_err());
 }
 
 #[test]
@@ -80,5 +79,5 @@ fn a_watched_writer_does_what_its_inner_one_does(rt: HostRuntime) {
     let progress = Progress::new(&rt, None, true, Some(4));
     let mut sink = ProgressDevice::new(room_of(&rt, rt.alloc(), 3), &progress);
     takes_three_and_fails(&rt, &mut sink);
-    same!(&rt; sink.into_inner().bytes(), b"cap".as_slice());
+    assert_eq!(rt; sink.into_inner().bytes(), b"cap".as_slice());
 }

@@ -1,5 +1,4 @@
 //! The example of docs/LIBRARY.md: the report over a file that is in memory.
-use crate::checks::same;
 use libcapt::bytes::{Pieces, Room, Tail};
 use libcapt::report::report;
 use std::test::Fail;
@@ -21,6 +20,6 @@ fn a_report(rt: HostRuntime) -> Result<(), Fail> {
     sources.push(Pieces::new(hex::decode(rt.alloc(), FILE)?, 4_096, None))?;
     let mut text = Room::new(Vec::with_capacity(rt.alloc(), 1_024)?);
     report(rt.alloc(), sources, Tail::Refuse, &mut text)?;
-    same!(&rt; text.bytes(), REPORT.as_bytes());
+    assert_eq!(rt; text.bytes(), REPORT.as_bytes());
     Ok(())
 }

@@ -1,7 +1,6 @@
 //! Outcomes and what is printed of them.
 
-use crate::checks::same;
-use crate::files::room_of;
+use crate::rooms::room_of;
 use cap_bytes::{Fault, Refusal, Rule};
 use cap_line::{LineFault, USAGE};
 use cap_tool::{Finding, Outcome, end_of, fault_line, outcome_line, status_of, tell};
@@ -48,8 +47,8 @@ const TOLD: [(Outcome, &str, u8); 13] = [
 fn tells(rt: &impl Abort, alloc: Global, room: usize, outcome: Outcome, text: &str, status: u8) {
     let mut writer = room_of(rt, alloc, room);
     let answer = outcome_line(&outcome, &mut writer);
-    same!(rt; (answer, writer.bytes()), (Ok(()), text.as_bytes()));
-    same!(rt; status_of(&outcome), status);
+    assert_eq!(rt; (answer, writer.bytes()), (Ok(()), text.as_bytes()));
+    assert_eq!(rt; status_of(&outcome), status);
 }
 
 // What a fault displays, with the end of a line; nothing for an outcome that holds none.
@@ -67,14 +66,14 @@ fn always_memory_outcomes_print_one_line(rt: HostRuntime) {
     for (outcome, text, status) in &TOLD {
         tells(&rt, rt.alloc(), 64, *outcome, *text, *status);
         if let Outcome::Fault(fault) = outcome {
-            same!(&rt; fault_line(*fault).as_slice(), text.as_bytes());
+            assert_eq!(rt; fault_line(*fault).as_slice(), text.as_bytes());
         }
         if let Some(shown) = displayed(rt.alloc(), outcome) {
-            same!(&rt; shown.as_str(), *text);
+            assert_eq!(rt; shown.as_str(), *text);
         }
     }
-    same!(&rt; status_of(&Outcome::Line(LineFault::Help)), 0);
-    same!(&rt; status_of(&Outcome::Line(LineFault::Line)), 2);
+    assert_eq!(rt; status_of(&Outcome::Line(LineFault::Help)), 0);
+    assert_eq!(rt; status_of(&Outcome::Line(LineFault::Line)), 2);
 }
 
 // What clap says.
@@ -105,8 +104,8 @@ fn goes_to_two(rt: &impl Abort, alloc: Global, row: &Told) {
     let (outcome, room, ending, printed, told) = *row;
     let mut output = room_of(rt, alloc, room);
     let mut faults = room_of(rt, alloc, 64);
-    same!(rt; tell(outcome, SAID, &mut output, &mut faults), ending);
-    same!(rt; (output.bytes(), faults.bytes()), (printed, told));
+    assert_eq!(rt; tell(outcome, SAID, &mut output, &mut faults), ending);
+    assert_eq!(rt; (output.bytes(), faults.bytes()), (printed, told));
 }
 
 #[test]
@@ -188,6 +187,6 @@ fn ends(
 fn a_flush_that_fails_comes_before_a_refusal(rt: HostRuntime) {
     for (answer, full, ending) in &FLUSHED {
         let left = if *full { 0 } else { 16 };
-        same!(&rt; ends(&rt, rt.alloc(), left, *answer), *ending);
+        assert_eq!(rt; ends(&rt, rt.alloc(), left, *answer), *ending);
     }
 }

@@ -3,7 +3,6 @@
 ghost use Rattle.std.specs.Prelude.{◌≡◌, [], ◌∷◌, Some};
 
 use crate::checks::{holds, same};
-use crate::files::fails_twice;
 use crate::vectors::{CARRY_PCAP, OPTIONS_PCAPNG};
 use cap_bytes::{Fault, Pieces, Refusal, Rule, Source, Tail};
 use cap_source::{Capture, Ending, Format, Head, Listed, Meta, PacketFeed, next_packet};
@@ -161,6 +160,13 @@ fn options_file(rt: HostRuntime) {
         &rt,
         capture(&rt, rt.alloc(), &OPTIONS_PCAPNG, 1, Tail::Refuse),
     );
+}
+
+// That a read fails before the first packet, which is reported so, and again.
+fn fails_twice<F: PacketFeed>(rt: &impl Abort, mut feed: F, fault: Fault) {
+    same!(rt; feed.head(), Err(fault));
+    same!(rt; feed.head(), Err(fault));
+    holds!(rt; feed.feed_held().failed);
 }
 
 // Byte 100 of the file with options, which is of its packet, can't be read.

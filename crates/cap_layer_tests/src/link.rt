@@ -1,16 +1,10 @@
 //! Frames of each link type and what they carry.
-pub(crate) mod vectors;
-
 use crate::checks::{holds, same};
-use crate::link::vectors::{
+use crate::frames::{
     CAPTURED_FRAME, COOKED_2_FRAME, COOKED_2_TAGGED_FRAME, COOKED_FRAME, FRAGMENT, IPV6_FRAME,
     LENGTH_FRAME, PACKET, TAG_FRAME, TAGGED_FRAME,
 };
-use cap_class::Class;
 use cap_link::{Network, network, tags_law};
-use cap_source::{Format, Meta};
-use cap_talks::packet_class;
-use cap_time::{Interface, Resolution};
 use std::process::Abort;
 
 // A link type, a frame, its original length, how many of its bytes come before the IPv4 packet, and the packet's
@@ -46,24 +40,6 @@ const REFUSED: [(u16, &[u8], usize, u32, Network); 13] = [
     (276, &COOKED_2_FRAME, 19, 19, Network::Short),
 ];
 
-// A link type, how many bytes of which frame, its original length, and its class in a report of it alone.
-const CLASSES: [(u16, &[u8], usize, u32, Class); 13] = [
-    (1, &IPV6_FRAME, 13, 13, Class::Short),
-    (1, &IPV6_FRAME, 13, 60, Class::Cut),
-    (1, &TAG_FRAME, 14, 14, Class::Short),
-    (1, &IPV6_FRAME, 14, 14, Class::NotIpv4),
-    (147, &PACKET, 20, 20, Class::OtherLink),
-    (101, &[], 0, 0, Class::Short),
-    (113, &COOKED_FRAME, 46, 46, Class::Counted),
-    (276, &COOKED_2_FRAME, 50, 50, Class::Counted),
-    (101, &PACKET, 30, 30, Class::Counted),
-    // the UDP header isn't captured whole
-    (101, &PACKET, 27, 30, Class::Cut),
-    (228, &[0x60], 1, 1, Class::Bad),
-    (101, &[0x60], 1, 1, Class::NotIpv4),
-    (101, &FRAGMENT, 28, 28, Class::Unjoined),
-];
-
 // A frame carries the packet after its first bytes, of that length.
 fn carries(rt: &impl Abort, link: u16, frame: &[u8], original: u32, before: usize, length: usize) {
     let packet = frame.get(before..);
@@ -78,40 +54,6 @@ fn carries(rt: &impl Abort, link: u16, frame: &[u8], original: u32, before: usiz
 fn carries_none(rt: &impl Abort, link: u16, seen: Option<&[u8]>, original: u32, class: Network) {
     let seen = seen.map(|bytes| network(link, bytes, original));
     holds!(rt; seen == Some(class), link);
-}
-
-// What is known of a packet of that link type and original length.
-pub(crate) fn meta_of(rt: &impl Abort, link: u16, original: u32) -> Meta {
-    let resolution = Resolution::from_code(6).expect(rt, "the code of microseconds");
-    Meta {
-        file: 1,
-        offset: 24,
-        format: Format::Pcap,
-        skipped: 0,
-        instance: 0,
-        interface: Interface {
-            link,
-            snaplen: 262_144,
-            resolution,
-            offset: 0,
-        },
-        units: None,
-        captured: 0,
-        original,
-    }
-}
-
-// The first bytes of a frame are a packet of that class.
-fn has_class(rt: &impl Abort, meta: &Meta, frame: Option<&[u8]>, class: Class) {
-    same!(rt; frame.map(|bytes| packet_class(meta, bytes)), Some(class), meta.interface.link);
-}
-
-#[test]
-fn a_packet_alone_has_a_class(rt: HostRuntime) {
-    for &(link, frame, captured, original, class) in &CLASSES {
-        let meta = meta_of(&rt, link, original);
-        has_class(&rt, &meta, frame.get(..captured), class);
-    }
 }
 
 #[test]

@@ -2,8 +2,8 @@
 ghost use Rattle.std.specs.Prelude.{◌<◌};
 
 use crate::checks::{holds, same};
-use crate::link::meta_of;
-use crate::link::vectors::PACKET;
+use crate::frames::PACKET;
+use crate::packets::meta_of;
 use crate::runs::{DATA, FRAGMENTS, Run};
 use cap_class::{Classified, classify, stamped_of};
 use cap_join::Put;
@@ -34,7 +34,7 @@ fn holds_open(rt: &impl Abort, run: &Run, groups: usize) {
 
 #[test]
 fn the_worked_fragments_join(rt: HostRuntime) {
-    let meta = meta_of(&rt, 101, 28);
+    let meta = meta_of(101, 28);
     let mut run = Run::new(rt.alloc());
     keeps(&rt, &mut run, &meta, 0);
     keeps(&rt, &mut run, &meta, 1);
@@ -46,7 +46,7 @@ fn the_worked_fragments_join(rt: HostRuntime) {
 
 #[test]
 fn a_whole_datagram_is_seen(rt: HostRuntime) {
-    let meta = meta_of(&rt, 101, 30);
+    let meta = meta_of(101, 30);
     let Classified::Datagram(header, captured) = classify(&meta, &PACKET) else {
         panic!(&rt; "no datagram");
     };

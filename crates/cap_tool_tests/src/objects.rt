@@ -1,7 +1,6 @@
 //! Refusals and faults as JSON objects.
 
-use crate::checks::same;
-use crate::files::room_of;
+use crate::rooms::room_of;
 use cap_bytes::{Fault, Refusal, Rule};
 use cap_line::LineFault;
 use cap_print::Form;
@@ -68,7 +67,7 @@ const OBJECTS: [(Outcome, &str); 11] = [
 fn prints(rt: &impl Abort, alloc: Global, outcome: &Outcome, text: &str) {
     let mut writer = room_of(rt, alloc, text.len());
     let answer = outcome_object(outcome, PATHS.as_slice(), &mut writer);
-    same!(rt; (answer, writer.bytes()), (Ok(()), text.as_bytes()));
+    assert_eq!(rt; (answer, writer.bytes()), (Ok(()), text.as_bytes()));
 }
 
 #[test]
@@ -106,8 +105,8 @@ fn goes_to_two(rt: &impl Abort, alloc: Global, row: &Told) {
         &mut output,
         &mut faults,
     );
-    same!(rt; ending, outcome);
-    same!(rt; (output.bytes(), faults.bytes()), (printed, told));
+    assert_eq!(rt; ending, outcome);
+    assert_eq!(rt; (output.bytes(), faults.bytes()), (printed, told));
 }
 
 #[test]
