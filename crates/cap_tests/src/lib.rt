@@ -1,5 +1,5 @@
-//! Tests of what is made of captures: merged runs, reports, written files, and what each command prints and returns; and
-//! of the command line.
+//! Tests of what is made of captures: merged runs, reports, written files, what each command prints and returns; and of
+//! the command line.
 #![tactic(auto)]
 
 #[cfg(test)]
