@@ -180,6 +180,47 @@ def check_faults(count, checker, shim, path, content):
         count.check(f"c: read {at}", status == 1 and told)
         offsets.add(int(told[1]) if told else -1)
     count.check("c: a failed read's places", offsets == {0, 24, 100, 176}, offsets)
+    # a read that a signal interrupts, and one of a pipe that doesn't wait, end it as well
+    with open(path, "rb") as file:
+        environment = {**os.environ, "LD_PRELOAD": shim, "FAULT_PIECE": "1", "FAULT_READ": "0-30"}
+        seen = run([checker, "stdin"], stdin=file, env=environment)
+    count.check("c: an interrupted read", seen == (1, b"", b"fault: read file 1 offset 24\n"), seen)
+    receiving, sending = os.pipe()
+    os.set_blocking(receiving, False)
+    os.write(sending, content[:100])
+    seen = run([checker, "stdin"], stdin=receiving)
+    count.check("c: a pipe that doesn't wait", (seen[0], seen[1].count(b"packet"), seen[2]) == (1, 1, b"fault: read file 1 offset 100\n"), seen)
+    os.close(receiving)
+    os.close(sending)
+
+
+FAILING = """
+#define _GNU_SOURCE
+#include <errno.h>
+#include <stdio.h>
+#include <unistd.h>
+#include <fcntl.h>
+static int file;
+static ssize_t give(void *cookie, char *bytes, size_t size) {
+    static size_t given;
+    (void)cookie;
+    if (given == 100) return errno = EIO, -1;
+    ssize_t count = read(file, bytes, size < 100 - given ? size : 100 - given);
+    given += count;
+    return count;
+}
+FILE *fopen(const char *name, const char *how) {
+    file = open(name, O_RDONLY);
+    return fopencookie(NULL, how, (cookie_io_functions_t){.read = give});
+}
+"""
+
+
+def make_failing(folder):
+    """A library whose files fail after 100 bytes, for LD_PRELOAD: that of faults.c doesn't see the reads of <stdio.h>."""
+    failing = os.path.join(folder, "failing.so")
+    subprocess.run(["cc", "-x", "c", "-", "-shared", "-fPIC", "-o", failing], input=FAILING, text=True, check=True)
+    return failing
 
 
 def check_pages(count, folder, library):
@@ -203,6 +244,9 @@ def check_pages(count, folder, library):
                 continue
         seen = run([*command, example], env=environment)
         count.check(f"pages: {kind}", seen == (0, text.encode(), b""), seen)
+        if kind == "c":
+            seen = run([*command, example], env={**environment, "LD_PRELOAD": make_failing(folder)})
+            count.check("pages: c, whose read fails", seen[0] not in (0, None) and b"Input/output error" in seen[2], seen)
 
 
 def rust(folder, library, name, program):
