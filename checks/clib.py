@@ -521,9 +521,104 @@ def rust(folder, library, name, program):
         shutil.copytree(os.path.join(TOP, "bindings", "rust"), crate)
     with open(os.path.join(crate, "examples", f"{name}.rs"), "w") as out:
         out.write(program)
-    environment = {**os.environ, "CAPT_LIB_DIR": os.path.abspath(library), "CARGO_NET_OFFLINE": "true"}
-    subprocess.run(["cargo", "build", "-q", "--example", name], cwd=crate, env=environment, check=True)
+    status, _, error = cargo(crate, name, os.path.abspath(library))
+    if status:
+        raise RuntimeError(error.decode())
     return [os.path.join(crate, "target", "debug", "examples", name)]
+
+
+def cargo(crate, name, library, **how):
+    """What cargo says as it builds an example."""
+    environment = {**os.environ, "CARGO_NET_OFFLINE": "true", "CAPT_LIB_DIR": library, **how}
+    environment = {name: word for name, word in environment.items() if word is not None}
+    return run(["cargo", "build", "-q", "--example", name], seconds=600, cwd=crate, env=environment)
+
+
+TYPES = """
+use std::error::Error;
+use std::io::{self, Read};
+
+// gives one byte a read; some reads are interrupted, and one fails
+struct Drip(Vec<u8>, usize);
+
+impl Read for Drip {
+    fn read(&mut self, buffer: &mut [u8]) -> io::Result<usize> {
+        self.1 += 1;
+        match self.1 {
+            150 => Err(io::Error::new(io::ErrorKind::WouldBlock, "later")),
+            it if it % 7 == 0 => Err(io::ErrorKind::Interrupted.into()),
+            _ if self.0.is_empty() => Ok(0),
+            _ => {
+                buffer[0] = self.0.remove(0);
+                Ok(1)
+            }
+        }
+    }
+}
+
+fn offsets<R: Read>(reader: &mut capt::Reader<R>) -> (Vec<u64>, Option<capt::ReadError>) {
+    let mut offsets = Vec::new();
+    loop {
+        match reader.next() {
+            Ok(Some(packet)) => offsets.push(packet.offset),
+            Ok(None) => return (offsets, None),
+            Err(error) => return (offsets, Some(error)),
+        }
+    }
+}
+
+// what owns its bytes, or its source, is sent to another thread
+fn is_sent<T: Send + 'static>(it: T) -> T {
+    std::thread::spawn(move || it).join().ok().unwrap()
+}
+
+fn main() -> Result<(), Box<dyn Error>> {
+    let bytes = std::fs::read(std::env::args().nth(1).unwrap())?;
+    let mut capture = capt::Capture::from_vec(bytes.clone(), false)?;
+    let mut found = vec![capture.next()?.unwrap().offset];
+    let mut capture = is_sent(capture);
+    assert_eq!(format!("{capture:?}"), "Capture { bytes: 252, .. }");
+    while let Some(packet) = capture.next()? {
+        found.push(packet.offset);
+    }
+    assert_eq!(found, [24, 100, 176]);
+    assert!(!capture.ending().unwrap().is_pcapng);
+    // a reader, whose error is the source's, and which goes on after it
+    let mut reader = capt::Reader::open(Drip(bytes.clone(), 0), false)?;
+    assert!(format!("{reader:?}").starts_with("Reader"));
+    let (first, error) = offsets(&mut reader);
+    let error = error.unwrap();
+    assert_eq!(first, [24]);
+    match &error {
+        capt::ReadError::Read(it) => assert_eq!(it.kind(), io::ErrorKind::WouldBlock),
+        _ => panic!("{error}"),
+    }
+    assert_eq!(error.source().unwrap().to_string(), "later");
+    let mut reader = is_sent(reader);
+    assert_eq!(offsets(&mut reader).0, [100, 176]);
+    assert!(reader.next()?.is_none());
+    assert!(reader.into_inner().0.is_empty());
+    // a refusal comes again; it shows how long its text is, and not the text
+    let mut reader = capt::Reader::open(&bytes[..251], false)?;
+    for want in [vec![24, 100], vec![]] {
+        let (found, error) = offsets(&mut reader);
+        assert_eq!(found, want);
+        assert_eq!(error.unwrap().to_string(), "refused: file 1 offset 176 rule 3 cut");
+    }
+    assert_eq!(offsets(&mut capt::Reader::open(&bytes[..251], true)?).0, [24, 100]);
+    let error = capt::list(&bytes[..251], false).unwrap_err();
+    let text = match &error {
+        capt::Error::Refused(_, text) => text.len(),
+        _ => 0,
+    };
+    assert!(text > 100);
+    let shown = format!("Refused(Refusal {{ file: 1, offset: 176, rule: 3 }}, {text} bytes)");
+    assert_eq!(format!("{error:?}"), shown);
+    assert!(format!("{:?}", capt::Fed::open(false)?).starts_with("Fed"));
+    assert_eq!(format!("{:?} {:?} {:?}", capt::Error::Memory, capt::Error::Files, capt::Error::Ended), "Memory Files Ended");
+    Ok(())
+}
+"""
 
 
 def check_rust(count, folder, library, bench, contents):
@@ -536,6 +631,41 @@ def check_rust(count, folder, library, bench, contents):
         status, text, error = run([*command, bench.name(content)])
         count.check(f"rust: {name}", (status, text, error) == want)
         count.check(f"rust: {name}, fed", run(command, input=content) == want)
+        count.check(f"rust: {name}, read", run([*command, "-"], input=content) == want)
+    seen = run([*rust(folder, library, "types", TYPES), bench.name(dict(contents)["monday.pcap"])])
+    count.check("rust: types", seen == (0, b"", b""), seen)
+    check_rust_build(count, folder, library)
+
+
+def check_rust_build(count, folder, library):
+    """Where the binding finds its archive, and that it links the one that is there."""
+    crate, other = os.path.join(folder, "rust"), os.path.join(folder, "rust", "other")
+    version = 'fn main() { println!("{}", capt::version()) }'
+    command = rust(folder, library, "version", version)
+    number = run(command)[1].strip()
+    os.mkdir(other)
+    archive = os.path.join(other, "libcapt.a")
+    shutil.copy(os.path.join(library, "libcapt.a"), archive)
+    # a name that begins in the folder where cargo is called, and in the one of the workspace
+    for place in {"PWD": crate}, {"PWD": "/"}, {"PWD": None}:
+        seen = cargo(crate, "version", "other", **place), run(command)[1].strip()
+        count.check(f"rust: a relative folder, {place}", seen == ((0, b"", b""), number), seen)
+    with open(archive, "rb") as file:
+        content = file.read()
+    with open(archive, "wb") as out:
+        out.write(content.replace(number, b"9.8.7"))
+    seen = cargo(crate, "version", "other")[0], run(command)[1].strip()
+    count.check("rust: an archive that changed", seen == (0, b"9.8.7"), seen)
+    for library, words in ("nowhere", [b"CAPT_LIB_DIR", b"nowhere", b"libcapt.a"]), (None, [b"CAPT_LIB_DIR"]):
+        status, _, error = cargo(crate, "version", library)
+        told = all(word in error for word in words) and b"panicked" not in error
+        count.check(f"rust: a folder without an archive: {library}", status != 0 and told, error)
+    # an enum that can grow wants an arm for the rest
+    program = "fn main() { match capt::Error::Memory { capt::Error::Refused(..) | capt::Error::Memory | capt::Error::Files | capt::Error::Ended => {} } }"
+    with open(os.path.join(crate, "examples", "closed.rs"), "w") as out:
+        out.write(program)
+    seen = cargo(crate, "closed", os.path.join(other))
+    count.check("rust: an error that can grow", seen[0] != 0 and b"E0004" in seen[2], seen)
 
 
 def main():
