@@ -155,7 +155,7 @@ static size_t read_out(capt_reader *reader, uint32_t want) {
 }
 
 /* What a reader that is fed holds: no more than 1 MiB of a large piece that was read out, at most twice of what wasn't read, and
- * nothing after a refusal. A backlog is read in time though small pieces are fed to it. */
+ * nothing after a refusal. A backlog is read in time though small pieces are fed to it. One of bytes in memory holds no copy of them. */
 static int fed_memory(void) {
     enum { MANY = 1000000, SOME = 300000, MIB = 1 << 20 };
     capt_reader reader = {0};
@@ -163,6 +163,10 @@ static int fed_memory(void) {
     capt_place place;
     size_t before = held();
     uint8_t *piece = records(MANY);
+    size_t with = held();
+    if (capt_open(&reader, piece, 24 + MANY * 100, false) != CAPT_DONE || read_out(&reader, CAPT_DONE) != MANY) return 45;
+    if (held() - with > MIB) return 46;
+    capt_close(&reader);
     /* all but half of the last record */
     if (capt_open_fed(&reader, false) != CAPT_DONE || capt_feed(&reader, piece, 24 + MANY * 100 - 50) != CAPT_DONE) return 31;
     if (held() - before < 200 * (size_t)MIB * 9 / 10) return 32;
@@ -262,7 +266,10 @@ static int misuse(const char *name) {
     free((void *)files[0].at);
     /* names are cut to the room, and there is none of a rule that isn't */
     if (capt_rule_name(6, buffer, 3) != 13 || memcmp(buffer, "blo.", 4)) return 14;
-    if (capt_error_text(CAPT_MISUSE, &place, buffer, 4) || capt_error_text(CAPT_PACKET, &place, buffer, 4)) return 20;
+    uint32_t silent[] = {CAPT_DONE, CAPT_PACKET, CAPT_MISUSE, CAPT_MORE};
+    for (int i = 0; i < 4; i++)
+        if (capt_error_text(silent[i], &place, buffer, 4)) return 20;
+    if (capt_error_text(CAPT_REFUSED, &(capt_place){1, 2, 0}, buffer, 4) || memcmp(buffer, "blo.", 4)) return 23;
     if (capt_error_text(CAPT_MEMORY, &place, buffer, 2) != 14 || memcmp(buffer, "fao.", 4)) return 21;
     return capt_rule_name(0, buffer, 4) || capt_rule_name(22, buffer, 4) ? 15 : 0;
 }

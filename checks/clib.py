@@ -1,7 +1,8 @@
 #!/usr/bin/env python3
 """libcapt, as C and Python call it: over the examples and the corpus each call gives what the built program prints and writes, in
 memory, from standard input, also if that comes by one byte a read, and fed in pieces of any size, whole and cut off anywhere; a failed read and refused growths are told; each misuse that
-the header names is told; a fed reader gives its memory back; only names that begin with capt_ are seen; and where valgrind is, it sees no error and no leak.
+the header names is told; a fed reader gives its memory back; the binding for Python reads what it says it reads, says what it says of errors, and is shared by threads; that for Rust links
+the archive that is there; only names that begin with capt_ are seen; and where valgrind is, it sees no error and no leak.
 
 Use: checks/clib.py [PROGRAM [FOLDER]]     (FOLDER as crates/capt_c/link.sh leaves it; without it the library is built, with proofs, over
                                             the libraries that `rt ci` leaves; it wants a C compiler and binutils, and uses valgrind
@@ -10,11 +11,12 @@ import sys
 
 sys.dont_write_bytecode = True
 
-import os, re, shutil, subprocess, tempfile
+import gzip, io, os, pickle, re, shutil, signal, subprocess, tempfile
 from concurrent.futures import ThreadPoolExecutor
+from pathlib import Path
 from fractions import Fraction
 
-from captures import PROGRAM, TOP, WRITING, Bench, Count, make_shim
+from captures import PROGRAM, TOP, WRITING, Bench, Count, make_shim, pcap_header, record
 
 CRATE = os.path.join(TOP, "crates", "capt_c")
 TASKS = ("list", "blocks", "info", "report", "pcap", "pcapng", "merge", "join")
@@ -74,10 +76,10 @@ def called(capt, task, content, allow_cut, order):
         return 1, refused.text, f"{refused}\n".encode()
 
 
-def walked(capt, content, allow_cut):
+def walked(capt, source, allow_cut, **how):
     """The packets of a capture by the binding, as `list` has them, and how it ended."""
     lines = []
-    with capt.Capture(content, allow_cut) as capture:
+    with capt.Capture(source, allow_cut, **how) as capture:
         try:
             for packet in capture:
                 lines.append((packet.offset, packet.time, packet.captured, packet.original, packet.link, packet.data[:16].hex() or "-"))
@@ -99,6 +101,21 @@ def fed(capt, content, size, allow_cut):
         except capt.Refused as refused:
             return lines, str(refused)
         return lines, None
+
+
+class Drip:
+    """A file whose reads give a few bytes each, or none yet (None) at the reads of some numbers."""
+
+    def __init__(self, content, size, gaps=()):
+        self.rest, self.size, self.gaps, self.reads = content, size, gaps, 0
+
+    def read(self, size=-1):
+        self.reads += 1
+        if self.reads in self.gaps:
+            return None
+        size = len(self.rest) if size < 0 else min(size, self.size)
+        piece, self.rest = self.rest[:size], self.rest[size:]
+        return piece
 
 
 def listed(text):
@@ -124,6 +141,10 @@ def check_python(count, capt, bench, name, content):
         count.check(f"python: packets of {name}", lines == listed(text))
         for size in 1, 100:
             count.check(f"python: {name} fed by {size}", fed(capt, content, size, allow_cut) == (lines, ending if status else None))
+        path, drip = bench.name(content), Drip(content, max(7, len(content) // 1000))
+        for how, source in ("by its path", path), ("mapped", path), ("by a few bytes", drip), ("from memory", io.BytesIO(content)):
+            seen = walked(capt, source, allow_cut, map=how == "mapped")
+            count.check(f"python: {name} {how}", seen == (lines, ending), seen)
         if status:
             count.check(f"python: refusal of {name}", f"{ending}\n".encode() == error)
         else:
@@ -132,8 +153,250 @@ def check_python(count, capt, bench, name, content):
             count.check(f"python: ending of {name}", same)
 
 
-def run(command, **how):
-    done = subprocess.run(command, stdout=subprocess.PIPE, stderr=subprocess.PIPE, timeout=120, **how)
+def check_python_ends(count, capt, name, content):
+    """Cut off anywhere and read in pieces, a capture gives what its bytes give, and ends as they do."""
+    for end in range(len(content)):
+        for allow_cut in False, True:
+            want = walked(capt, content[:end], allow_cut)
+            for size in 5, 1000:
+                seen = walked(capt, Drip(content[:end], size), allow_cut)
+                count.check(f"python: {end} bytes of {name} by {size}", seen == want, seen, want)
+
+
+def tried(call, *words, **how):
+    """What a call returns, or the exception that it raises."""
+    try:
+        return call(*words, **how)
+    except Exception as error:
+        return error
+
+
+def check_sources(count, capt, folder, example):
+    """What a source of a capture may be, alone or one of several, and what is said of what isn't one."""
+    path, packed = os.path.join(folder, "source"), os.path.join(folder, "source.gz")
+    for name, opener in (path, open), (packed, gzip.open):
+        with opener(name, "wb") as out:
+            out.write(example)
+    sources = {
+        "path": lambda: path, "Path": lambda: Path(path), "bytes": lambda: example, "bytearray": lambda: bytearray(example),
+        "memoryview": lambda: memoryview(example), "file": lambda: open(path, "rb"), "gzip": lambda: gzip.open(packed),
+        "BytesIO": lambda: io.BytesIO(example), "drip": lambda: Drip(example, 9),
+    }
+    several = {"report": capt.report, "report_text": capt.report_text, "info": capt.info, "merge": capt.merge, "join": capt.join,
+               "table": lambda them, **how: capt.Table(them, **how).report()}
+    one = {"list": capt.listing, "convert": lambda it, **how: capt.convert(it, "pcapng", **how),
+           "packets": lambda it, **how: [vars_of(packet) for packet in capt.Capture(it, **how)]}
+    for kind, source in sources.items():
+        for name, call in several.items():
+            want = call([example])
+            for way in source(), [source()], (it for it in [source()]):
+                seen = tried(call, way)
+                count.check(f"python: {name} of a {kind}", seen == want, seen)
+            seen = tried(call, [source()], map=True)
+            count.check(f"python: {name} of a mapped {kind}", seen == want, seen)
+        for name, call in one.items():
+            seen = tried(call, source())
+            count.check(f"python: {name} of a {kind}", seen == call(example), seen)
+    for name, call in {**several, **one}.items():
+        with open(path, encoding="latin-1") as text:
+            seen = [tried(call, it) for it in (text, 5, None)]
+        count.check(f"python: {name} of no source", all(type(it) is TypeError for it in seen), seen)
+        seen = tried(call, os.path.join(folder, "none"))
+        count.check(f"python: {name} of no file", type(seen) is FileNotFoundError, seen)
+    for name, call in several.items():
+        seen = tried(call, [example] * 33)
+        count.check(f"python: {name} of 33", isinstance(seen, capt.TooManyFiles) and isinstance(seen, ValueError) and "32" in str(seen), seen)
+        seen = tried(call, [])
+        count.check(f"python: {name} of none", type(seen) is ValueError and str(seen), seen)
+    # a file that doesn't wait: a read without bytes isn't its end
+    with capt.Capture(Drip(example, 100, gaps=[1, 3])) as capture:
+        parts, seen = [], []
+        while not seen or seen[-1]:
+            try:
+                for packet in capture:
+                    parts.append(packet.offset)
+                seen.append(None)
+            except BlockingIOError as error:
+                seen.append(str(error))
+        count.check("python: a read without bytes", parts == [24, 100, 176] and len(seen) == 3, parts, seen)
+    receiving, sending = os.pipe()
+    os.set_blocking(receiving, False)
+    with open(receiving, "rb") as file, capt.Capture(file) as capture:
+        seen = [tried(list, capture)]
+        os.write(sending, example[:100])
+        seen += [tried(next, iter(capture)), tried(list, capture)]
+        os.write(sending, example[100:])
+        os.close(sending)
+        seen += [len(list(capture))]
+        kinds = [type(it) for it in seen]
+        count.check("python: a pipe that doesn't wait", kinds == [BlockingIOError, capt.Packet, BlockingIOError, int] and seen[3] == 2, seen)
+    # a source isn't closed, and what was read of it isn't given again
+    with open(path, "rb") as file:
+        capt.report(file)
+        with capt.Capture(file) as capture:
+            count.check("python: a file that was read", isinstance(tried(list, capture), capt.Refused) and not file.closed)
+
+
+def vars_of(packet):
+    return [getattr(packet, name) for name in packet.__slots__]
+
+
+def check_errors(count, capt, folder, example):
+    """What errors say, and that they can be passed on."""
+    path = os.path.join(folder, "cut.pcap")
+    with open(path, "wb") as out:
+        out.write(example[:-1])
+    calls = {
+        "list": capt.listing, "convert": lambda it: capt.convert(it, "pcapng"), "info": capt.info, "report": capt.report, "merge": capt.merge,
+        "join": capt.join, "packets": lambda it: list(capt.Capture(it)), "mapped": lambda it: list(capt.Capture(it, map=True)),
+    }
+    for name, call in calls.items():
+        for source in path, Path(path), example[:-1]:
+            seen = tried(call, source)
+            at = (seen.file, seen.offset, seen.rule, seen.name) if isinstance(seen, capt.Refused) else seen
+            count.check(f"python: a refusal of {name}", at == (1, 176, 3, "cut") and seen.path == (None if source == example[:-1] else source), seen)
+    for call in capt.info, capt.report, capt.merge, capt.join:
+        seen = [tried(call, [example, it]) for it in (path, example[:-1])]
+        count.check("python: a refusal of the second", [(it.file, it.path) for it in seen] == [(2, path), (2, None)], seen)
+    with capt.Table([example, path]) as table:
+        while not isinstance(seen := tried(table.step), Exception):
+            pass
+        count.check("python: a refusal of a table", isinstance(seen, capt.Refused) and (seen.file, seen.path) == (2, path), seen)
+    errors = [tried(capt.convert, path, "pcapng"), capt.Error("no", 1, 2), capt.ReadFailed("no", 3, 4), capt.Closed("no"), capt.TooManyFiles("no")]
+    errors[0].more = "more"
+    for error in errors:
+        seen = tried(lambda: pickle.loads(pickle.dumps(error)))
+        told = [(type(it), it.args, str(it), vars(it)) for it in (seen, error)]
+        count.check(f"python: {type(error).__name__} pickled", told[0] == told[1], seen)
+    count.check("python: a refusal has its text", len(errors[0].text) > 100 and errors[0].more == "more")
+    # one that a process of a pool raises comes back
+    program = """
+import capt, multiprocessing, sys
+if __name__ == "__main__":
+    with multiprocessing.Pool(1) as pool:
+        try:
+            pool.apply(capt.listing, (sys.argv[1],))
+        except capt.Refused as error:
+            print(error.name, error.path == sys.argv[1], error.text.count(b"packet"))
+"""
+    script = os.path.join(folder, "pool.py")
+    with open(script, "w") as out:
+        out.write(program)
+    seen = run([sys.executable, "-B", script, path], seconds=60)
+    count.check("python: a refusal in a pool", seen == (0, b"cut True 2\n", b""), seen)
+    # what is closed
+    opened = {"bytes": capt.Capture(example), "a path": capt.Capture(path), "mapped": capt.Capture(path, map=True)}
+    for name, capture in opened.items():
+        first = next(iter(capture))
+        capture.close()
+        capture.close()
+        seen = [tried(list, capture), tried(lambda: capture.ending)]
+        count.check(f"python: closed: {name}", all(isinstance(it, capt.Closed) and isinstance(it, ValueError) for it in seen), seen)
+        count.check(f"python: a packet of a closed one: {name}", len(first.data) == 60)
+    closed, table = capt.Fed(), capt.Table(example)
+    for it in closed, table:
+        it.close()
+    seen = [tried(closed.feed, example), tried(closed.end), tried(list, closed), tried(table.step), tried(table.report)]
+    count.check("python: closed", all(isinstance(it, capt.Closed) for it in seen), seen)
+    with capt.Fed() as it, capt.Capture(example) as capture:
+        it.end()
+        it.end()
+        seen = [tried(it.feed, example), tried(lambda: capture.ending)]
+        count.check("python: fed after the end, ending before it", [type(it) for it in seen] == [ValueError] * 2 and str(seen[0]) != str(seen[1]), seen)
+
+
+# Programs for a process of their own, which faults of theirs may end: the capture's path is their first word.
+THREADS = """
+import capt, sys, threading
+from collections import Counter
+sources = {"bytes": open(sys.argv[1], "rb").read(), "path": sys.argv[1], "file": open(sys.argv[1], "rb")}
+for name, source in sources.items():
+    with capt.Capture(source) as capture:
+        seen = []
+        threads = [threading.Thread(target=lambda: seen.append([packet.offset for packet in capture])) for _ in range(4)]
+        for it in threads: it.start()
+        for it in threads: it.join()
+        counts = Counter(sum(seen, []))
+        print(name, len(counts), max(counts.values()), all(it == sorted(it) for it in seen))
+"""
+CLOSING = """
+import capt, sys, threading
+content = open(sys.argv[1], "rb").read()
+def walk(it):
+    started.set()
+    try:
+        while True:
+            for _ in it: pass
+    except capt.Closed:
+        ended.append(1)
+def step(table):
+    started.set()
+    try:
+        while True: table.step()
+    except capt.Closed:
+        ended.append(1)
+ended = []
+def fed():
+    it = capt.Fed()
+    it.feed(content)
+    return it
+sources = [
+    (lambda: capt.Capture(sys.argv[1]), walk), (lambda: capt.Capture(sys.argv[1], map=True), walk), (lambda: capt.Capture(content), walk),
+    (fed, walk), (lambda: capt.Table(sys.argv[1], map=True), step)]
+for round in range(20):
+    for make, call in sources:
+        started, it = threading.Event(), make()
+        threads = [threading.Thread(target=call, args=(it,)) for _ in range(2)]
+        for thread in threads: thread.start()
+        started.wait()
+        it.close()
+        for thread in threads: thread.join()
+print(len(ended))
+"""
+SHORTER = """
+import capt, os, resource, sys
+resource.setrlimit(resource.RLIMIT_CORE, (0, 0))
+how = {"map": True} if sys.argv[2:] else {}
+capture = capt.Capture(sys.argv[1], **how)
+it = iter(capture)
+print(next(it).offset, flush=True)
+os.truncate(sys.argv[1], 100)
+try:
+    for packet in it: pass
+except capt.Refused as error:
+    print(error.name)
+"""
+
+
+def check_python_processes(count, folder):
+    """Threads that share a capture, one that closes it, and a file that gets shorter while it is read."""
+    path = os.path.join(folder, "many.pcap")
+    with open(path, "wb") as out:
+        out.write(pcap_header(1) + b"".join(record(second, bytes(60)) for second in range(40000)))
+
+    def ran(program, *words):
+        return run([sys.executable, "-B", "-c", program, path, *words])
+
+    seen = ran(THREADS)
+    count.check("python: four threads", seen == (0, b"bytes 40000 1 True\npath 40000 1 True\nfile 40000 1 True\n", b""), seen)
+    seen = ran(CLOSING)
+    count.check("python: closed by another thread", seen == (0, b"200\n", b""), seen)
+    with open(path, "rb") as file:
+        content = file.read()
+    seen = ran(SHORTER)
+    count.check("python: a file that gets shorter", seen[0] == 0 and seen[1].startswith(b"24\n"), seen)
+    with open(path, "wb") as out:
+        out.write(content)
+    seen = ran(SHORTER, "mapped")
+    count.check("python: a mapped file that gets shorter", seen[:2] == (-signal.SIGBUS, b"24\n"), seen)
+
+
+def run(command, seconds=120, **how):
+    """The status, or None of a program that didn't end in time, standard output and standard error."""
+    try:
+        done = subprocess.run(command, stdout=subprocess.PIPE, stderr=subprocess.PIPE, timeout=seconds, **how)
+    except subprocess.TimeoutExpired as over:
+        return None, over.stdout, over.stderr
     return done.returncode, done.stdout, done.stderr
 
 
@@ -180,6 +443,47 @@ def check_faults(count, checker, shim, path, content):
         count.check(f"c: read {at}", status == 1 and told)
         offsets.add(int(told[1]) if told else -1)
     count.check("c: a failed read's places", offsets == {0, 24, 100, 176}, offsets)
+    # a read that a signal interrupts, and one of a pipe that doesn't wait, end it as well
+    with open(path, "rb") as file:
+        environment = {**os.environ, "LD_PRELOAD": shim, "FAULT_PIECE": "1", "FAULT_READ": "0-30"}
+        seen = run([checker, "stdin"], stdin=file, env=environment)
+    count.check("c: an interrupted read", seen == (1, b"", b"fault: read file 1 offset 24\n"), seen)
+    receiving, sending = os.pipe()
+    os.set_blocking(receiving, False)
+    os.write(sending, content[:100])
+    seen = run([checker, "stdin"], stdin=receiving)
+    count.check("c: a pipe that doesn't wait", (seen[0], seen[1].count(b"packet"), seen[2]) == (1, 1, b"fault: read file 1 offset 100\n"), seen)
+    os.close(receiving)
+    os.close(sending)
+
+
+FAILING = """
+#define _GNU_SOURCE
+#include <errno.h>
+#include <stdio.h>
+#include <unistd.h>
+#include <fcntl.h>
+static int file;
+static ssize_t give(void *cookie, char *bytes, size_t size) {
+    static size_t given;
+    (void)cookie;
+    if (given == 100) return errno = EIO, -1;
+    ssize_t count = read(file, bytes, size < 100 - given ? size : 100 - given);
+    given += count;
+    return count;
+}
+FILE *fopen(const char *name, const char *how) {
+    file = open(name, O_RDONLY);
+    return fopencookie(NULL, how, (cookie_io_functions_t){.read = give});
+}
+"""
+
+
+def make_failing(folder):
+    """A library whose files fail after 100 bytes, for LD_PRELOAD: that of faults.c doesn't see the reads of <stdio.h>."""
+    failing = os.path.join(folder, "failing.so")
+    subprocess.run(["cc", "-x", "c", "-", "-shared", "-fPIC", "-o", failing], input=FAILING, text=True, check=True)
+    return failing
 
 
 def check_pages(count, folder, library):
@@ -203,6 +507,9 @@ def check_pages(count, folder, library):
                 continue
         seen = run([*command, example], env=environment)
         count.check(f"pages: {kind}", seen == (0, text.encode(), b""), seen)
+        if kind == "c":
+            seen = run([*command, example], env={**environment, "LD_PRELOAD": make_failing(folder)})
+            count.check("pages: c, whose read fails", seen[0] not in (0, None) and b"Input/output error" in seen[2], seen)
 
 
 def rust(folder, library, name, program):
@@ -214,9 +521,104 @@ def rust(folder, library, name, program):
         shutil.copytree(os.path.join(TOP, "bindings", "rust"), crate)
     with open(os.path.join(crate, "examples", f"{name}.rs"), "w") as out:
         out.write(program)
-    environment = {**os.environ, "CAPT_LIB_DIR": os.path.abspath(library), "CARGO_NET_OFFLINE": "true"}
-    subprocess.run(["cargo", "build", "-q", "--example", name], cwd=crate, env=environment, check=True)
+    status, _, error = cargo(crate, name, os.path.abspath(library))
+    if status:
+        raise RuntimeError(error.decode())
     return [os.path.join(crate, "target", "debug", "examples", name)]
+
+
+def cargo(crate, name, library, **how):
+    """What cargo says as it builds an example."""
+    environment = {**os.environ, "CARGO_NET_OFFLINE": "true", "CAPT_LIB_DIR": library, **how}
+    environment = {name: word for name, word in environment.items() if word is not None}
+    return run(["cargo", "build", "-q", "--example", name], seconds=600, cwd=crate, env=environment)
+
+
+TYPES = """
+use std::error::Error;
+use std::io::{self, Read};
+
+// gives one byte a read; some reads are interrupted, and one fails
+struct Drip(Vec<u8>, usize);
+
+impl Read for Drip {
+    fn read(&mut self, buffer: &mut [u8]) -> io::Result<usize> {
+        self.1 += 1;
+        match self.1 {
+            150 => Err(io::Error::new(io::ErrorKind::WouldBlock, "later")),
+            it if it % 7 == 0 => Err(io::ErrorKind::Interrupted.into()),
+            _ if self.0.is_empty() => Ok(0),
+            _ => {
+                buffer[0] = self.0.remove(0);
+                Ok(1)
+            }
+        }
+    }
+}
+
+fn offsets<R: Read>(reader: &mut capt::Reader<R>) -> (Vec<u64>, Option<capt::ReadError>) {
+    let mut offsets = Vec::new();
+    loop {
+        match reader.next() {
+            Ok(Some(packet)) => offsets.push(packet.offset),
+            Ok(None) => return (offsets, None),
+            Err(error) => return (offsets, Some(error)),
+        }
+    }
+}
+
+// what owns its bytes, or its source, is sent to another thread
+fn is_sent<T: Send + 'static>(it: T) -> T {
+    std::thread::spawn(move || it).join().ok().unwrap()
+}
+
+fn main() -> Result<(), Box<dyn Error>> {
+    let bytes = std::fs::read(std::env::args().nth(1).unwrap())?;
+    let mut capture = capt::Capture::from_vec(bytes.clone(), false)?;
+    let mut found = vec![capture.next()?.unwrap().offset];
+    let mut capture = is_sent(capture);
+    assert_eq!(format!("{capture:?}"), "Capture { bytes: 252, .. }");
+    while let Some(packet) = capture.next()? {
+        found.push(packet.offset);
+    }
+    assert_eq!(found, [24, 100, 176]);
+    assert!(!capture.ending().unwrap().is_pcapng);
+    // a reader, whose error is the source's, and which goes on after it
+    let mut reader = capt::Reader::open(Drip(bytes.clone(), 0), false)?;
+    assert!(format!("{reader:?}").starts_with("Reader"));
+    let (first, error) = offsets(&mut reader);
+    let error = error.unwrap();
+    assert_eq!(first, [24]);
+    match &error {
+        capt::ReadError::Read(it) => assert_eq!(it.kind(), io::ErrorKind::WouldBlock),
+        _ => panic!("{error}"),
+    }
+    assert_eq!(error.source().unwrap().to_string(), "later");
+    let mut reader = is_sent(reader);
+    assert_eq!(offsets(&mut reader).0, [100, 176]);
+    assert!(reader.next()?.is_none());
+    assert!(reader.into_inner().0.is_empty());
+    // a refusal comes again; it shows how long its text is, and not the text
+    let mut reader = capt::Reader::open(&bytes[..251], false)?;
+    for want in [vec![24, 100], vec![]] {
+        let (found, error) = offsets(&mut reader);
+        assert_eq!(found, want);
+        assert_eq!(error.unwrap().to_string(), "refused: file 1 offset 176 rule 3 cut");
+    }
+    assert_eq!(offsets(&mut capt::Reader::open(&bytes[..251], true)?).0, [24, 100]);
+    let error = capt::list(&bytes[..251], false).unwrap_err();
+    let text = match &error {
+        capt::Error::Refused(_, text) => text.len(),
+        _ => 0,
+    };
+    assert!(text > 100);
+    let shown = format!("Refused(Refusal {{ file: 1, offset: 176, rule: 3 }}, {text} bytes)");
+    assert_eq!(format!("{error:?}"), shown);
+    assert!(format!("{:?}", capt::Fed::open(false)?).starts_with("Fed"));
+    assert_eq!(format!("{:?} {:?} {:?}", capt::Error::Memory, capt::Error::Files, capt::Error::Ended), "Memory Files Ended");
+    Ok(())
+}
+"""
 
 
 def check_rust(count, folder, library, bench, contents):
@@ -229,6 +631,41 @@ def check_rust(count, folder, library, bench, contents):
         status, text, error = run([*command, bench.name(content)])
         count.check(f"rust: {name}", (status, text, error) == want)
         count.check(f"rust: {name}, fed", run(command, input=content) == want)
+        count.check(f"rust: {name}, read", run([*command, "-"], input=content) == want)
+    seen = run([*rust(folder, library, "types", TYPES), bench.name(dict(contents)["monday.pcap"])])
+    count.check("rust: types", seen == (0, b"", b""), seen)
+    check_rust_build(count, folder, library)
+
+
+def check_rust_build(count, folder, library):
+    """Where the binding finds its archive, and that it links the one that is there."""
+    crate, other = os.path.join(folder, "rust"), os.path.join(folder, "rust", "other")
+    version = 'fn main() { println!("{}", capt::version()) }'
+    command = rust(folder, library, "version", version)
+    number = run(command)[1].strip()
+    os.mkdir(other)
+    archive = os.path.join(other, "libcapt.a")
+    shutil.copy(os.path.join(library, "libcapt.a"), archive)
+    # a name that begins in the folder where cargo is called, and in the one of the workspace
+    for place in {"PWD": crate}, {"PWD": "/"}, {"PWD": None}:
+        seen = cargo(crate, "version", "other", **place), run(command)[1].strip()
+        count.check(f"rust: a relative folder, {place}", seen == ((0, b"", b""), number), seen)
+    with open(archive, "rb") as file:
+        content = file.read()
+    with open(archive, "wb") as out:
+        out.write(content.replace(number, b"9.8.7"))
+    seen = cargo(crate, "version", "other")[0], run(command)[1].strip()
+    count.check("rust: an archive that changed", seen == (0, b"9.8.7"), seen)
+    for library, words in ("nowhere", [b"CAPT_LIB_DIR", b"nowhere", b"libcapt.a"]), (None, [b"CAPT_LIB_DIR"]):
+        status, _, error = cargo(crate, "version", library)
+        told = all(word in error for word in words) and b"panicked" not in error
+        count.check(f"rust: a folder without an archive: {library}", status != 0 and told, error)
+    # an enum that can grow wants an arm for the rest
+    program = "fn main() { match capt::Error::Memory { capt::Error::Refused(..) | capt::Error::Memory | capt::Error::Files | capt::Error::Ended => {} } }"
+    with open(os.path.join(crate, "examples", "closed.rs"), "w") as out:
+        out.write(program)
+    seen = cargo(crate, "closed", os.path.join(other))
+    count.check("rust: an error that can grow", seen[0] != 0 and b"E0004" in seen[2], seen)
 
 
 def main():
@@ -239,7 +676,8 @@ def main():
         if len(sys.argv) < 3:
             build(folder)
         os.environ["CAPT_LIBRARY"] = os.path.join(os.path.abspath(library), "libcapt.so")
-        sys.path.insert(0, os.path.join(TOP, "bindings", "python"))
+        os.environ["PYTHONPATH"] = os.path.join(TOP, "bindings", "python")
+        sys.path.insert(0, os.environ["PYTHONPATH"])
         import capt
         checker, shared, shim = os.path.join(folder, "checker"), os.path.join(folder, "checker-shared"), make_shim(folder)
         compile = ["cc", "-std=c11", "-Wall", "-Wextra", "-Werror", "-O1", "-I", library, os.path.join(TOP, "checks", "clib.c")]
@@ -252,7 +690,12 @@ def main():
                 pool.submit(check_c, count, checker, shim, bench, name, content)
         for name, content in contents:
             check_python(count, capt, bench, name, content)
+        for name in "monday.pcap", "tuesday.pcapng":
+            check_python_ends(count, capt, name, dict(contents)[name])
         example = dict(contents)["monday.pcap"]
+        check_sources(count, capt, folder, example)
+        check_errors(count, capt, folder, example)
+        check_python_processes(count, folder)
         path = bench.name(example)
         for it in (checker, shared):
             count.check("c: misuse", run([it, "misuse", path]) == (0, b"", b""), run([it, "misuse", path]))

@@ -7,29 +7,43 @@
     print(capt.report(["monday.pcap", "tuesday.pcapng"]).talks[0])
 
 It needs libcapt.so: beside this file, where the environment's CAPT_LIBRARY says, or where the loader finds it.
+
+A source is a path, an object that has the bytes (`bytes`, `bytearray`, `mmap.mmap`), or an object whose method `read`
+returns bytes (a file opened as "rb", `gzip.open(..)`, `io.BytesIO`). Such an object is read from where it is to its
+end, and isn't closed. A function of several captures takes one source, or an iterable of 1 to 32 sources.
+
+`Capture` reads a path, and an object with `read`, piece by piece. The other calls need all bytes at once, and read them
+into memory. With `map=True` each call maps the file of a path instead. If a mapped file gets shorter while it is used,
+the system ends the process (SIGBUS). Bytes that you give mustn't change while they are used.
+
+Threads may share a `Capture`, a `Fed` or a `Table`. One thread at a time works with it, and `close` waits for that
+thread, even if it waits for a read. After `close` each call raises `Closed`.
 """
 import ctypes
+import io
 import mmap
 import os
-from collections import namedtuple
+import struct
+import threading
+from collections import deque, namedtuple
 from fractions import Fraction
+from itertools import islice
 
 __all__ = ["Capture", "Fed", "Packet", "Ending", "Table", "Report", "Talk", "Side", "Error", "Refused", "ReadFailed",
-           "report", "report_text", "info", "listing", "blocks", "convert", "merge", "join", "rule_name", "version"]
+           "Closed", "TooManyFiles", "report", "report_text", "info", "listing", "blocks", "convert", "merge", "join",
+           "rule_name", "version"]
 
 _DONE, _PACKET, _REFUSED, _READ, _MEMORY, _MISUSE, _MORE = 0, 1, 2, 3, 5, 6, 7
-_ROOM = 256
+_ROOM, _PIECE, _MOST_FILES = 256, 1 << 18, 32
+_NOT_ENDED = "the capture hasn't ended: its packets come first"
 
 
 class _Place(ctypes.Structure):
     _fields_ = [("offset", ctypes.c_uint64), ("file", ctypes.c_uint32), ("rule", ctypes.c_uint32)]
 
 
-class _Packet(ctypes.Structure):
-    _fields_ = [("frame", ctypes.c_void_p), ("offset", ctypes.c_uint64), ("instance", ctypes.c_uint64),
-                ("seconds", ctypes.c_int64), ("numerator", ctypes.c_uint64), ("denominator", ctypes.c_uint64),
-                ("carry", ctypes.c_uint32), ("captured", ctypes.c_uint32), ("original", ctypes.c_uint32),
-                ("snaplen", ctypes.c_uint32), ("link", ctypes.c_uint32)]
+# capt_packet: frame, offset, instance, seconds, numerator, denominator, carry, captured, original, snaplen, link
+_FIELDS = struct.Struct("@PQQqQQIIIII0Q")
 
 
 class _Ending(ctypes.Structure):
@@ -85,23 +99,33 @@ _library = _load()
 
 
 class Error(Exception):
-    """A capture can't be read: `file` and `offset` say where."""
+    """A capture can't be read: `file`, a number from 1, and `offset` say where. `path` is that file's path, as you gave
+    it, or None if you gave bytes or an object with `read`."""
 
-    def __init__(self, message: str, file: int = 0, offset: int = 0):
+    def __init__(self, message: str, file: int = 0, offset: int = 0, path=None):
         super().__init__(message)
-        self.file, self.offset = file, offset
+        self.file, self.offset, self.path = file, offset, path
 
 
 class Refused(Error):
     """A capture breaks a rule, of that number and name; `text` is what was printed or written before."""
 
-    def __init__(self, message: str, file: int, offset: int, rule: int, text: bytes = b""):
-        super().__init__(message, file, offset)
+    # pickle calls it with the message alone, and then sets the attributes
+    def __init__(self, message: str, file: int = 0, offset: int = 0, rule: int = 0, text: bytes = b"", path=None):
+        super().__init__(message, file, offset, path)
         self.rule, self.name, self.text = rule, rule_name(rule), text
 
 
 class ReadFailed(Error):
     """A read failed."""
+
+
+class Closed(ValueError):
+    """The capture or the table is closed."""
+
+
+class TooManyFiles(ValueError):
+    """There are more than 32 captures."""
 
 
 def _text_of(call, *words) -> str:
@@ -120,29 +144,71 @@ def version() -> str:
     return _text_of(_library.capt_version)
 
 
-def _check(status: int, place: _Place, text: bytes = b"") -> None:
+def _check(status: int, place: _Place, text: bytes = b"", paths=(None,), misuse: str = "") -> None:
     if status in (_REFUSED, _READ):
         message = _text_of(_library.capt_error_text, status, ctypes.byref(place)).rstrip("\n")
+        path = paths[place.file - 1]
         if status == _REFUSED:
-            raise Refused(message, place.file, place.offset, place.rule, text)
-        raise ReadFailed(message, place.file, place.offset)
+            raise Refused(message, place.file, place.offset, place.rule, text, path)
+        raise ReadFailed(message, place.file, place.offset, path)
     if status == _MEMORY:
         raise MemoryError
     if status == _MISUSE:
-        raise ValueError("a closed or ended capture, no file, or more than 32 files")
+        raise ValueError(misuse)
 
 
-class _Mapped:
-    """The bytes of a file: a path is mapped, bytes-like objects are taken as they are."""
+def _kind(source) -> str:
+    """What a source is: a "path", "bytes" or a "file"."""
+    if isinstance(source, (str, os.PathLike)):
+        return "path"
+    try:
+        memoryview(source).release()
+        return "bytes"
+    except TypeError:
+        if hasattr(source, "read"):
+            return "file"
+    raise TypeError(f"a capture is a path, bytes or a file that is read, and no {type(source).__name__}")
 
-    def __init__(self, source):
+
+def _listed(sources) -> list:
+    """One source, or those of an iterable, which are 1 to 32."""
+    try:
+        _kind(sources)
+        return [sources]
+    except TypeError:
+        if not hasattr(sources, "__iter__"):
+            raise
+    listed = list(islice(sources, _MOST_FILES + 1))
+    if len(listed) > _MOST_FILES:
+        raise TooManyFiles("more than 32 captures")
+    if not listed:
+        raise ValueError("no capture")
+    return listed
+
+
+def _bytes_of(read) -> bytes:
+    """What was read, as bytes."""
+    if read is None:
+        raise BlockingIOError("the source has no bytes yet: it doesn't wait for them")
+    if isinstance(read, str):
+        raise TypeError("the source is read as text: open it as \"rb\"")
+    return read if isinstance(read, bytes) else bytes(memoryview(read))
+
+
+class _Whole:
+    """All bytes of a source, in memory, and their address."""
+
+    def __init__(self, source, map: bool):
         self.map = self.view = None
-        if isinstance(source, (str, os.PathLike)):
+        self.path = source if _kind(source) == "path" else None
+        if self.path is not None:
             with open(source, "rb") as file:
-                if os.fstat(file.fileno()).st_size == 0 or not os.path.isfile(source):
-                    source = file.read()
-                else:
+                if map and os.path.isfile(source) and os.fstat(file.fileno()).st_size:
                     source = self.map = mmap.mmap(file.fileno(), 0, access=mmap.ACCESS_READ)
+                else:
+                    source = file.read()
+        elif _kind(source) == "file":
+            source = _bytes_of(source.read())
         self.view = memoryview(source).cast("B")
         self.len = len(self.view)
         # the address of bytes that may not be written
@@ -157,7 +223,7 @@ class _Mapped:
         else:
             self.at = ctypes.addressof((ctypes.c_uint8 * self.len).from_buffer(self.view))
 
-    def close(self):
+    def close(self) -> None:
         if self.view is not None:
             self.view.release()
             self.view = None
@@ -187,55 +253,186 @@ class Packet:
     """A packet. `time` is its exact time since 1970 as a Fraction, or None; `data` are its captured bytes."""
     __slots__ = ("offset", "instance", "time", "captured", "original", "snaplen", "link", "data")
 
-    def __init__(self, packet: _Packet):
-        self.offset, self.instance = packet.offset, packet.instance
-        self.captured, self.original = packet.captured, packet.original
-        self.snaplen, self.link = packet.snaplen, packet.link
-        self.data = ctypes.string_at(packet.frame, packet.captured)
+    def __init__(self, fields: tuple):
+        (frame, self.offset, self.instance, seconds, numerator, denominator, carry, self.captured, self.original,
+         self.snaplen, self.link) = fields
+        self.data = ctypes.string_at(frame, self.captured)
         self.time = None
-        if packet.denominator:
-            seconds = packet.seconds + (packet.carry << 64)
-            self.time = seconds + Fraction(packet.numerator, packet.denominator)
+        if denominator:
+            self.time = Fraction((seconds + (carry << 64)) * denominator + numerator, denominator)
 
     def __repr__(self):
         return (f"Packet(offset={self.offset}, time={self.time}, captured={self.captured}, "
                 f"original={self.original}, link={self.link})")
 
 
-class Capture:
-    """The packets of a capture, one by one: of a path, or of bytes. Close it, or use it as a context.
+class _InMemory:
+    """A reader of a capture all of whose bytes are in memory."""
 
-    An iteration that is left goes on where it was when the next one begins. `data` of a packet is a copy.
-    """
+    def __init__(self, source, map: bool, allow_cut: bool):
+        self._reader, self.place, self._count = _Reader(), _Place(), ctypes.c_size_t()
+        self._whole, self._some = _Whole(source, map), bytearray(_ROOM * _FIELDS.size)
+        some = (ctypes.c_uint8 * len(self._some)).from_buffer(self._some)
+        self._words = (ctypes.byref(self._reader), ctypes.byref(some), _ROOM, ctypes.byref(self._count),
+                       ctypes.byref(self.place))
+        _check(_library.capt_open(self._words[0], self._whole.at, self._whole.len, allow_cut), self.place)
 
-    def __init__(self, source, allow_cut: bool = False):
-        self._mapped = _Mapped(source)
-        self._reader, self._place, self._count = _Reader(), _Place(), ctypes.c_size_t()
-        self._some = (_Packet * _ROOM)()
-        # packets that came and weren't given yet, the next one last
-        self._ready = []
-        _check(_library.capt_open(ctypes.byref(self._reader), self._mapped.at, self._mapped.len, allow_cut), self._place)
+    def more(self, ready: deque) -> int:
+        """Puts the next packets behind those that are ready, and returns the status."""
+        status = _library.capt_next_many(*self._words)
+        if status == _PACKET:
+            some = memoryview(self._some)[:self._count.value * _FIELDS.size]
+            ready.extend([Packet(fields) for fields in _FIELDS.iter_unpack(some)])
+        return status
 
-    def __iter__(self):
-        step, some = _library.capt_next_many, self._some
-        words = (ctypes.byref(self._reader), some, _ROOM, ctypes.byref(self._count), ctypes.byref(self._place))
-        while True:
-            while self._ready:
-                yield self._ready.pop()
-            if (status := step(*words)) != _PACKET:
-                return _check(status, self._place)
-            self._ready = [Packet(packet) for packet in reversed(some[:self._count.value])]
-
-    @property
     def ending(self) -> Ending:
-        """How it ended, once all its packets were given."""
         ending = _Ending()
-        _check(_library.capt_end(ctypes.byref(self._reader), ctypes.byref(ending)), self._place)
+        status = _library.capt_end(self._words[0], ctypes.byref(ending))
+        _check(status, self.place, misuse=_NOT_ENDED)
         return Ending("pcapng" if ending.is_pcapng else "pcap", ending.skipped, ending.was_cut)
 
-    def close(self):
+    def close(self) -> None:
         _library.capt_close(ctypes.byref(self._reader))
-        self._mapped.close()
+        if hasattr(self, "_whole"):
+            self._whole.close()
+
+    __del__ = close
+
+
+class _InPieces:
+    """A reader of a capture whose bytes are fed."""
+
+    def __init__(self, allow_cut: bool):
+        self._reader, self.place, self._packet = _Reader(), _Place(), bytearray(_FIELDS.size)
+        packet = (ctypes.c_uint8 * _FIELDS.size).from_buffer(self._packet)
+        self._words = ctypes.byref(self._reader), ctypes.byref(packet), ctypes.byref(self.place)
+        # where the last packet's bytes end, in a pcap file
+        self._past = 24
+        _check(_library.capt_open_fed(self._words[0], allow_cut), self.place)
+
+    def feed(self, piece: bytes) -> None:
+        status = _library.capt_feed(self._words[0], piece, len(piece))
+        _check(status, self.place, misuse="bytes are fed after the end")
+
+    def end(self) -> None:
+        _check(_library.capt_feed_end(self._words[0]), self.place)
+
+    def more(self, ready: deque) -> int:
+        """Puts the next packets behind those that are ready, as far as what was fed tells, and returns the status."""
+        step, words, unpack, fields = _library.capt_next, self._words, _FIELDS.unpack, self._packet
+        for count in range(_ROOM):
+            status = step(*words)
+            if status != _PACKET:
+                # it comes again, after the packets before it
+                return _PACKET if count else status
+            packet = Packet(unpack(fields))
+            self._past = packet.offset + 16 + packet.captured
+            ready.append(packet)
+        return _PACKET
+
+    def close(self) -> None:
+        _library.capt_close(ctypes.byref(self._reader))
+
+    __del__ = close
+
+
+class _FromFile(_InPieces):
+    """A reader of a capture that is read piece by piece: of a path, or of an object with `read`."""
+
+    def __init__(self, source, allow_cut: bool):
+        super().__init__(allow_cut)
+        # a piece that was read and isn't fed yet
+        self._piece, self._blocks, self._has_ended = None, _Blocks(), False
+        self._own = open(source, "rb", buffering=0) if _kind(source) == "path" else None
+        self._file = self._own or source
+        self._has_read1 = getattr(type(source), "read1", io.BufferedIOBase.read1) is not io.BufferedIOBase.read1
+
+    def more(self, ready: deque) -> int:
+        while True:
+            status = super().more(ready)
+            if status != _MORE:
+                self._has_ended = status == _DONE
+                return status
+            if self._piece is None:
+                self._piece = self._next_piece()
+            if self._piece:
+                self.feed(self._piece)
+                self._blocks.pass_by(self._piece)
+                self._piece = None
+            else:
+                self.end()
+
+    def _next_piece(self) -> bytes:
+        # read1 doesn't wait for a whole piece; without bytes it doesn't say whether some will come
+        return _bytes_of(self._has_read1 and self._file.read1(_PIECE) or self._file.read(_PIECE))
+
+    def ending(self) -> Ending:
+        if not self._has_ended:
+            raise ValueError(_NOT_ENDED)
+        return self._blocks.ending(self._past)
+
+    def close(self) -> None:
+        super().close()
+        if getattr(self, "_own", None) is not None:
+            self._own.close()
+
+    __del__ = close
+
+
+class _Blocks:
+    """Counts how a capture ends while its pieces pass by. What it tells is right if the library has read the capture to
+    its end: it looks at no more of a block than its kind and its length."""
+    _SECTION, _KINDS = 0x0A0D0D0A, (0x0A0D0D0A, 1, 2, 3, 6)
+
+    def __init__(self):
+        self._is_pcapng, self._total, self._skipped = None, 0, 0
+        self._head = struct.Struct("<II").unpack_from
+        # the last bytes, if the next block begins with them; how far after them it begins, if it doesn't; and whether
+        # the last block is one that is skipped
+        self._rest, self._behind, self._is_skipped = b"", 0, False
+
+    def pass_by(self, piece: bytes) -> None:
+        self._total += len(piece)
+        piece, at, head = self._rest + piece, self._behind, self._head
+        if self._is_pcapng is None and len(piece) >= 4:
+            self._is_pcapng = piece.startswith(b"\n\r\r\n")
+        if self._is_pcapng is False:
+            self._rest = b""
+            return
+        while at + 12 <= len(piece):
+            kind, length = head(piece, at)
+            if kind == self._SECTION:
+                head = self._head = struct.Struct(">II" if piece[at + 8] == 0x1A else "<II").unpack_from
+                kind, length = head(piece, at)
+            self._is_skipped = kind not in self._KINDS
+            self._skipped += self._is_skipped
+            # a shorter block is refused
+            at += max(length, 12)
+        self._rest, self._behind = piece[at:], max(at - len(piece), 0)
+
+    def ending(self, past: int) -> Ending:
+        if not self._is_pcapng:
+            return Ending("pcap", 0, past != self._total)
+        # a block that was cut off isn't counted
+        was_cut, skipped = bool(self._rest or self._behind), self._skipped
+        return Ending("pcapng", skipped - 1 if self._behind and self._is_skipped else skipped, was_cut)
+
+
+class _Handle:
+    """What threads work with, one at a time: `_held` is a reader."""
+
+    def __init__(self, held):
+        self._held, self._lock, self._is_closed = held, threading.Lock(), False
+
+    def _check_open(self) -> None:
+        if self._is_closed:
+            raise Closed(f"this {type(self).__name__} is closed")
+
+    def close(self) -> None:
+        """Gives back what it holds, the packets that weren't given too. Closing it twice does nothing."""
+        with self._lock:
+            self._is_closed = True
+            self._held.close()
 
     def __enter__(self):
         return self
@@ -243,12 +440,71 @@ class Capture:
     def __exit__(self, *_):
         self.close()
 
-    def __del__(self):
-        if hasattr(self, "_reader"):
-            self.close()
+
+class _Packets(_Handle):
+    """The packets of a reader, which come in batches."""
+
+    def __init__(self, held, path=None):
+        super().__init__(held)
+        # packets that came and weren't given yet
+        self._ready, self._paths = deque(), (path,)
+
+    def __iter__(self):
+        take = self._ready.popleft
+        while True:
+            try:
+                packet = take()
+            except IndexError:
+                if not self._fill():
+                    return
+            else:
+                yield packet
+
+    def _fill(self) -> bool:
+        """Makes packets ready; False if there are none."""
+        with self._lock:
+            self._check_open()
+            # another thread may have made some ready
+            if self._ready:
+                return True
+            status = self._held.more(self._ready)
+            if status != _MORE:
+                _check(status, self._held.place, paths=self._paths)
+            return status == _PACKET
+
+    def close(self) -> None:
+        super().close()
+        self._ready.clear()
 
 
-class Fed:
+class Capture(_Packets):
+    """The packets of a capture, one by one. Close it, or use it as a context.
+
+    A path, and an object with `read`, is read piece by piece while its packets are taken. With `map=True` the file of a
+    path is mapped.
+
+    An iteration that is left goes on where it was when the next one begins. Of several threads that iterate over one
+    capture, one gets each packet. `data` of a packet is a copy.
+    """
+
+    def __init__(self, source, allow_cut: bool = False, *, map: bool = False):
+        kind = _kind(source)
+        is_whole = kind == "bytes" or kind == "path" and map
+        held = _InMemory(source, map, allow_cut) if is_whole else _FromFile(source, allow_cut)
+        super().__init__(held, source if kind == "path" else None)
+
+    @property
+    def ending(self) -> Ending:
+        """How it ended, once an iteration came to its end; before that, it raises ValueError.
+
+        The library tells it for bytes and for a mapped file. For a capture that is read piece by piece this module
+        counts it, from the kinds and lengths of the blocks: then it rests on tests, and on no proof."""
+        with self._lock:
+            self._check_open()
+            return self._held.ending()
+
+
+class Fed(_Packets):
     """The packets of a capture whose bytes come piece by piece, as out of a socket. Close it, or use it as a context.
 
         with capt.Fed() as fed:
@@ -264,97 +520,78 @@ class Fed:
     """
 
     def __init__(self, allow_cut: bool = False):
-        self._reader, self._place, self._packet = _Reader(), _Place(), _Packet()
-        _check(_library.capt_open_fed(ctypes.byref(self._reader), allow_cut), self._place)
+        super().__init__(_InPieces(allow_cut))
 
     def feed(self, piece) -> None:
         """Feeds the next bytes, which are copied."""
-        mapped = _Mapped(memoryview(piece))
-        try:
-            _check(_library.capt_feed(ctypes.byref(self._reader), mapped.at, mapped.len), self._place)
-        finally:
-            mapped.close()
+        if not isinstance(piece, bytes):
+            piece = bytes(memoryview(piece))
+        with self._lock:
+            self._check_open()
+            self._held.feed(piece)
 
     def end(self) -> None:
         """No more bytes come."""
-        _check(_library.capt_feed_end(ctypes.byref(self._reader)), self._place)
-
-    def __iter__(self):
-        words = ctypes.byref(self._reader), ctypes.byref(self._packet), ctypes.byref(self._place)
-        while (status := _library.capt_next(*words)) == _PACKET:
-            yield Packet(self._packet)
-        if status != _MORE:
-            _check(status, self._place)
-
-    def close(self):
-        _library.capt_close(ctypes.byref(self._reader))
-
-    def __enter__(self):
-        return self
-
-    def __exit__(self, *_):
-        self.close()
-
-    def __del__(self):
-        if hasattr(self, "_reader"):
-            self.close()
+        with self._lock:
+            self._check_open()
+            self._held.end()
 
 
-def _text(call, sources, *words) -> bytes:
-    mapped, text, place = [], _Text(), _Place()
+def _text(call, sources, map: bool, *words) -> bytes:
+    wholes, text, place = [], _Text(), _Place()
     try:
-        for source in sources:
-            mapped.append(_Mapped(source))
-        files = (_Bytes * max(len(mapped), 1))(*[_Bytes(it.at, it.len) for it in mapped])
-        status = call(files, len(mapped), *words, ctypes.byref(text), ctypes.byref(place))
+        for source in _listed(sources):
+            wholes.append(_Whole(source, map))
+        files = (_Bytes * len(wholes))(*[_Bytes(it.at, it.len) for it in wholes])
+        status = call(files, len(wholes), *words, ctypes.byref(text), ctypes.byref(place))
         made = ctypes.string_at(text.at, text.len) if text.len else b""
-        _check(status, place, made)
+        _check(status, place, made, [it.path for it in wholes])
         return made
     finally:
         _library.capt_text_close(ctypes.byref(text))
-        for it in mapped:
+        for it in wholes:
             it.close()
 
 
-def _text_of_one(call, source, *words) -> bytes:
+def _text_of_one(call, source, map: bool, *words) -> bytes:
     def of_files(files, count, *rest):
         return call(files[0].at, files[0].len, *rest)
-    return _text(of_files, [source], *words)
+    return _text(of_files, [source], map, *words)
 
 
-def listing(source, allow_cut: bool = False) -> str:
+def listing(source, allow_cut: bool = False, *, map: bool = False) -> str:
     """What `capt list` prints of a capture."""
-    return _text_of_one(_library.capt_list, source, allow_cut).decode()
+    return _text_of_one(_library.capt_list, source, map, allow_cut).decode()
 
 
-def blocks(source, allow_cut: bool = False) -> str:
+def blocks(source, allow_cut: bool = False, *, map: bool = False) -> str:
     """What `capt blocks` prints of a pcapng capture."""
-    return _text_of_one(_library.capt_blocks, source, allow_cut).decode()
+    return _text_of_one(_library.capt_blocks, source, map, allow_cut).decode()
 
 
-def info(sources, allow_cut: bool = False) -> str:
+def info(sources, allow_cut: bool = False, *, map: bool = False) -> str:
     """What `capt info` prints of 1 to 32 captures."""
-    return _text(_library.capt_info, sources, allow_cut).decode()
+    return _text(_library.capt_info, sources, map, allow_cut).decode()
 
 
-def report_text(sources, allow_cut: bool = False) -> str:
+def report_text(sources, allow_cut: bool = False, *, map: bool = False) -> str:
     """What `capt report` prints of 1 to 32 captures."""
-    return _text(_library.capt_report, sources, allow_cut).decode()
+    return _text(_library.capt_report, sources, map, allow_cut).decode()
 
 
-def convert(source, to: str, order: str = "little", allow_cut: bool = False) -> bytes:
+def convert(source, to: str, order: str = "little", allow_cut: bool = False, *, map: bool = False) -> bytes:
     """A capture as a file of the format `to`, "pcap" or "pcapng", in that order of bytes, "little" or "big"."""
-    return _text_of_one(_library.capt_convert, source, allow_cut, _word(to, "pcapng", "pcap"), _is_big(order))
+    return _text_of_one(_library.capt_convert, source, map, allow_cut, _word(to, "pcapng", "pcap"), _is_big(order))
 
 
-def merge(sources, order: str = "little", allow_cut: bool = False) -> bytes:
+def merge(sources, order: str = "little", allow_cut: bool = False, *, map: bool = False) -> bytes:
     """1 to 32 captures as one pcapng file, sorted by exact time."""
-    return _text(_library.capt_merge, sources, allow_cut, _is_big(order))
+    return _text(_library.capt_merge, sources, map, allow_cut, _is_big(order))
 
 
-def join(sources, order: str = "little", allow_cut: bool = False) -> bytes:
+def join(sources, order: str = "little", allow_cut: bool = False, *, map: bool = False) -> bytes:
     """The whole IPv4 datagrams of 1 to 32 captures, fragments joined, as one pcapng file."""
-    return _text(_library.capt_join, sources, allow_cut, _is_big(order))
+    return _text(_library.capt_join, sources, map, allow_cut, _is_big(order))
 
 
 def _word(word: str, no: str, yes: str) -> bool:
@@ -377,52 +614,57 @@ class Report(namedtuple("Report", "text talks")):
     """A report: its `text`, and its conversations as a list of `Talk`."""
 
 
-class Table:
-    """The table of a report over 1 to 32 captures, which takes their packets one by one, in the order of exact time, in
-    bounded memory. Close it, or use it as a context."""
+class _Counting:
+    """A table of captures that are in memory."""
 
-    def __init__(self, sources, allow_cut: bool = False):
-        self._mapped, self._table, self._place = [], _Reader(), _Place()
-        try:
-            for source in sources:
-                self._mapped.append(_Mapped(source))
-            files = (_Bytes * max(len(self._mapped), 1))(*[_Bytes(it.at, it.len) for it in self._mapped])
-            status = _library.capt_table_open(ctypes.byref(self._table), files, len(self._mapped), allow_cut)
-            _check(status, self._place)
-        except BaseException:
-            self.close()
-            raise
+    def __init__(self, sources, map: bool, allow_cut: bool):
+        self._table, self._place, self._wholes = _Reader(), _Place(), []
+        for source in _listed(sources):
+            self._wholes.append(_Whole(source, map))
+        files = (_Bytes * len(self._wholes))(*[_Bytes(it.at, it.len) for it in self._wholes])
+        status = _library.capt_table_open(ctypes.byref(self._table), files, len(files), allow_cut)
+        _check(status, self._place)
 
     def step(self) -> bool:
-        """Takes the next packet; False if none is left."""
         status = _library.capt_table_step(ctypes.byref(self._table), ctypes.byref(self._place))
-        _check(status, self._place)
+        _check(status, self._place, paths=[it.path for it in self._wholes])
         return status == _PACKET
 
-    def report(self) -> "Report":
-        """The report over the packets that were taken so far."""
+    def write(self) -> str:
         text = _Text()
         try:
             status = _library.capt_table_write(ctypes.byref(self._table), ctypes.byref(text), ctypes.byref(self._place))
             _check(status, self._place)
-            return _report(ctypes.string_at(text.at, text.len).decode())
+            return ctypes.string_at(text.at, text.len).decode()
         finally:
             _library.capt_text_close(ctypes.byref(text))
 
-    def close(self):
+    def close(self) -> None:
         _library.capt_close(ctypes.byref(self._table))
-        for mapped in self._mapped:
-            mapped.close()
+        for whole in self._wholes:
+            whole.close()
 
-    def __enter__(self):
-        return self
+    __del__ = close
 
-    def __exit__(self, *_):
-        self.close()
 
-    def __del__(self):
-        if hasattr(self, "_table"):
-            self.close()
+class Table(_Handle):
+    """The table of a report over 1 to 32 captures, which takes their packets one by one, in the order of exact time.
+    Besides the bytes of the captures it holds bounded memory. Close it, or use it as a context."""
+
+    def __init__(self, sources, allow_cut: bool = False, *, map: bool = False):
+        super().__init__(_Counting(sources, map, allow_cut))
+
+    def step(self) -> bool:
+        """Takes the next packet; False if none is left."""
+        with self._lock:
+            self._check_open()
+            return self._held.step()
+
+    def report(self) -> "Report":
+        """The report over the packets that were taken so far."""
+        with self._lock:
+            self._check_open()
+            return _report(self._held.write())
 
 
 def _time(word: str):
@@ -433,9 +675,9 @@ def _time(word: str):
     return int(seconds) + Fraction(int(numerator), int(denominator))
 
 
-def report(sources, allow_cut: bool = False) -> Report:
+def report(sources, allow_cut: bool = False, *, map: bool = False) -> Report:
     """The report over 1 to 32 captures."""
-    return _report(report_text(sources, allow_cut))
+    return _report(report_text(sources, allow_cut, map=map))
 
 
 def _report(text: str) -> Report:

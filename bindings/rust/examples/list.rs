@@ -1,4 +1,4 @@
-//! Prints what `capt list FILE` prints; without a FILE, of standard input, which is fed piece by piece.
+//! Prints what `capt list FILE` prints; for `-` it reads standard input, and without a word it feeds it piece by piece.
 use std::io::Read;
 
 fn show(number: u64, packet: capt::Packet) {
@@ -41,8 +41,19 @@ fn list_fed(mut input: impl Read) -> Result<(), Box<dyn std::error::Error>> {
     }
 }
 
+fn list_read(input: impl Read) -> Result<(), Box<dyn std::error::Error>> {
+    let mut reader = capt::Reader::open(input, false)?;
+    let mut number = 0;
+    while let Some(packet) = reader.next()? {
+        number += 1;
+        show(number, packet);
+    }
+    Ok(())
+}
+
 fn main() {
     let result = match std::env::args().nth(1) {
+        Some(name) if name == "-" => list_read(std::io::stdin()),
         Some(name) => list(&name),
         None => list_fed(std::io::stdin()),
     };

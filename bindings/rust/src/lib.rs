@@ -8,9 +8,10 @@
 //! }
 //! println!("{}", capt::report(&[&bytes], false).unwrap());
 //! ```
+use std::borrow::Cow;
 use std::ffi::c_void;
 use std::fmt;
-use std::marker::PhantomData;
+use std::io;
 
 const DONE: u32 = 0;
 const PACKET: u32 = 1;
@@ -92,6 +93,7 @@ extern "C" {
 
 /// Where and why a capture is refused.
 #[derive(Clone, Copy, Debug, PartialEq, Eq)]
+#[non_exhaustive]
 pub struct Refusal {
     /// The number of the file, from 1.
     pub file: u32,
@@ -102,9 +104,10 @@ pub struct Refusal {
 }
 
 /// What a call can't do.
-#[derive(Clone, Debug, PartialEq, Eq)]
+#[derive(Clone, PartialEq, Eq)]
+#[non_exhaustive]
 pub enum Error {
-    /// A capture breaks a rule. The bytes are what was written before it.
+    /// A capture breaks a rule. The bytes are what was written before it; `Debug` shows how many they are.
     Refused(Refusal, Vec<u8>),
     /// No memory was found.
     Memory,
@@ -145,7 +148,60 @@ impl fmt::Display for Error {
     }
 }
 
+impl fmt::Debug for Error {
+    fn fmt(&self, out: &mut fmt::Formatter<'_>) -> fmt::Result {
+        match self {
+            Error::Refused(refusal, text) => {
+                out.debug_tuple("Refused").field(refusal).field(&format_args!("{} bytes", text.len())).finish()
+            }
+            Error::Memory => out.write_str("Memory"),
+            Error::Files => out.write_str("Files"),
+            Error::Ended => out.write_str("Ended"),
+        }
+    }
+}
+
 impl std::error::Error for Error {}
+
+/// Why a [`Reader`] gives no packet.
+#[derive(Debug)]
+#[non_exhaustive]
+pub enum ReadError {
+    /// A read failed, as the source told. The call may be made again, and reads on.
+    Read(io::Error),
+    /// The capture is refused, or no memory was found.
+    Capture(Error),
+}
+
+impl fmt::Display for ReadError {
+    fn fmt(&self, out: &mut fmt::Formatter<'_>) -> fmt::Result {
+        match self {
+            ReadError::Read(error) => write!(out, "fault: read: {error}"),
+            ReadError::Capture(error) => error.fmt(out),
+        }
+    }
+}
+
+impl std::error::Error for ReadError {
+    fn source(&self) -> Option<&(dyn std::error::Error + 'static)> {
+        match self {
+            ReadError::Read(error) => Some(error),
+            ReadError::Capture(error) => Some(error),
+        }
+    }
+}
+
+impl From<Error> for ReadError {
+    fn from(error: Error) -> ReadError {
+        ReadError::Capture(error)
+    }
+}
+
+impl From<io::Error> for ReadError {
+    fn from(error: io::Error) -> ReadError {
+        ReadError::Read(error)
+    }
+}
 
 fn error_of(status: u32, place: RawPlace, text: Vec<u8>) -> Error {
     match status {
@@ -157,6 +213,7 @@ fn error_of(status: u32, place: RawPlace, text: Vec<u8>) -> Error {
 
 /// A packet. Its time is exactly `seconds + numerator/denominator` since 1970.
 #[derive(Clone, Copy, Debug, PartialEq, Eq)]
+#[non_exhaustive]
 pub struct Packet<'a> {
     /// Where its record or block begins, in bytes.
     pub offset: u64,
@@ -180,6 +237,7 @@ pub struct Packet<'a> {
 
 /// How a capture ended.
 #[derive(Clone, Copy, Debug, PartialEq, Eq)]
+#[non_exhaustive]
 pub struct Ending {
     /// How many blocks are neither sections, interfaces nor packets; 0 in a pcap file.
     pub skipped: u64,
@@ -200,37 +258,47 @@ pub enum Next<'a> {
     End,
 }
 
-fn next_of(reader: &mut RawReader) -> Result<Next<'_>, Error> {
+// What is next, before its bytes are borrowed.
+enum Step {
+    Packet(RawPacket),
+    More,
+    End,
+}
+
+fn step(reader: &mut RawReader) -> Result<Step, Error> {
     let mut raw = std::mem::MaybeUninit::<RawPacket>::uninit();
     let mut place = RawPlace::default();
-    // SAFETY: after PACKET the packet is set, and its frame stays until the next call, which wants the reader
+    // SAFETY: after PACKET the packet is set
     unsafe {
         match capt_next(reader, raw.as_mut_ptr(), &mut place) {
-            PACKET => {
-                let raw = raw.assume_init();
-                Ok(Next::Packet(Packet {
-                    offset: raw.offset,
-                    instance: raw.instance,
-                    seconds: i128::from(raw.seconds) + (i128::from(raw.carry) << 64),
-                    numerator: raw.numerator,
-                    denominator: raw.denominator,
-                    original: raw.original,
-                    snaplen: raw.snaplen,
-                    link: raw.link,
-                    data: std::slice::from_raw_parts(raw.frame, raw.captured as usize),
-                }))
-            }
-            MORE => Ok(Next::More),
-            DONE => Ok(Next::End),
+            PACKET => Ok(Step::Packet(raw.assume_init())),
+            MORE => Ok(Step::More),
+            DONE => Ok(Step::End),
             status => Err(error_of(status, place, Vec::new())),
         }
+    }
+}
+
+// The packet that the last call with the reader gave.
+fn packet_of(_: &mut RawReader, raw: RawPacket) -> Packet<'_> {
+    Packet {
+        offset: raw.offset,
+        instance: raw.instance,
+        seconds: i128::from(raw.seconds) + (i128::from(raw.carry) << 64),
+        numerator: raw.numerator,
+        denominator: raw.denominator,
+        original: raw.original,
+        snaplen: raw.snaplen,
+        link: raw.link,
+        // SAFETY: the frame stays until the next call, which wants the reader
+        data: unsafe { std::slice::from_raw_parts(raw.frame, raw.captured as usize) },
     }
 }
 
 /// The packets of a capture in memory, one by one.
 pub struct Capture<'a> {
     reader: RawReader,
-    bytes: PhantomData<&'a [u8]>,
+    bytes: Cow<'a, [u8]>,
 }
 
 // SAFETY: what a reader holds is its own, and its bytes are only read
@@ -239,9 +307,19 @@ unsafe impl Send for Capture<'_> {}
 impl<'a> Capture<'a> {
     /// Opens the capture of those bytes. With `allow_cut` a last record or block that is cut off is dropped.
     pub fn open(bytes: &'a [u8], allow_cut: bool) -> Result<Capture<'a>, Error> {
-        let mut capture = Capture { reader: CLOSED, bytes: PhantomData };
-        // SAFETY: the bytes outlive the capture, and the reader begins as zero
-        match unsafe { capt_open(&mut capture.reader, bytes.as_ptr(), bytes.len(), allow_cut) } {
+        Capture::over(Cow::Borrowed(bytes), allow_cut)
+    }
+
+    /// The same of bytes that the capture owns, so that it can be kept and passed on.
+    pub fn from_vec(bytes: Vec<u8>, allow_cut: bool) -> Result<Capture<'static>, Error> {
+        Capture::over(Cow::Owned(bytes), allow_cut)
+    }
+
+    fn over(bytes: Cow<'a, [u8]>, allow_cut: bool) -> Result<Capture<'a>, Error> {
+        let mut capture = Capture { reader: CLOSED, bytes };
+        // SAFETY: the bytes stay where they are until the reader is closed, as a vector's do that is moved; the reader begins
+        // as zero
+        match unsafe { capt_open(&mut capture.reader, capture.bytes.as_ptr(), capture.bytes.len(), allow_cut) } {
             DONE => Ok(capture),
             _ => Err(Error::Memory),
         }
@@ -250,8 +328,8 @@ impl<'a> Capture<'a> {
     /// The next packet, or none at the end. The end and a refusal come again.
     #[allow(clippy::should_implement_trait)]
     pub fn next(&mut self) -> Result<Option<Packet<'_>>, Error> {
-        match next_of(&mut self.reader)? {
-            Next::Packet(packet) => Ok(Some(packet)),
+        match step(&mut self.reader)? {
+            Step::Packet(raw) => Ok(Some(packet_of(&mut self.reader, raw))),
             _ => Ok(None),
         }
     }
@@ -264,6 +342,12 @@ impl<'a> Capture<'a> {
             DONE => Some(Ending { skipped: raw.skipped, is_pcapng: raw.is_pcapng, was_cut: raw.was_cut }),
             _ => None,
         }
+    }
+}
+
+impl fmt::Debug for Capture<'_> {
+    fn fmt(&self, out: &mut fmt::Formatter<'_>) -> fmt::Result {
+        out.debug_struct("Capture").field("bytes", &self.bytes.len()).finish_non_exhaustive()
     }
 }
 
@@ -313,7 +397,17 @@ impl Fed {
     /// after `end` alone.
     #[allow(clippy::should_implement_trait)]
     pub fn next(&mut self) -> Result<Next<'_>, Error> {
-        next_of(&mut self.reader)
+        Ok(match step(&mut self.reader)? {
+            Step::Packet(raw) => Next::Packet(packet_of(&mut self.reader, raw)),
+            Step::More => Next::More,
+            Step::End => Next::End,
+        })
+    }
+}
+
+impl fmt::Debug for Fed {
+    fn fmt(&self, out: &mut fmt::Formatter<'_>) -> fmt::Result {
+        out.debug_struct("Fed").finish_non_exhaustive()
     }
 }
 
@@ -321,6 +415,64 @@ impl Drop for Fed {
     fn drop(&mut self) {
         // SAFETY: a reader may be closed at any time
         unsafe { capt_close(&mut self.reader) }
+    }
+}
+
+/// The packets of a capture that is read from a source, as from a file, a pipe or a socket, in bounded memory.
+pub struct Reader<R> {
+    fed: Fed,
+    source: R,
+    piece: Vec<u8>,
+    // how many bytes of the piece were read and aren't fed yet
+    len: usize,
+}
+
+impl<R: io::Read> Reader<R> {
+    /// The capture that the source gives from where it is. With `allow_cut` a last record or block that is cut off is
+    /// dropped.
+    pub fn open(source: R, allow_cut: bool) -> Result<Reader<R>, Error> {
+        Ok(Reader { fed: Fed::open(allow_cut)?, source, piece: vec![0; 65536], len: 0 })
+    }
+
+    /// The next packet, or none at the end. The end and a refusal come again. A read that was interrupted is made again;
+    /// after another that failed the call may be made again.
+    #[allow(clippy::should_implement_trait)]
+    pub fn next(&mut self) -> Result<Option<Packet<'_>>, ReadError> {
+        loop {
+            match step(&mut self.fed.reader)? {
+                Step::Packet(raw) => return Ok(Some(packet_of(&mut self.fed.reader, raw))),
+                Step::End => return Ok(None),
+                Step::More => self.read()?,
+            }
+        }
+    }
+
+    fn read(&mut self) -> Result<(), ReadError> {
+        while self.len == 0 {
+            match self.source.read(&mut self.piece) {
+                Ok(0) => {
+                    self.fed.end();
+                    return Ok(());
+                }
+                Ok(len) => self.len = len,
+                Err(error) if error.kind() == io::ErrorKind::Interrupted => {}
+                Err(error) => return Err(error.into()),
+            }
+        }
+        self.fed.feed(&self.piece[..self.len])?;
+        self.len = 0;
+        Ok(())
+    }
+
+    /// The source, from which more may have been read than the packets that were given.
+    pub fn into_inner(self) -> R {
+        self.source
+    }
+}
+
+impl<R> fmt::Debug for Reader<R> {
+    fn fmt(&self, out: &mut fmt::Formatter<'_>) -> fmt::Result {
+        out.debug_struct("Reader").finish_non_exhaustive()
     }
 }
 
@@ -373,6 +525,7 @@ pub fn report(files: &[&[u8]], allow_cut: bool) -> Result<String, Error> {
 
 /// A format of captures.
 #[derive(Clone, Copy, Debug, PartialEq, Eq)]
+#[non_exhaustive]
 pub enum Format {
     /// pcap.
     Pcap,

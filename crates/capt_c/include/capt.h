@@ -105,10 +105,12 @@ typedef struct {
 } capt_bytes;
 
 /* Opens the capture of those bytes. With allow_cut a last record or block that is cut off is dropped; without it, it is
- * refused. Nothing is read yet. CAPT_DONE, or CAPT_MEMORY. */
+ * refused. Nothing is read yet. The calls for its packets copy the bytes part by part into what the reader holds.
+ * CAPT_DONE, or CAPT_MEMORY. */
 uint32_t capt_open(capt_reader *reader, const uint8_t *at, size_t len, bool allow_cut);
 
-/* The same of standard input, read by read(2) until capt_close, past any buffer of <stdio.h>. */
+/* The same of standard input, read by read(2) until capt_close, past any buffer of <stdio.h>. Any error of read(2) ends
+ * it with CAPT_READ, EINTR and EAGAIN too: no read is made again. */
 uint32_t capt_open_stdin(capt_reader *reader, bool allow_cut);
 
 /* Opens a capture whose bytes you feed, in pieces cut anywhere, as they come out of a pipe or a socket. CAPT_DONE, or
@@ -155,15 +157,16 @@ uint32_t capt_table_step(capt_table *table, capt_place *place);
 uint32_t capt_table_write(capt_table *table, capt_text *text, capt_place *place);
 
 /* What the commands of the program capt print, of one file or of 1 to 32 files, byte for byte. CAPT_DONE, CAPT_REFUSED
- * or CAPT_MEMORY. After CAPT_REFUSED the text of list, blocks, convert, merge and join is what stands before the
- * refusal, and that of report and info is empty. After CAPT_MEMORY it is what was made before, or {0}. */
+ * or CAPT_MEMORY; CAPT_MISUSE for no file or more than 32. After CAPT_REFUSED the text of list, blocks, convert, merge
+ * and join is what stands before the refusal, and that of report and info is empty. After CAPT_MEMORY it is what was
+ * made before, or {0}. */
 uint32_t capt_list(const uint8_t *at, size_t len, bool allow_cut, capt_text *text, capt_place *place);
 uint32_t capt_blocks(const uint8_t *at, size_t len, bool allow_cut, capt_text *text, capt_place *place);
 uint32_t capt_info(const capt_bytes *files, size_t count, bool allow_cut, capt_text *text, capt_place *place);
 uint32_t capt_report(const capt_bytes *files, size_t count, bool allow_cut, capt_text *text, capt_place *place);
 
 /* A capture as a pcap file (`pcap`) or as a pcapng file of one section, and 1 to 32 captures merged or joined as one
- * pcapng file: with big-endian numbers (`big`) or little-endian ones. */
+ * pcapng file: with big-endian numbers (`big`) or little-endian ones. They return what those above return. */
 uint32_t capt_convert(const uint8_t *at, size_t len, bool allow_cut, bool pcap, bool big, capt_text *text,
                       capt_place *place);
 uint32_t capt_merge(const capt_bytes *files, size_t count, bool allow_cut, bool big, capt_text *text,
@@ -175,9 +178,10 @@ uint32_t capt_join(const capt_bytes *files, size_t count, bool allow_cut, bool b
 void capt_text_close(capt_text *text);
 
 /* Put as many bytes of a text into the buffer as it has room for, leave those behind them, and return how long the
- * text is: the line that capt prints of a fault, with its end, as "refused: file 1 offset 24 rule 6 block-trailer\n",
- * or 0 of a status that is none; the name of a rule, as "block-trailer", or 0 if there is no such rule; and the
- * version of the library. */
+ * text is. capt_error_text puts the line that capt prints for CAPT_REFUSED, CAPT_READ or CAPT_MEMORY, with its end, as
+ * "refused: file 1 offset 24 rule 6 block-trailer\n". For every other status of enum capt_status, CAPT_MISUSE too, and
+ * for CAPT_REFUSED with no rule in `place`, it puts nothing and returns 0. capt_rule_name puts the name of a rule, as
+ * "block-trailer", or returns 0 if there is no such rule; capt_version puts the version of the library. */
 size_t capt_error_text(uint32_t status, const capt_place *place, uint8_t *buffer, size_t room);
 size_t capt_rule_name(uint32_t rule, uint8_t *buffer, size_t room);
 size_t capt_version(uint8_t *buffer, size_t room);
