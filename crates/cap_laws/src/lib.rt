@@ -9,7 +9,7 @@ mod laws;
 pub use crate::again::{merged_again, pcap_again, pcapng_again, round_trip, rounds_law};
 pub use crate::digests::{converted_digest, same_text};
 pub use crate::laws::{
-    diff_converted, diff_same, joined_by_places, joined_units, merged_report, merged_run,
-    one_class, pcap_report, pcapng_report, pcapng_run, refusal_rule, report_by_places,
+    diff_converted, diff_same, joined_by_places, joined_units, merge_sorts, merged_report,
+    merged_run, one_class, pcap_report, pcapng_report, pcapng_run, refusal_rule, report_by_places,
     rounds_bytes, worked_report,
 };
