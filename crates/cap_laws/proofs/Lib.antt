@@ -10,6 +10,7 @@ mod JoinedUnits
 mod LikePieces
 mod LikeReports
 mod LikeUnits
+mod MergeSorts
 mod OneFile
 mod PcapWritten
 mod Rounds

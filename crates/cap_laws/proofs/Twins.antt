@@ -5,7 +5,7 @@ use Rattle.std.specs.List.{AllZip}
 use Rattle.std.specs.Prelude.{is_none, unwrap_or, if◌then◌else◌}
 use Rattle.cap_bytes.specs.declared.faults.Refusal.{Refusal}
 use Rattle.cap_bytes.specs.declared.faults.Rule.TheVariants.{NoTime, InterfaceLimit}
-use Rattle.cap_source.specs.Feed.{Item, packet, refused}
+use Rattle.cap_source.specs.Feed.{Item, packet, refused, refusal_of}
 use Rattle.cap_source.specs.declared.packets.Meta.{Meta}
 use Rattle.cap_write.specs.Numbering.{Origin, with_origin, is_full, write_fault, numbered, numbered_of, refusal_in}
 
@@ -64,3 +64,9 @@ pub twins : (origins others : List Origin) (xs ys : List Item) → refusal_in or
 twins origins others (packet m f ∷ xs) (packet n g ∷ ys) h k e =
     grind (arith, twins (with_origin origins m) (with_origin others n) xs ys, goes, heads, same_units)
 twins origins others xs ys h k e = grind (arith, goes, nothing, refuses)
+
+-- if each packet is written, the file isn't refused
+pub unrefused : (origins : List Origin) (items : List Item) → refusal_in origins items ≡ None → refusal_of items ≡ None
+unfolding refusal_in refusal_of
+unrefused origins (packet meta frame ∷ items) none = grind (arith, unrefused (with_origin origins meta) items)
+unrefused origins items none = cc

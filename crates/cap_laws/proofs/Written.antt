@@ -6,15 +6,16 @@ use Rattle.cap_bytes.specs.declared.faults.Tail.{Tail}
 use Rattle.cap_bytes.specs.declared.numbers.Order.{Order}
 use Rattle.cap_merge.specs.Files.{clocked_run, items_of_files, run_of_files}
 use Rattle.cap_merge.specs.Run.{Clocked}
-use Rattle.cap_source.specs.Feed.{Item, packet, refusal_of}
+use Rattle.cap_source.specs.Feed.{Item}
 use Rattle.cap_source.specs.Items.{file_first, file_items}
-use Rattle.cap_write.specs.Numbering.{Origin, refusal_in, with_origin}
+use Rattle.cap_write.specs.Numbering.{Origin}
 use Rattle.cap_write.specs.Texts.{first_origins, merged_refusal, merged_bytes, pcapng_refusal, pcapng_bytes}
 use Rattle.cap_laws.specs.again.Laws.{PcapngAgain}
 use Rattle.cap_laws.specs.again.Rounds.{MergeLaw}
 use Rattle.cap_laws.proofs.OneFile.{run-one}
 use Rattle.cap_laws.proofs.Alike.{RunsAlike}
 use Rattle.cap_laws.proofs.SameRun.{IsRewritten, rewritten-alike, same-run}
+use Rattle.cap_laws.proofs.Twins.{unrefused}
 use Rattle.cap_laws.specs.Reports.{MergedReport, PcapngReport}
 use Rattle.cap_laws.specs.Runs.{MergedRun, PcapngRun, SameRun}
 
@@ -42,12 +43,6 @@ merged-report merge-law order tail tail_again files bytes none short =
     )
 
 -- ---- a file as pcapng
-
--- if each packet is written, the file isn't refused
-pub unrefused : (origins : List Origin) (items : List Item) → refusal_in origins items ≡ None → refusal_of items ≡ None
-unfolding refusal_in refusal_of
-unrefused origins (packet meta frame ∷ items) none = grind (arith, unrefused (with_origin origins meta) items)
-unrefused origins items none = cc
 
 pcapng_items : (order : Order) (tail tail_again : Tail) (bytes : List ℕ) → List Item
 pcapng_items order tail tail_again bytes = file_items tail_again 1

@@ -7,6 +7,7 @@ ghost use Rattle.cap_laws.specs.Forms.{BodyParts, PcapReport};
 ghost use Rattle.cap_laws.specs.InOrder.{ByPlaces, ReportByPlaces};
 ghost use Rattle.cap_laws.specs.JoinedByPlaces.{JoinedByPlaces};
 ghost use Rattle.cap_laws.specs.JoinedUnits.{JoinedUnits};
+ghost use Rattle.cap_laws.specs.MergeSorts.{MergeSorts, RunSorts, SortsOnce};
 ghost use Rattle.cap_laws.specs.Reports.{MergedReport, PcapngReport, RuleLaw};
 ghost use Rattle.cap_laws.specs.Rounds.{RoundsInBytes};
 ghost use Rattle.cap_laws.specs.Runs.{MergedRun, PcapngRun};
@@ -61,6 +62,19 @@ pub fn rounds_bytes()
 {
     merged_again();
     rounds_law();
+}
+
+/// The run of some files, whatever bytes they hold, is their merge up to the first refusal: a permutation of the files'
+/// packets and refusals that is sorted by clock, and by file if clocks are equal, and in which those of each file keep
+/// their order (`run`). There is only one such merge (`once`). If `write_merged` writes the run with no refusal and in
+/// at most 2^40 bytes, the packets that are read again from that file are a permutation of the files' packets, in the
+/// order of the merge, with the same interfaces, times, lengths and bytes (`written`).
+pub fn merge_sorts()
+    ensures run { RunSorts }
+    ensures once { SortsOnce }
+    ensures written { MergeSorts }
+{
+    merged_again();
 }
 
 /// If `write_merged` writes the run of some files, whatever bytes these hold, with no refusal and in at most

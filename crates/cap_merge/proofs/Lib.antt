@@ -21,3 +21,6 @@ pub mod Shown
 pub mod RunItems
 pub mod Numbers
 pub mod Unread
+pub mod InOrder
+pub mod FileOrder
+pub mod MergedOnce

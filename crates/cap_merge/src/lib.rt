@@ -3,7 +3,9 @@
 
 mod files;
 mod lanes;
+mod laws;
 mod merging;
 
 pub use crate::files::merge_files;
+pub use crate::laws::merge_order;
 pub use crate::merging::{Merged, RunPacket};

@@ -57,7 +57,7 @@ before_files m y h f = then_less (clock_cmp m.clock y.clock)
     (ordering_then (nat_cmp m.file y.file) (nat_cmp m.place y.place)) h
     (ap (λ r. ordering_then r (nat_cmp m.place y.place)) (sym (nat_cmp_is m.file y.file Less f)))
 
-before_places : {A : Type 0} (m y : Placed A) → AtMost m.clock y.clock → m.file ≡ y.file → m.place < y.place
+pub before_places : {A : Type 0} (m y : Placed A) → AtMost m.clock y.clock → m.file ≡ y.file → m.place < y.place
     → placed_cmp m y ≡ Less
 before_places m y h f p = then_less (clock_cmp m.clock y.clock)
     (ordering_then (nat_cmp m.file y.file) (nat_cmp m.place y.place)) h

@@ -75,7 +75,7 @@ not-suc a k e = grind (arith, nat_tests)
 one-less : (a b k : ℕ) → a ≡ suc b → (a == suc k) ≡ (b == k)
 one-less a b k e = grind (arith, nat_tests)
 
-length-around : {A : Type 0} (m : A) (before after : List A)
+pub length-around : {A : Type 0} (m : A) (before after : List A)
     → length (before ++ (m ∷ after)) ≡ suc (length (before ++ after))
 length-around m [] after = refl
 length-around m (x ∷ before) after = ap suc (length-around m before after)
