@@ -60,7 +60,7 @@ sorts-once tail files merge other m o =
 
 -- ---- a merge without a refusal
 
-abbrev NotRefused : Item → Type 0
+abbrev pub NotRefused : Item → Type 0
 NotRefused x = is_refusal x ≡ false
 
 -- the run of some items
@@ -127,6 +127,25 @@ kept-twins (packet m f ∷ xs) (packet n g ∷ ys) h = grind (arith, kept-twins 
 kept-twins xs ys h = grind arith
 
 -- ---- what is written of a merge
+
+-- A run without a refusal has all packets of its files.
+pub record IsWholeRun (tail : Tail) (files : List (List ℕ)) : Type 0 where
+  pub same : IsPermutation (flat_map (λ items. items) (items_of_files tail 1 files)) (run_of_files tail files)
+  pub accepted : AllByRecursion NotRefused (flat_map (λ items. items) (items_of_files tail 1 files))
+
+pub whole-run : (tail : Tail) (files : List (List ℕ)) → refusal_of (run_of_files tail files) ≡ None
+    → IsWholeRun tail files
+unfolding run_of_files merge_in through
+whole-run tail files none =
+    let merge = merge_in tail files in
+    let run = all-through merge none in
+    let sorted = sorted-merge tail files in
+    let all = flat_map (λ items. items) (items_of_files tail 1 files) in
+    let items = map (λ x. x.item) merge in
+    record {
+      same = subst (λ xs. IsPermutation all (map (λ x. x.item) xs)) (sym run.whole) sorted.same;
+      accepted = all_permuted NotRefused items all (IsPermutation-sym all items sorted.same) run.accepted;
+    }
 
 merge-written : (tail : Tail) (files : List (List ℕ)) (again : List Item) → refusal_of (run_of_files tail files) ≡ None
     → kept_packets again ≡ kept_packets (run_of_files tail files) → HoldsMerge tail files again

@@ -11,4 +11,5 @@ pub mod MergeSorts
 pub mod Reports
 pub mod Rounds
 pub mod Runs
+pub mod Totals
 pub mod WorkedReport

@@ -40,8 +40,8 @@ pub record HoldsMerge (tail : Tail) (files : List (List ℕ)) (again : List Item
   pub sorted : IsSortedMerge tail files merge
   pub in_order : kept_packets again ≡ kept_packets (map (λ x. x.item) merge)
 
--- The file that a merge writes of files, whatever bytes they hold, holds their merge, if nothing is refused and it has
--- at most 2^40 bytes.
+-- What a merge of files writes, whatever bytes the files hold, holds such a merge, if nothing is refused and at most
+-- 2^40 bytes are written.
 abbrev pub MergeSorts : Type 0
 MergeSorts =
     (order : Order) (tail tail_again : Tail) (file_again : ℕ) (files : List (List ℕ)) → AllByRecursion AreBytes files

@@ -11,6 +11,7 @@ ghost use Rattle.cap_laws.specs.MergeSorts.{MergeSorts, RunSorts, SortsOnce};
 ghost use Rattle.cap_laws.specs.Reports.{MergedReport, PcapngReport, RuleLaw};
 ghost use Rattle.cap_laws.specs.Rounds.{RoundsInBytes};
 ghost use Rattle.cap_laws.specs.Runs.{MergedRun, PcapngRun};
+ghost use Rattle.cap_laws.specs.Totals.{ReportTotals};
 ghost use Rattle.cap_laws.specs.WorkedReport.{Overlapped, Tagged};
 ghost use Rattle.cap_talks.specs.table.Classes.{OneClass};
 ghost use Rattle.cap_class.specs.Taken.{Taken};
@@ -125,6 +126,12 @@ pub fn diff_converted()
 /// without a time.
 pub fn check_counts()
     ensures { CheckedByPlaces }
+{}
+
+/// If none of some files is refused, whatever bytes they hold, the packets, bytes and packets captured in part that the
+/// report over them counts in its line `total` are the sums of those that the reports over each file alone count.
+pub fn report_totals()
+    ensures { ReportTotals }
 {}
 
 /// Each packet has one class, and the seven counts add up to the number of packets.
