@@ -12,7 +12,7 @@ use Rattle.cap_bytes.specs.declared.faults.Rule.{Rule}
 use Rattle.cap_bytes.specs.declared.faults.Tail.{Tail}
 use Rattle.cap_bytes.specs.declared.numbers.Order.{Order}
 use Rattle.cap_pcap.proofs.Splitting.{every_split-law, split_items-law}
-use Rattle.cap_pcap.specs.Grammar.{BlockPacket as Record, packet_size}
+use Rattle.cap_pcap.specs.Grammar.{Packet as Record, packet_size}
 use Rattle.cap_pcap.specs.Split as records
 use Rattle.cap_pcap.specs.Split.{SplitsRecords}
 use Rattle.cap_source.proofs.Blocks.{IsFit, content_fit}
