@@ -1,8 +1,10 @@
 /* A C program over libcapt, for clib.py. It prints what `capt list` prints of a file, by capt_next (`next`), by capt_next_many
- * (`many`), of standard input (`stdin`), or of bytes that are fed, N at a time (`fed N`), what `capt report` prints, step by step (`table`), misuses the library in each way that the header names (`misuse`), and measures what a reader that is fed holds (`memory`). */
+ * (`many`), of standard input (`stdin`), or of bytes that are fed, N at a time (`fed N`), what `capt report` prints, step by step (`table`), misuses the library in each way that the header names (`misuse`), and measures what a reader that is fed holds (`memory`), and how much stack the calls take (`stack`). */
+#define _GNU_SOURCE
 #include <capt.h>
 #include <inttypes.h>
 #include <malloc.h>
+#include <pthread.h>
 #include <stdio.h>
 #include <stdlib.h>
 #include <string.h>
@@ -274,12 +276,85 @@ static int misuse(const char *name) {
     return capt_rule_name(0, buffer, 4) || capt_rule_name(22, buffer, 4) ? 15 : 0;
 }
 
+/* The calls over 32 times a file, for a thread whose stack is measured. */
+static struct {
+    capt_bytes files[32];
+    capt_reader reader, table;
+    capt_text text;
+    capt_packet packet;
+    capt_place place;
+} on;
+
+static void call_none(void) {}
+static void call_list(void) { capt_list(on.files[0].at, on.files[0].len, false, &on.text, &on.place); }
+static void call_blocks(void) { capt_blocks(on.files[0].at, on.files[0].len, false, &on.text, &on.place); }
+static void call_convert(void) { capt_convert(on.files[0].at, on.files[0].len, false, false, false, &on.text, &on.place); }
+static void call_info(void) { capt_info(on.files, 32, false, &on.text, &on.place); }
+static void call_report(void) { capt_report(on.files, 32, false, &on.text, &on.place); }
+static void call_merge(void) { capt_merge(on.files, 32, false, false, &on.text, &on.place); }
+static void call_join(void) { capt_join(on.files, 32, false, false, &on.text, &on.place); }
+static void call_table_open(void) { capt_table_open(&on.table, on.files, 32, false); }
+static void call_table(void) {
+    while (capt_table_step(&on.table, &on.place) == CAPT_PACKET) {}
+    capt_table_write(&on.table, &on.text, &on.place);
+    capt_close(&on.table);
+}
+static void call_reader(void) {
+    capt_open(&on.reader, on.files[0].at, on.files[0].len, false);
+    while (capt_next(&on.reader, &on.packet, &on.place) == CAPT_PACKET) {}
+    capt_open_fed(&on.reader, false);
+    capt_feed(&on.reader, on.files[0].at, on.files[0].len);
+    capt_feed_end(&on.reader);
+    while (capt_next(&on.reader, &on.packet, &on.place) == CAPT_PACKET) {}
+    capt_close(&on.reader);
+    capt_text_close(&on.text);
+}
+
+static void *called(void *call) {
+    ((void (*)(void))call)();
+    return NULL;
+}
+
+/* How many bytes of its stack a thread changes that makes a call. */
+static size_t stack_of(void (*call)(void)) {
+    enum { SIZE = 1 << 20 };
+    uint8_t *stack = aligned_alloc(4096, SIZE);
+    pthread_attr_t how;
+    pthread_t thread;
+    size_t free_bytes = 0;
+    if (!stack) exit(3);
+    memset(stack, 0xa5, SIZE);
+    if (pthread_attr_init(&how) || pthread_attr_setstack(&how, stack, SIZE)) exit(50);
+    if (pthread_create(&thread, &how, called, (void *)call) || pthread_join(thread, NULL)) exit(51);
+    while (free_bytes < SIZE && stack[free_bytes] == 0xa5) free_bytes++;
+    free(stack);
+    return SIZE - free_bytes;
+}
+
+/* Each call takes at most 48 KiB of stack. */
+static int stack(const char *name) {
+    void (*calls[])(void) = {call_list, call_blocks, call_convert, call_info, call_report, call_merge, call_join, call_table_open,
+                             call_table, call_reader};
+    for (int i = 0; i < 32; i++) on.files[i] = i ? on.files[0] : bytes_of(name);
+    size_t none = stack_of(call_none);
+    for (size_t i = 0; i < sizeof calls / sizeof *calls; i++) {
+        size_t taken = stack_of(calls[i]) - none;
+        if (taken < 1000 || taken > 48 * 1024) {
+            printf("call %zu takes %zu bytes of stack\n", i, taken);
+            return 52;
+        }
+    }
+    free((void *)on.files[0].at);
+    return 0;
+}
+
 int main(int count, char **words) {
     if (count < 2) return 2;
     bool allow_cut = count > 2 && strcmp(words[2], "--allow-cut") == 0;
     capt_reader reader = {0};
     if (strcmp(words[1], "misuse") == 0) return misuse(words[count - 1]);
     if (strcmp(words[1], "memory") == 0) return fed_memory();
+    if (strcmp(words[1], "stack") == 0) return stack(words[count - 1]);
     if (strcmp(words[1], "stdin") == 0) {
         uint32_t status = capt_open_stdin(&reader, allow_cut);
         return status == CAPT_DONE ? list(&reader, 1) : told(status, (capt_place){0, 0, 0});

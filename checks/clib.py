@@ -701,6 +701,9 @@ def main():
             count.check("c: misuse", run([it, "misuse", path]) == (0, b"", b""), run([it, "misuse", path]))
             seen = run([it, "memory"])
             count.check("c: what a fed reader holds", seen == (0, b"", b""), seen)
+            for name in "monday.pcap", "tuesday.pcapng":
+                seen = run([it, "stack", bench.name(dict(contents)[name])])
+                count.check("c: the stack of the calls", seen == (0, b"", b""), seen)
         names = subprocess.run(["nm", "-D", "--defined-only", os.environ["CAPT_LIBRARY"]], stdout=subprocess.PIPE, text=True).stdout
         seen = {line.split()[2].split("@")[0] for line in names.splitlines()} - {"CAPT_0"}
         with open(os.path.join(library, "capt.h")) as header:

@@ -25,6 +25,8 @@
  * table holds what a reader holds for each of its files, and besides at most 1,024 groups of fragments and 1,048,576
  * conversations. A call that makes a text holds the whole text.
  *
+ * * Stack. A call takes at most 48 KiB of stack. capt_table_open takes the most: it was measured to take 39 KiB.
+ *
  * * No call is to be made from a signal handler. */
 #ifndef CAPT_H
 #define CAPT_H
