@@ -6,8 +6,8 @@ use Rattle.cap_source.specs.Feed.{Feed, GivesHead, FeedKeeps}
 use Rattle.cap_source.specs.Items.{file_items}
 use Rattle.cap_source.specs.declared.captures.Capture.{Capture}
 use Rattle.capt_c.specs.Answers.{status_of_result, place_of_result}
-use Rattle.capt_c.specs.contracts.sources.InputDevice.TheImpl as device
-use Rattle.capt_c.specs.contracts.sources.InputSource.TheImpl as source
+use Rattle.capt_c.specs.contracts.sources.CaptureInputDevice.TheImpl as device
+use Rattle.capt_c.specs.contracts.sources.CaptureInputSource.TheImpl as source
 use Rattle.cap_source.specs.Fed.{FedState}
 use Rattle.capt_c.specs.Feeding.{StepsFedCapture}
 use Rattle.capt_c.specs.Packets.{StepsPacket, StepsMany}
