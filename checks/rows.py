@@ -663,8 +663,7 @@ LINES = [
     ("join --to pcap -o c a b", (1, b"", f"refused: {NO_PACKET}\n".encode(), b"")), ("join --to pcapng -o c --order=big a b", writes(SECTION_BIG)),
     ("merge -o c - -", INPUT), ("merge -o a a b", OUTPUT), ("merge -o a a - -", INPUT), (f"merge -o a a - - {'a ' * 30}", FILES),
     ("list --explain a", prints(listed(1, 60))), ("merge --output c a b -", writes(THRICE)), ("merge a b - --output=c", writes(THRICE)),
-    ("list --explain cut", (1, b"", b"refused: file 1 offset 60 rule 3 cut\n  cut: it is cut off: --allow-cut drops a last record or block, but not a file "
-        b"header\n", None)),
+    ("list --explain cut", (1, b"", b"refused: file 1 offset 60 rule 3 cut\n  cut: it is cut off: --allow-cut drops a last record or block\n", None)),
     ("list --json a", prints(LISTED_JSON % "01020304")), ("list --data 0 --json a", prints(LISTED_JSON % "")),
     ("list --json --data=3 -", prints(LISTED_JSON % "010203")), ("list --json --data 00262144 a", prints(LISTED_JSON % "01020304")),
     ("info --json --allow-cut - < cut", prints(INFO_JSON)), ("blocks a --json", prints(BLOCKS_JSON)),
