@@ -386,7 +386,7 @@ def digest(files):
         if file.refusal:
             return "".join(lines), file.refusal
         text = b"".join(canonical(packet) for packet in file.packets)
-        lines.append(f"digest {file.number} sha256 {hashlib.sha256(text).hexdigest()} packets {len(file.packets)}\n")
+        lines.append(f"digest {file.number} sha256 {hashlib.sha256(text).hexdigest()} packets {len(file.packets)}{" cut" * file.ending.cut}\n")
     return "".join(lines), None
 
 

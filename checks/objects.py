@@ -71,8 +71,8 @@ def object_of(line):
     if kind in "-+":
         return {"type": "side", "side": kind, "packet": None if words == ["end"] else object_of(" ".join(words))}
     if kind == "digest":
-        number, _, digits, _, packets = words
-        return {"type": kind, "file": int(number), "sha256": digits, "packets": int(packets)}
+        number, _, digits, _, packets, *cut = words
+        return {"type": kind, "file": int(number), "sha256": digits, "packets": int(packets), "cut": cut == ["cut"]}
     if kind == "check":
         number, form, *sums = words[:14]
         return {"type": kind, "file": int(number), "format": None if form == "-" else form, **pairs_of(sums),

@@ -121,6 +121,8 @@ digest 2 $digest
 digest 3 $digest" ''
 input=$one; run digest -; check 'digest of standard input' 0 "digest 1 $digest" ''; input=
 run digest "$one" "$work/cut.pcap" "$one"; check 'digest of a cut file' 1 "digest 1 $digest" 'refused: file 2 offset 24 rule 3 cut'
+run digest --allow-cut "$work/cut.pcap" "$one"; check 'digest of a cut file, whose end is dropped' 0 "digest 1 sha256 e3b0c44298fc1c149afbf4c8996fb92427ae41e4649b934ca495991b7852b855 packets 0 cut
+digest 2 $digest" ''
 run digest "$one" "$work/folder"; check 'digest of a folder' 1 "digest 1 $digest" 'fault: read file 2 offset 0'
 run digest "$one" "$work/missing"; check 'digest of a missing file' 1 '' 'fault: open file 2'
 run digest - -; check 'digest of standard input twice' 2 '' 'fault: input'

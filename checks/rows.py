@@ -399,9 +399,9 @@ DIGESTED = [
 ]
 
 
-def digests(texts, packets):
-    """The lines of files whose packets have these canonical texts."""
-    return "".join(f"digest {n} sha256 {hashlib.sha256(bytes.fromhex(text)).hexdigest()} packets {count}\n"
+def digests(texts, packets, end=""):
+    """The lines of files whose packets have these canonical texts, and which end so."""
+    return "".join(f"digest {n} sha256 {hashlib.sha256(bytes.fromhex(text)).hexdigest()} packets {count}{end}\n"
                    for n, (text, count) in enumerate(zip(texts, packets), 1))
 
 
@@ -622,7 +622,7 @@ ENDED_JSON = ('{"type":"differ","packet":1,"differs":["end"]}\n' + SIDE_JSON % (
               + SIDE_JSON % ("+", "null"))
 LATER_JSON = ('{"type":"differ","packet":1,"differs":["time","data"]}\n' + SIDE_JSON % ("-", (LISTED_JSON % "01020304").strip())
               + SIDE_JSON % ("+", (LISTED_JSON % "01020305").strip().replace("60", "24").replace("500000", "500001", 1)))
-DIGEST_JSON = f'{{"type":"digest","file":%d,"sha256":"{hashlib.sha256(bytes.fromhex(CARRIED_TEXT)).hexdigest()}","packets":1}}\n'
+DIGEST_JSON = f'{{"type":"digest","file":%d,"sha256":"{hashlib.sha256(bytes.fromhex(CARRIED_TEXT)).hexdigest()}","packets":1,"cut":false}}\n'
 CUT_AT_60 = "refused offset 60 rule 3 cut"
 CHECK_JSON = ('{"type":"check","file":%d,"format":"pcapng","packets":1,"backward":0,"untimed":0,"truncated":0,"skipped":0,"interfaces":1,'
               '"whole":true,"cut":false}\n')
@@ -646,7 +646,9 @@ LINES = [
     ("diff --json a cut", (1, b"", b'{"type":"refused","file":2,"offset":60,"rule":3,"name":"cut","path":"cut"}\n', None)),
     ("info a b", prints(TWO)), ("info --allow-cut - < cut", prints(TOLD_CUT)), ("info - a -", INPUT),
     ("digest a b", prints(digests([CARRIED_TEXT] * 2, [1, 1]))), ("digest -", prints(digests([CARRIED_TEXT], [1]))), ("digest - -", INPUT),
-    ("digest --allow-cut - < cut", prints(digests([""], [0]))),
+    ("digest --allow-cut - < cut", prints(digests([""], [0], " cut"))),
+    ("digest --json --allow-cut cut", prints(DIGEST_JSON.replace(hashlib.sha256(bytes.fromhex(CARRIED_TEXT)).hexdigest(), hashlib.sha256().hexdigest())
+                                             .replace('"packets":1,"cut":false', '"packets":0,"cut":true') % 1)),
     ("digest a cut b", (1, digests([CARRIED_TEXT], [1]).encode(), b"refused: file 2 offset 60 rule 3 cut\n", None)),
     ("digest a none", (1, b"", b"fault: open file 2\n", None)), ("digest --json a b", prints(DIGEST_JSON % 1 + DIGEST_JSON % 2)),
     ("check a b", prints(checked("whole", "whole"))), ("check -", prints(checked("whole"))), ("check - -", INPUT),

@@ -14,7 +14,7 @@ use Rattle.cap_digest.specs.DigestText.{digest_line, digest_text}
 use Rattle.cap_print.specs.declared.forms.Form.{Form}
 use Rattle.cap_source.proofs.Walking.{Prints-front, Prints-whole}
 use Rattle.cap_source.specs.Feed.{refusal_of}
-use Rattle.cap_source.specs.Items.{file_items}
+use Rattle.cap_source.specs.Items.{file_ending, file_items}
 use Rattle.cap_talks.proofs.FileByFile.{bytes-at}
 use Rattle.cap_talks.specs.talks.InfoText.{first_refusal, or_else}
 use Rattle.cap_commands.proofs.Pieces.{Putting-line}
@@ -65,7 +65,7 @@ printed-more coming form tail all place x from mid to is within p wrote told can
     record {
       written = rw (further.1, further.0)
           (next-line (refusal_of items) from mid to (digests_text form tail files)
-          (digest_line form (1 + place) items) rest
+          (digest_line form (1 + place) items (file_ending tail (1 + place) (coming x)).ending.was_cut) rest
           (subst (λ (l : List (List ℕ)). Putting from mid (digests_text form tail files)
           (digest_lines form tail (1 + place) l)) here p.written)
           wrote told cannot t);
@@ -88,7 +88,8 @@ printed-fault coming form tail all place x fault from mid held is within p t pri
     let items = file_items tail (1 + place) (coming x) in
     let here = bytes-at coming all place x is within in
     next-fault (refusal_of items) (first_refusal tail (1 + place + 1) (drop (suc place) files))
-    (first_refusal tail 1 files) fault from mid held (digests_text form tail files) (digest_line form (1 + place) items)
+    (first_refusal tail 1 files) fault from mid held (digests_text form tail files)
+    (digest_line form (1 + place) items (file_ending tail (1 + place) (coming x)).ending.was_cut)
     (digest_lines form tail (1 + place + 1) (drop (suc place) files))
     (subst (λ (l : List (List ℕ)). Putting from mid (digests_text form tail files)
     (digest_lines form tail (1 + place) l)) here p.written) t

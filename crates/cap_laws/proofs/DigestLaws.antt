@@ -1,16 +1,15 @@
 -- Lists of packets with the same canonical text, and files that are converted.
 use Rattle.std.proofs.Common.{◌≡◌, ℕ, List, [], ◌∷◌, ◌++◌, length, map, Option, None, refl, sym, ap}
-use Rattle.std.proofs.Common.{◌∙◌, subst, arith, length-append}
+use Rattle.std.proofs.Common.{◌∙◌, Bool, subst, arith, length-append}
 use Rattle.std.proofs.lemmas.Option.{none-some}
 use Rattle.std.specs.List.{AllByRecursion, AllZip}
 use Rattle.std.specs.Option.{option_map}
-use Rattle.std.specs.Prelude.{if◌then◌else◌, is_none}
 use Rattle.cap_bytes.specs.declared.faults.Refusal.{Refusal}
 use Rattle.cap_bytes.specs.declared.faults.Tail.{Tail}
 use Rattle.cap_digest.proofs.Injective.{SameHead, head-bytes, head-some, text-alike}
 use Rattle.cap_digest.proofs.Times.{canonical-same, same-canonical}
 use Rattle.cap_digest.specs.Canonical.{canonical_form, canonical_text, canonical_head}
-use Rattle.cap_digest.specs.DigestText.{digest_facts, digest_line, digest_text}
+use Rattle.cap_digest.specs.DigestText.{digest_facts, digest_line}
 use Rattle.cap_laws.proofs.FileNumbers.{file-numbered}
 use Rattle.cap_laws.proofs.Twins.{IsTwin, TwinItems, twins}
 use Rattle.cap_laws.specs.Diffs.{SameExactly}
@@ -171,43 +170,48 @@ numbered-alike n (packet m f ∷ xs) none =
     }
 numbered-alike n (refused r ∷ xs) none = never r xs none
 
-same-line : (form : Form) (number : ℕ) (xs ys : List Item) → AreAlike xs ys
-    → digest_line form number xs ≡ digest_line form number ys
-same-line form number xs ys a = λ i. line_in form (digest_facts number (sha256 (a.text i)) (a.count i))
+same-line : (form : Form) (number : ℕ) (was_cut : Bool) (xs ys : List Item) → AreAlike xs ys
+    → digest_line form number xs was_cut ≡ digest_line form number ys was_cut
+same-line form number was_cut xs ys a =
+    λ i. line_in form (digest_facts number (sha256 (a.text i)) (a.count i) was_cut)
 
--- the digest of a file that isn't refused, by its items under the number 1
-line-of : (form : Form) (tail : Tail) (number : ℕ) (bytes : List ℕ) → refusal_of (file_items tail 1 bytes) ≡ None
-    → digest_text form tail number bytes ≡ digest_line form number (file_items tail 1 bytes)
-line-of form tail number bytes none =
-    let xs = file_items tail 1 bytes in
-    let again = file_items tail number bytes in
-    let alike : AreAlike again xs =
-    subst (λ (l : List Item). AreAlike l xs) (sym (file-numbered tail number 1 bytes))
-    (numbered-alike number xs none) in
-    ap (λ r. if is_none r then digest_line form number again else []) alike.first
-    ∙ same-line form number again xs alike
+-- the items of a file that isn't refused, under any number and under 1
+alike-of : (tail : Tail) (number : ℕ) (bytes : List ℕ) → refusal_of (file_items tail 1 bytes) ≡ None
+    → AreAlike (file_items tail number bytes) (file_items tail 1 bytes)
+alike-of tail number bytes none =
+    subst (λ (l : List Item). AreAlike l (file_items tail 1 bytes)) (sym (file-numbered tail number 1 bytes))
+    (numbered-alike number (file_items tail 1 bytes) none)
 
 -- two files with the same packets have the same line
-same-files : (form : Form) (tail tail_again : Tail) (number : ℕ) (bytes again : List ℕ)
+same-files : (tail tail_again : Tail) (number : ℕ) (bytes again : List ℕ)
     → AllZip SamePackets (file_items tail 1 bytes) (file_items tail_again 1 again)
-    → digest_text form tail_again number again ≡ digest_text form tail number bytes
-same-files form tail tail_again number bytes again h =
+    → (refusal_of (file_items tail_again number again) ≡ None)
+    × ((form : Form) (was_cut : Bool)
+    → digest_line form number (file_items tail_again number again) was_cut
+    ≡ digest_line form number (file_items tail number bytes) was_cut)
+same-files tail tail_again number bytes again h =
     let xs = file_items tail 1 bytes in
     let ys = file_items tail_again 1 again in
     let alike = same-alike xs ys h in
-    line-of form tail_again number again alike.second
-    ∙ sym (line-of form tail number bytes alike.first ∙ same-line form number xs ys alike)
+    let one = alike-of tail number bytes alike.first in
+    let other = alike-of tail_again number again alike.second in (
+      other.first,
+      λ form was_cut.
+          same-line form number was_cut (file_items tail_again number again) ys other
+          ∙ sym (same-line form number was_cut (file_items tail number bytes) xs one
+          ∙ same-line form number was_cut xs ys alike),
+    )
 
 pub converted-digest : PcapngAgain → PcapAgain → DigestOfConverted
-converted-digest pcapng pcap Pcapng order tail tail_again bytes are none short form number =
+converted-digest pcapng pcap Pcapng order tail tail_again bytes are none short number =
     let first = file_first tail 1 bytes in
     let items = file_items tail 1 bytes in
     let text = pcapng_bytes order 1 first items in
     let again = pcapng order tail tail_again 1 1 bytes are short in
-    same-files form tail tail_again number bytes text
+    same-files tail tail_again number bytes text
     (twins-same items (file_items tail_again 1 text)
     (twins (first_origins 1 first) (first_origins 1 first) items (file_items tail_again 1 text) none again.1
     (sym again.0)))
-converted-digest pcapng pcap Pcap order tail tail_again bytes are none short form number =
-    same-files form tail tail_again number bytes (pcap_bytes order (file_first tail 1 bytes) (file_items tail 1 bytes))
+converted-digest pcapng pcap Pcap order tail tail_again bytes are none short number =
+    same-files tail tail_again number bytes (pcap_bytes order (file_first tail 1 bytes) (file_items tail 1 bytes))
     ((pcap order tail tail_again 1 1 bytes are).1 none short)

@@ -1,11 +1,11 @@
 -- What the canonical text of packets, and so a digest, says of them, and what stays of it when a file is converted.
-use Rattle.std.specs.Prelude.{◌≡◌, ◌↔◌, ◌≤◌, ◌^◌, ℕ, List, length, None, IsTrue}
+use Rattle.std.specs.Prelude.{◌≡◌, ◌↔◌, ◌≤◌, ◌^◌, ℕ, Bool, List, length, None, IsTrue}
 use Rattle.std.specs.List.{AllByRecursion, AllZip}
 use Rattle.cap_blocks.specs.Split.{AreBytes}
 use Rattle.cap_bytes.specs.declared.faults.Tail.{Tail}
 use Rattle.cap_bytes.specs.declared.numbers.Order.{Order}
 use Rattle.cap_digest.specs.Canonical.{canonical_text}
-use Rattle.cap_digest.specs.DigestText.{digest_text}
+use Rattle.cap_digest.specs.DigestText.{digest_line}
 use Rattle.cap_laws.specs.again.Laws.{SamePackets}
 use Rattle.cap_print.specs.declared.forms.Form.{Form}
 use Rattle.cap_source.specs.Feed.{Item, refusal_of}
@@ -40,11 +40,15 @@ SameAsDiff =
     → (canonical_text (file_items tail 1 first) ≡ canonical_text (file_items tail 2 second))
     ↔ IsTrue (is_same (comparison_of tail first second))
 
--- What `convert` writes of any file, in either format and byte order, has the digest line of the file, under every
--- number and in either form, if nothing is refused and at most 2^40 bytes are written.
+-- What `convert` writes of any file, in either format and byte order, is a capture that isn't refused, and has the
+-- digest line of the file, under every number and in either form, but for whether a cut end was dropped; if nothing is
+-- refused of the file and at most 2^40 bytes are written.
 abbrev pub DigestOfConverted : Type 0
 DigestOfConverted =
     (format : Format) (order : Order) (tail tail_again : Tail) (bytes : List ℕ) → AreBytes bytes
     → convert_refusal format tail bytes ≡ None → length (convert_text format order tail bytes) ≤ 2 ^ 40
-    → (form : Form) (number : ℕ)
-    → digest_text form tail_again number (convert_text format order tail bytes) ≡ digest_text form tail number bytes
+    → (number : ℕ)
+    → (refusal_of (file_items tail_again number (convert_text format order tail bytes)) ≡ None)
+    × ((form : Form) (was_cut : Bool)
+    → digest_line form number (file_items tail_again number (convert_text format order tail bytes)) was_cut
+    ≡ digest_line form number (file_items tail number bytes) was_cut)

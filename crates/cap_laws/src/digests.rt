@@ -16,8 +16,9 @@ pub fn same_text()
     diff_same();
 }
 
-/// What `convert` writes of any file, in either format and byte order and whatever bytes the file holds, has the digest
-/// line of the file if nothing is refused and at most 2^40 bytes are written.
+/// What `convert` writes of any file, in either format and byte order and whatever bytes the file holds, is a capture
+/// that isn't refused, and has the digest line of the file but for whether a cut end was dropped, if nothing is refused
+/// of the file and at most 2^40 bytes are written.
 pub fn converted_digest()
     ensures { DigestOfConverted }
 {

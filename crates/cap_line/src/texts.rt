@@ -81,12 +81,13 @@ Examples: capt diff trace.pcap trace.pcapng
 pub(crate) const DIGEST_ABOUT: &str = "Prints the SHA-256 of the packets of each capture";
 
 pub(crate) const DIGEST_HELP: &str = "Prints, for each capture, as soon as it is read:
-  digest I sha256 HEX packets P
+  digest I sha256 HEX packets P [cut]
 HEX is the SHA-256 of the packets in a canonical form: the link type, the
 captured and the original length, the exact time and the bytes of each. So
 captures with the same packets in the same order have the same digest, in
-whatever format, byte order and time units. If a capture is refused, the lines
-of those before are printed.
+whatever format, byte order and time units. The word cut follows if --allow-cut
+dropped a cut end. If a capture is refused, the lines of those before are
+printed.
 
 Examples: capt digest trace.pcap trace.pcapng
           set -o pipefail; zcat trace.pcap.gz | capt digest -";

@@ -18,12 +18,15 @@ const CARRIED: &str = "digest 1 sha256 \
     ae7312267c797be18247384507fd1956f2af9397397bd84f72a62298f1352b4e packets 1\n";
 
 const CARRIED_JSON: &str = "{\"type\":\"digest\",\"file\":3,\"sha256\":\
-    \"ae7312267c797be18247384507fd1956f2af9397397bd84f72a62298f1352b4e\",\"packets\":1}\n";
+    \"ae7312267c797be18247384507fd1956f2af9397397bd84f72a62298f1352b4e\",\"packets\":1,\"cut\":false}\n";
 
-// The lines of no packet; of two without bytes, at 5 seconds and at 1; and of one without a time, of which 4 of 10
-// bytes were captured.
+// The lines of no packet, of a whole file and of one whose end was dropped; of two without bytes, at 5 seconds and at 1;
+// and of one without a time, of which 4 of 10 bytes were captured.
 const NONE: &str = "digest 1 sha256 \
     e3b0c44298fc1c149afbf4c8996fb92427ae41e4649b934ca495991b7852b855 packets 0\n";
+
+const NONE_CUT: &str = "digest 1 sha256 \
+    e3b0c44298fc1c149afbf4c8996fb92427ae41e4649b934ca495991b7852b855 packets 0 cut\n";
 
 const EMPTY: &str = "digest 1 sha256 \
     f8d0d0e8bc5e60d706c8fb428dce68f694a91befa2cd8e62f22c36c10c9610d6 packets 2\n";
@@ -40,7 +43,7 @@ const DIGESTED: [Row; 7] = [
     (HEADER_ONLY, Tail::Refuse, NONE, Ok(())),
     (RUNS_BACK, Tail::Refuse, EMPTY, Ok(())),
     (SIMPLE_PACKET, Tail::Refuse, UNTIMED, Ok(())),
-    (CUT_PCAP, Tail::Accept, NONE, Ok(())),
+    (CUT_PCAP, Tail::Accept, NONE_CUT, Ok(())),
     (CUT_PCAP, Tail::Refuse, "", Err((1, 24, Rule::Cut))),
 ];
 

@@ -1,7 +1,8 @@
 use Rattle.std.proofs.Common.{◌++◌, List, ℕ, refl, subst}
 use Rattle.sha2.specs.Hashers.{Holds256}
 use Rattle.std.proofs.lemmas.Result.{err_from_is_err_and}
-use Rattle.cap_digest.proofs.Digesting.{Digesting-more, Digesting-end, Digesting-fault}
+use Rattle.cap_digest.proofs.Digesting.{Digesting-more, Digesting-end, Digesting-ends, Digesting-fault}
+use Rattle.cap_digest.proofs.Digesting.{Digesting-keeps}
 use Rattle.cap_digest.proofs.digests.digest_packets.Goals as goal
 
 pub returns-in_err-meta-clause-digest : goal.returns-in_err-meta-clause-digest
@@ -29,3 +30,21 @@ returns-clause-digest g c = λ t.
     (g.F.PacketFeed.feed c.next_packet.new.feed) c.loop-meta.hasher c.loop-meta.packets
     (record { sha256 = c.finalize.result; packets = c.loop-meta.packets }) c.loop-meta.invariant
     (λ u. rw c.in_default.is at (c.in_ok-meta.ensures.items u)) refl c.finalize.ensures t
+
+pub returns-clause-endings : goal.returns-clause-endings
+returns-clause-endings g c = λ t.
+    Digesting-ends (g.F.PacketFeed.feed c.args.feed.now) (g.F.PacketFeed.feed c.loop-meta.feed)
+    (g.F.PacketFeed.feed c.next_packet.new.feed) c.loop-meta.hasher c.loop-meta.packets c.loop-meta.invariant
+    (λ u. rw c.in_default.is at (c.in_ok-meta.ensures.items u)) t
+
+pub returns-clause-keeps : goal.returns-clause-keeps
+returns-clause-keeps g c =
+    Digesting-keeps (g.F.PacketFeed.feed c.args.feed.now) (g.F.PacketFeed.feed c.loop-meta.feed)
+    (g.F.PacketFeed.feed c.next_packet.new.feed) c.loop-meta.hasher c.loop-meta.packets c.loop-meta.invariant
+    c.in_ok-meta.ensures.keeps
+
+pub returns-in_err-meta-clause-keeps : goal.returns-in_err-meta-clause-keeps
+returns-in_err-meta-clause-keeps g c =
+    Digesting-keeps (g.F.PacketFeed.feed c.args.feed.now) (g.F.PacketFeed.feed c.loop-meta.feed)
+    (g.F.PacketFeed.feed c.next_packet.new.feed) c.loop-meta.hasher c.loop-meta.packets c.loop-meta.invariant
+    c.in_err-meta.ensures.keeps
