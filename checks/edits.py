@@ -13,7 +13,8 @@ of a law. It is tried by itself, by a check of that function.
 
 Use: checks/edits.py [CRATE | CRATE/EDIT]..     over the libraries that `rt ci` or `rt check` left in crates/*/out; of an
                                                 edit that is named, it prints the goals at which it is refused
-     checks/edits.py --beside-must-fail         those of crates/*/edits alone, since `rt ci` tries those of must-fail
+     checks/edits.py --beside LOG               those of crates/*/edits alone, beside a `rt ci` that writes to LOG, and that
+                                                tries those of must-fail: a crate's begin once all crates below it are proved
      checks/edits.py --rlibs FOLDER ..          over libraries elsewhere
      RT_JOBS=N                                  checks side by side, of up to 2 GB each
 """
@@ -21,8 +22,8 @@ import sys
 
 sys.dont_write_bytecode = True
 
-import os, re, shutil, signal, subprocess, tempfile, threading
-from concurrent.futures import ThreadPoolExecutor
+import os, re, shutil, signal, subprocess, tempfile, threading, time
+from concurrent.futures import FIRST_COMPLETED, ThreadPoolExecutor, wait
 from dataclasses import dataclass, field
 
 import edit_files
@@ -30,6 +31,11 @@ from edit_files import FOLDERS, PARTS, crates_of, edits_of, kit, label_of
 
 # The crates whose checks take longer than their code is long: they begin first.
 LONG = ["cap_line", "cap_commands", "cap_tool", "cap_talks", "cap_write"]
+# What `rt ci` prints of a crate that it proved, and when it ends.
+PROVED = re.compile(r"^rt: (\w+) proved$", re.M)
+ENDED = re.compile(r"^\d+ passed, \d+ failed", re.M)
+# After how many seconds it looks again at what is built.
+LOOK = 2
 # How many edits a check has at most, so that a crate's edits are shared by the processors.
 MOST = 24
 # What a check says of a proof file that names what an edit took away, or of what rests on such a line.
@@ -180,18 +186,41 @@ def tried(group, rooms, rlibs):
     return refused | {edit: goals for more, _ in parts for edit, goals in more.items()}, [it for _, wrong in parts for it in wrong]
 
 
-def libraries(crates, folder, room):
-    """The built libraries: of the folder, or else of each crate's out/, under second names, which stay if `rt ci` puts back what was there before."""
-    found = {}
-    for crate in crates.values():
-        rlib = f"{folder}/{crate.name}.rlib" if folder else f"{crate.folder}/out/rlib/{crate.name}.rlib"
-        if os.path.exists(rlib):
-            found[crate.name] = f"{room}/{crate.name}.rlib"
+class Libraries(dict):
+    """The built libraries of the crates, by name: of a folder, or else of each crate's out/, under second names, which stay
+    if `rt ci` puts back what was there before. With a log of `rt ci`, a library is taken once the log says that its crate is
+    proved."""
+
+    def __init__(self, crates, folder, room, log):
+        super().__init__()
+        self.left = {
+            it.name: f"{folder}/{it.name}.rlib" if folder else f"{it.folder}/out/rlib/{it.name}.rlib" for it in crates.values()
+        }
+        self.room, self.log, self.is_whole = room, log, False
+
+    def look(self):
+        """Takes what is built by now."""
+        said = read_log(self.log) if self.log else ""
+        self.is_whole = not self.log or bool(ENDED.search(said))
+        built = list(self.left) if self.is_whole else PROVED.findall(said)
+        for name in [it for it in built if it in self.left]:
+            rlib, link = self.left.pop(name), f"{self.room}/{name}.rlib"
             if os.path.isdir(rlib):
-                shutil.copytree(rlib, found[crate.name], copy_function=link_or_copy)
+                shutil.copytree(rlib, link, copy_function=link_or_copy)
+            elif os.path.exists(rlib):
+                link_or_copy(rlib, link)
             else:
-                link_or_copy(rlib, found[crate.name])
-    return found
+                continue
+            self[name] = link
+
+    def are_below(self, crate):
+        """Whether the crate's edits can be tried, or never will be."""
+        return self.is_whole or all(it.name in self for it in crate.below)
+
+
+def read_log(path):
+    with open(path, encoding="utf-8", errors="replace") as file:
+        return file.read()
 
 
 def link_or_copy(one, other):
@@ -201,14 +230,29 @@ def link_or_copy(one, other):
         shutil.copy2(one, other)
 
 
+def in_turn(groups, room, rlibs):
+    """Tries groups side by side, each once the libraries below its crate are built, and yields what was found of each."""
+    lanes = int(os.environ.get("RT_JOBS") or os.cpu_count())
+    left, running = list(groups), set()
+    with ThreadPoolExecutor(lanes) as pool:
+        while left or running:
+            rlibs.look()
+            for group in [it for it in left if rlibs.are_below(it.crate)][: lanes - len(running)]:
+                left.remove(group)
+                running.add(pool.submit(tried, group, room, rlibs))
+            if running:
+                done, running = wait(running, timeout=LOOK, return_when=FIRST_COMPLETED)
+                yield from (it.result() for it in done)
+            elif left:
+                time.sleep(LOOK)
+
+
 def main(words):
-    tree, folder = edit_files.TOP, None
-    while words and words[0] in ("--tree", "--rlibs"):
-        tree, folder = (words[1], folder) if words[0] == "--tree" else (tree, words[1])
-        words = words[2:]
-    folders = FOLDERS
-    if words[:1] == ["--beside-must-fail"]:
-        folders, words = ("edits",), words[1:]
+    options = {"--tree": edit_files.TOP, "--rlibs": None, "--beside": None}
+    while words and words[0] in options:
+        options[words[0]], words = words[1], words[2:]
+    tree, folder, log = options.values()
+    folders = ("edits",) if log else FOLDERS
     crates = crates_of(os.path.abspath(tree))
     wanted = {label_of(word) for word in words}
     edits = [edit for crate in sorted(crates.values(), key=turn) for edit in edits_of(crate, folders)]
@@ -221,10 +265,8 @@ def main(words):
         groups += groups_of([edit for edit in edits if edit.crate is crate and edit.function])
     refused = {}
     with tempfile.TemporaryDirectory(prefix="capt-edits-") as room:
-        rlibs = libraries(crates, folder, room)
-        with ThreadPoolExecutor(int(os.environ.get("RT_JOBS") or os.cpu_count())) as pool:
-            for goals, said in pool.map(lambda group: tried(group, room, rlibs), groups):
-                refused, wrong = refused | goals, wrong + said
+        for goals, said in in_turn(groups, room, Libraries(crates, folder, room, log)):
+            refused, wrong = refused | goals, wrong + said
     for edit, goals in refused.items():
         if edit.label in wanted:
             print(*(f"{edit.label}: refused at {goal[:250]}" for goal in goals), sep="\n")

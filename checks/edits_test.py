@@ -7,7 +7,7 @@ import sys
 
 sys.dont_write_bytecode = True
 
-import os, subprocess, tempfile
+import os, subprocess, tempfile, time
 
 CHECKS = os.path.dirname(os.path.abspath(__file__))
 FILES = {
@@ -85,8 +85,15 @@ EDITS = [
 ]
 
 
-def write_tree(tree):
-    files = FILES | {f"crates/small/edits/{name}.edit": text for name, text, _, _ in EDITS}
+# a crate that stands on it, which `rt ci` doesn't prove
+ABOVE = {
+    "crates.txt": "small:\nlarge: small\n",
+    "crates/large/src/lib.rt": FILES["crates/small/src/lib.rt"],
+    "crates/large/edits/next-by-three.edit": EDITS[0][1],
+}
+
+
+def write_tree(tree, files):
     for path, text in files.items():
         os.makedirs(os.path.dirname(f"{tree}/{path}"), exist_ok=True)
         with open(f"{tree}/{path}", "w", encoding="utf-8") as file:
@@ -106,10 +113,27 @@ def judged(script, tree, wanted):
     yield None if is_so else f"{script}: wants {counts} and status 1, says {ran.returncode}, {ran.stdout[-200:]}{ran.stderr}"
 
 
+def waits(tree):
+    """Whether edits.py waits for a library as long as `rt ci` runs beside it, and then counts what it couldn't try as failed."""
+    log = f"{tree}/log"
+    with open(log, "w", encoding="utf-8") as file:
+        run = subprocess.Popen([f"{CHECKS}/edits.py", "--tree", tree, "--beside", log], stdout=subprocess.PIPE, text=True)
+        time.sleep(5)
+        is_waiting = run.poll() is None
+        file.write("rt: small NOT PROVED\n0 passed, 2 failed\n")
+    said, _ = run.communicate()
+    wanted = "edits.py: large/next-by-three: not tried, since small isn't built\n"
+    is_so = is_waiting and said.startswith(wanted) and said.endswith("\n0 passed, 1 failed\n") and run.returncode == 1
+    return None if is_so else f"edits.py beside `rt ci`: {is_waiting}, {run.returncode}, {said}"
+
+
 def main():
     with tempfile.TemporaryDirectory(prefix="capt-edits-test-") as tree:
-        write_tree(tree)
+        write_tree(tree, FILES | {f"crates/small/edits/{name}.edit": text for name, text, _, _ in EDITS})
         told = [*judged("frontend.py", tree, {it[0]: it[2] for it in EDITS}), *judged("edits.py", tree, {it[0]: it[3] for it in EDITS})]
+    with tempfile.TemporaryDirectory(prefix="capt-edits-test-") as tree:
+        write_tree(tree, FILES | ABOVE)
+        told.append(waits(tree))
     wrong = [it for it in told if it]
     print(*wrong, sep="\n", end="\n" * bool(wrong))
     print(f"{len(told) - len(wrong)} passed, {len(wrong)} failed")

@@ -2,15 +2,14 @@
 # The gate, from nothing: a look at all edits by the compiler's front end, then `rt ci`, the other edits and the scripts of this
 # folder. Its last line adds up what they count: 'N passed, M failed'. The status is 0 if nothing failed.
 #
-# The edits need the libraries that `rt ci` proves, and not the tests, which it proves last, with one process: so edits.py begins
-# beside them. The scripts begin once `rt ci` has ended.
+# `rt ci` proves crates one on another, often with one process at a time. So edits.py begins beside it, with what it leaves of the
+# processors: a crate's edits want the crates below it alone. The scripts begin once `rt ci` has ended.
 #
 # It removes crates/*/out, so that nothing is taken from earlier runs: run it in a clone if you want to keep them.
 #
 # Use: checks/gate.sh     (the scripts want a C compiler, binutils and Python 3)
 set -u
 cd "$(dirname "$0")/.." || exit
-edits='edits.py --beside-must-fail'
 scripts=(program.sh edits_test.py clib.py devices.sh hints.py stack.sh papers.sh columns.py rounds.sh rows.py objects.py invariance.py
     corpus.py hostile.py limits.py 'faults.py growths' 'faults.py devices')
 passed=0
@@ -48,51 +47,37 @@ if [ "$failed" != 0 ]; then
     exit 1
 fi
 
-# begin SCRIPT NICENESS: runs a script of this folder in the background
+# begin NAME NICENESS SCRIPT [WORD]..: runs a script of this folder in the background
 begin() {
+    local name=$1 niceness=$2
+    shift 2
     {
-        # shellcheck disable=SC2086  # a script's name may have a word after it
-        nice -n "$2" checks/$1 > "$logs/$1" 2>&1
-        echo $? > "$logs/$1, its status"
-        ended "$1"
+        nice -n "$niceness" "checks/$1" "${@:2}" > "$logs/$name" 2>&1
+        echo $? > "$logs/$name, its status"
+        ended "$name"
     } &
-}
-
-# whether `rt ci` has proved every crate that has edits and is a library
-are_proved() {
-    local folder crate
-    for folder in crates/*/edits; do
-        crate=${folder#crates/}
-        crate=${crate%/edits}
-        if grep -q "^$crate staticlib" crates.txt; then continue; fi
-        if ! grep -qx "rt: $crate proved" "$logs/rt ci"; then return 1; fi
-    done
 }
 
 rm -rf crates/*/out
 anew=()
 if rt --help 2>&1 | grep -q -- '--anew'; then anew=(--anew); fi
-: > "$logs/rt ci"
-{
-    rt ci "${anew[@]}" 2>&1 | tee "$logs/rt ci"
-    echo "${PIPESTATUS[0]}" > "$logs/rt ci, its status"
-} &
-ci=$!
-until are_proved || ! kill -0 "$ci" 2> /dev/null; do sleep 2; done
-ended 'the proof of the libraries'
-begin "$edits" 19
-wait "$ci"
-counted 'rt ci' "$(cat "$logs/rt ci, its status")"
+: > "$logs/rt-ci"
+begin edits.py 19 edits.py --beside "$logs/rt-ci"
+rt ci "${anew[@]}" 2>&1 | tee "$logs/rt-ci"
+counted rt-ci "${PIPESTATUS[0]}"
+# (so that edits.py doesn't wait for more, however it ended)
+echo '0 passed, 0 failed' >> "$logs/rt-ci"
 # an edit that is only refused for a name that a proof file lost shows nothing
-if grep 'only because a proof file names what the edit took away' "$logs/rt ci"; then failed=$((failed + 1)); fi
+if grep 'only because a proof file names what the edit took away' "$logs/rt-ci"; then failed=$((failed + 1)); fi
 ended 'rt ci'
 
 # program.sh times what it sees, so the others take only what it leaves of the processors
 for script in "${scripts[@]}"; do
-    begin "$script" "$([ "$script" = program.sh ] && echo 0 || echo 19)"
+    # shellcheck disable=SC2086  # a script's name may have a word after it
+    begin "$script" "$([ "$script" = program.sh ] && echo 0 || echo 19)" $script
 done
 wait
-for script in "$edits" "${scripts[@]}"; do
+for script in edits.py "${scripts[@]}"; do
     cat "$logs/$script"
     counted "$script" "$(cat "$logs/$script, its status")"
 done
