@@ -10,12 +10,16 @@ rule that is said here.
 After a conversion `check` counts as many packets, and as many that run back, have no time or were captured in part;
 after a merge the sums of these.
 
+The report over captures without fragments is the sum of the reports over each: totals, classes, and the rows of
+conversations with their least and greatest times.
+
 Use: checks/invariance.py [PROGRAM]     (as after `rt run` or `rt ci` in crates/capt)"""
 import sys
 
 sys.dont_write_bytecode = True
 
-import os, re, struct, tempfile
+import json, os, re, struct, tempfile
+from collections import Counter
 from fractions import Fraction
 
 from captures import PROGRAM, SECTION, Count, block, datagram, packet, pcap_header, record, run, udp, vector
@@ -55,8 +59,12 @@ CASES = {
     "given up, and its rest": ([raw(OPENS + LAST[:1])], [None]),
     "given up, and another's rest": ([raw(OPENS + LAST[1:])], [None]),
     "given up over two": ([raw(OPENS[:600]), raw(OPENS[600:])], [None, None]),
+    "three files": ([raw([(5, TALK), (1, ANSWER)]), raw([(2, datagram(udp((7, 2000)))), (9, b"\x45")]), binary(138, 512, ANSWER)], [None] * 3),
     "a worked pcapng file": ([vector("OPTIONS_PCAPNG"), vector("CARRY_PCAP")], [None, None]),
 }
+
+# those that have no fragments
+WHOLE = ("equal-resolutions", "equal-resolutions, exchanged", "a time that isn't whole", "runs-back", "a worked pcapng file", "three files")
 
 
 def body(text):
@@ -68,6 +76,27 @@ def counts(line):
     """How many packets a line of `check` has, of a whole file, and how many run back, have no time or are in part."""
     found = re.fullmatch(r"check \d+ \w+ packets (\d+) backward (\d+) untimed (\d+) truncated (\d+) .* whole\n", line)
     return found and [int(number) for number in found.groups()]
+
+
+def times_of(talks, name):
+    """The first or the last times of some rows, as fractions."""
+    return [talk[name][0] + Fraction(*talk[name][1:]) for talk in talks if talk[name]]
+
+
+def sums(reports):
+    """What reports in JSON count together: of each line that isn't of files, its counts; of each conversation its counts, and its least and
+    greatest time."""
+    counted, talks = Counter(), {}
+    for line in map(json.loads, "".join(reports).splitlines()):
+        if line["type"] == "talk":
+            talks.setdefault((line["protocol"], str(line["a"]), str(line["b"])), []).append(line)
+        elif line["type"] in ("total", "frames", "joined"):
+            counted.update({(line["type"], key): n for key, n in line.items() if key != "type"})
+    rows = {}
+    for key, found in talks.items():
+        ways = [sum(talk[way][what] for talk in found) for way in ("forward", "backward") for what in ("packets", "bytes")]
+        rows[key] = (*ways, min(times_of(found, "first"), default=None), max(times_of(found, "last"), default=None))
+    return counted, rows
 
 
 def as_fractions(lines):
@@ -98,6 +127,10 @@ def main():
             checked = [counts(line) for line in lines.splitlines(True)]
             count.check(f"{name}: check", (status, error, len(checked)) == (0, "", len(files)) and all(checked), lines)
             sums = [sum(numbers) for numbers in zip(*checked)]
+            if name in WHOLE:
+                alone = [done(["report", "--json", file])[1] for file in files]
+                together = done(["report", "--json", *files])[1]
+                count.check(f"{name}: the sum of the reports", sums([together]) == sums(alone), together, alone)
             for order in ("little", "big"):
                 count.check(f"{name}: merge", done(["merge", "--order", order, "-o", out, *files]) == (0, "", ""))
                 count.check(f"{name}: merged, {order}", body(done(["report", out])[1]) == body(told), told)

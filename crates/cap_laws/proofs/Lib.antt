@@ -16,6 +16,7 @@ mod PcapWritten
 mod Rounds
 mod Rules
 mod SameRun
+mod Sums
 mod Totals
 mod Twins
 mod WorkedRows

@@ -20,10 +20,10 @@ use Rattle.cap_laws.specs.Totals.{ReportTotals}
 use Rattle.cap_laws.specs.again.Rounds.{in_file}
 
 -- what counts the packets that were taken, and what each item adds to it, under every number of its file
-record IsSum (count : List Taken → ℕ) (adds : Item → ℕ) : Type 0 where
-  none : count [] ≡ 0
-  step : (x : Clocked Item) (xs : List Taken) → count (with_item x.clock x.item xs) ≡ count xs + adds x.item
-  numbered : (file : ℕ) (x : Item) → adds (in_file file x) ≡ adds x
+pub record IsSum (count : List Taken → ℕ) (adds : Item → ℕ) : Type 0 where
+  pub none : count [] ≡ 0
+  pub step : (x : Clocked Item) (xs : List Taken) → count (with_item x.clock x.item xs) ≡ count xs + adds x.item
+  pub numbered : (file : ℕ) (x : Item) → adds (in_file file x) ≡ adds x
 
 taken_sum : (count : List Taken → ℕ) (adds : Item → ℕ) → IsSum count adds → (xs : List Taken)
     (run : List (Clocked Item))
@@ -91,7 +91,8 @@ each_alone count adds is tail file (bytes ∷ files) h =
     + each_alone count adds is tail (file + 1) files (all-back NotRefused items others h) i)
     ∙ sym (sum_by-cons count (report bytes) (map report files))
 
-adds_up : (count : List Taken → ℕ) (adds : Item → ℕ) → IsSum count adds → (tail : Tail) (files : List (List ℕ))
+-- over all files it is the sum of what it is over each
+pub adds_up : (count : List Taken → ℕ) (adds : Item → ℕ) → IsSum count adds → (tail : Tail) (files : List (List ℕ))
     → refusal_of (run_of_files tail files) ≡ None
     → count (taken_after [] (clocked_run tail files))
     ≡ sum_by count (map (λ bytes. taken_after [] (clocked_run tail (bytes ∷ []))) files)

@@ -11,5 +11,6 @@ pub mod MergeSorts
 pub mod Reports
 pub mod Rounds
 pub mod Runs
+pub mod Sums
 pub mod Totals
 pub mod WorkedReport

@@ -11,6 +11,7 @@ ghost use Rattle.cap_laws.specs.MergeSorts.{MergeSorts, RunSorts, SortsOnce};
 ghost use Rattle.cap_laws.specs.Reports.{MergedReport, PcapngReport, RuleLaw};
 ghost use Rattle.cap_laws.specs.Rounds.{RoundsInBytes};
 ghost use Rattle.cap_laws.specs.Runs.{MergedRun, PcapngRun};
+ghost use Rattle.cap_laws.specs.Sums.{ReportSums};
 ghost use Rattle.cap_laws.specs.Totals.{ReportTotals};
 ghost use Rattle.cap_laws.specs.WorkedReport.{Overlapped, Tagged};
 ghost use Rattle.cap_talks.specs.table.Classes.{OneClass};
@@ -132,6 +133,14 @@ pub fn check_counts()
 /// report over them counts in its line `total` are the sums of those that the reports over each file alone count.
 pub fn report_totals()
     ensures { ReportTotals }
+{}
+
+/// If none of some files is refused, and none of their packets is a fragment, all that the report over them counts is
+/// the sum of what the reports over each file alone count: the line `total`, the packets of each class, and the row of
+/// each conversation in both directions, whose first time is the least of theirs and whose last is the greatest. So
+/// machines may share an archive, and add up.
+pub fn report_sums()
+    ensures { ReportSums }
 {}
 
 /// Each packet has one class, and the seven counts add up to the number of packets.

@@ -1,0 +1,602 @@
+-- Of packets that are no fragments, the report is a sum over the packets, and so over the files.
+use Rattle.std.proofs.Common.{◌≡◌, ◌+◌, ◌++◌, ℕ, List, [], ◌∷◌, map, Bool, true, false, Option, Some, None, refl, sym}
+use Rattle.std.proofs.Common.{ap}
+use Rattle.std.proofs.Common.{◌∙◌, arith, filter, length, option_map}
+use Rattle.std.specs.Prelude.{if◌then◌else◌, not, ◌&&◌, ◌||◌, ◌==◌}
+use Rattle.std.specs.Ordering.{is_gt, is_lt, nat_cmp, ordering_then}
+use Rattle.std.specs.declared.cmp.Ordering.{Ordering}
+use Rattle.std.specs.List.{list_any, sum_by}
+use Rattle.std.proofs.lemmas.List.Elements.{filter-append}
+use Rattle.std.proofs.lemmas.List.Sums.{sum_by-cons}
+use Rattle.cap_bytes.specs.declared.faults.Tail.{Tail}
+use Rattle.cap_class.specs.Taken.{Classification, Taken, classify, classify_at, classify_by, classify_in, datagram}
+use Rattle.cap_class.specs.Taken.{events_classified}
+use Rattle.cap_class.specs.Taken.{events_of, fragment, plain, stamped_of, taken}
+use Rattle.cap_class.specs.declared.classes.Class.{Class}
+use Rattle.cap_ip.specs.Header.{HeaderFields}
+use Rattle.cap_ip.specs.Read.{Reading, bad, cut, found, read_of}
+use Rattle.cap_ip.specs.Transport.{transport_of}
+use Rattle.cap_ip.specs.declared.headers.Fragment.{Fragment}
+use Rattle.cap_join.specs.Completed.{completed_of}
+use Rattle.cap_join.specs.History.{Event, open_groups_after, step}
+use Rattle.cap_join.specs.Joiners.{open_limit}
+use Rattle.cap_join.specs.declared.datagrams.Stamped.{Stamped}
+use Rattle.cap_laws.proofs.Totals.{IsSum, adds_up, totals-law}
+use Rattle.cap_laws.specs.Sums.{ReportSums, is_by, is_from, is_part, parts_among}
+use Rattle.cap_laws.specs.Sums.{row_among}
+use Rattle.cap_laws.specs.again.Rounds.{in_file}
+use Rattle.cap_link.specs.Links.{is_captured_whole, network_of}
+use Rattle.cap_link.specs.Seen.{Carried}
+use Rattle.cap_link.specs.Seen as carries
+use Rattle.cap_merge.specs.Files.{clocked_run, run_of_files}
+use Rattle.cap_merge.specs.Run.{Clocked}
+use Rattle.cap_source.specs.Feed.{Item, packet, refused, refusal_of}
+use Rattle.cap_source.specs.declared.packets.Meta.{Meta}
+use Rattle.cap_talks.specs.declared.table.rows.TalkKey.{TalkKey}
+use Rattle.cap_talks.specs.declared.table.rows.TalkRow.{TalkRow}
+use Rattle.cap_talks.specs.declared.table.units.CountedUnit.{CountedUnit}
+use Rattle.cap_talks.specs.declared.table.units.Endpoint.{Endpoint}
+use Rattle.cap_talks.specs.declared.table.units.TimedFrame.{TimedFrame}
+use Rattle.cap_talks.specs.table.Classes.{class_by, classes, classes_in, groups_of, is_class, lone_class, times}
+use Rattle.cap_talks.specs.table.Conversations.{by_time, by_time_down, earlier_frame, frame_time, frames_of}
+use Rattle.cap_talks.specs.table.Conversations.{greatest_frame}
+use Rattle.cap_talks.specs.table.Conversations.{is_forward, later_frame, least_frame, same_talk, talk_key}
+use Rattle.cap_talks.specs.table.Conversations.{units_bytes}
+use Rattle.cap_talks.specs.table.Conversations.{units_of_talk}
+use Rattle.cap_talks.specs.table.CountedUnits.{counted_in, counted_units, given_up_in, joined_in, listed, timed_frame}
+use Rattle.cap_talks.specs.table.CountedUnits.{unit_at}
+use Rattle.cap_talks.specs.table.CountedUnits.{unit_by, unit_of, whole_unit}
+use Rattle.cap_talks.specs.table.Units.{ends_of}
+use Rattle.cap_time.proofs.StampForms.{stamp_upto_trans, stamp_upto_turned}
+use Rattle.cap_time.specs.Stamp.{stamp_cmp}
+use Rattle.cap_time.specs.declared.stamps.Stamp.{Stamp}
+use Rattle.cap_source.specs.Times.{meta_time}
+use Rattle.cap_talks.specs.talks.ReportText.{taken_after, with_item}
+
+-- ---- what holds of packets that are no fragments
+
+-- what each of some packets adds, if it is no fragment, and the sum
+pub record IsSumOf (count : List Taken → ℕ) (adds : Item → ℕ) : Type 0 where
+  pub sum : List Taken → ℕ
+  pub is : IsSum sum adds
+  pub same : (xs : List Taken) → parts_among xs ≡ 0 → count xs ≡ sum xs
+
+-- what one packet is counted as
+one_part : Item → ℕ
+one_part (packet meta frame) = if is_part (classify 0 (taken None meta frame)) then 1 else 0
+one_part (refused refusal) = 0
+
+part_step : (x : Clocked Item) (i : Item) (xs : List Taken)
+    → parts_among (with_item x.clock i xs) ≡ parts_among xs + one_part i
+unfolding one_part classify
+part_step x (packet meta frame) xs = refl
+part_step x (refused refusal) xs = omega arith
+
+part_numbered : (file : ℕ) (x : Item) → one_part (in_file file x) ≡ one_part x
+unfolding one_part classify
+part_numbered file (packet meta frame) = refl
+part_numbered file (refused refusal) = refl
+
+-- lists without fragments
+same_sums : (f g : List Taken → ℕ) → ((xs : List Taken) → parts_among xs ≡ 0 → f xs ≡ g xs)
+    → (each : List (List Taken)) → sum_by parts_among each ≡ 0 → sum_by f each ≡ sum_by g each
+same_sums f g same [] none = refl
+same_sums f g same (xs ∷ each) none =
+    let sums = sum_by-cons parts_among xs each in
+    sum_by-cons f xs each
+    ∙ (λ i. same xs (omega (arith, none, sums)) i + same_sums f g same each (omega (arith, none, sums)) i)
+    ∙ sym (sum_by-cons g xs each)
+
+-- so a count that is a sum over packets which are no fragments adds up
+of_files : (count : List Taken → ℕ) (adds : Item → ℕ) → IsSumOf count adds → (tail : Tail) (files : List (List ℕ))
+    → refusal_of (run_of_files tail files) ≡ None
+    → parts_among (taken_after [] (clocked_run tail files)) ≡ 0
+    → count (taken_after [] (clocked_run tail files))
+    ≡ sum_by count (map (λ bytes. taken_after [] (clocked_run tail (bytes ∷ []))) files)
+of_files count adds it tail files none lone =
+    let each = map (λ bytes. taken_after [] (clocked_run tail (bytes ∷ []))) files in
+    let parts = adds_up parts_among one_part
+    (record { none = refl; step = λ x. part_step x x.item; numbered = part_numbered }) tail files none in
+    it.same (taken_after [] (clocked_run tail files)) lone
+    ∙ adds_up it.sum adds it.is tail files none
+    ∙ sym (same_sums count it.sum it.same each (sym parts ∙ lone))
+
+-- ---- classes
+
+-- a packet's class without groups is the same at every place
+by-place : (o : Option Fragment) (h : HeaderFields) (captured : List ℕ) (s t : Stamped)
+    → class_by [] (classify_by o h captured s) ≡ class_by [] (classify_by o h captured t)
+by-place None h captured s t = refl
+by-place (Some it) h captured s t = refl
+
+in-place : (r : Reading) (s t : Stamped) → class_by [] (classify_in r s) ≡ class_by [] (classify_in r t)
+in-place (found header captured) s t = by-place header.fragment header captured s t
+in-place bad s t = refl
+in-place cut s t = refl
+
+carried-place : (k : Carried) (whole : Bool) (s t : Stamped)
+    → class_by [] (classify_at k whole s) ≡ class_by [] (classify_at k whole t)
+carried-place (carries.ipv4 bytes) whole s t = in-place (read_of bytes whole) s t
+carried-place carries.other_link whole s t = refl
+carried-place carries.not_ipv4 whole s t = refl
+carried-place carries.short whole s t = refl
+carried-place carries.cut whole s t = refl
+
+lone-place : (n : ℕ) (clock : Option Stamp) (meta : Meta) (frame : List ℕ)
+    → class_by [] (classify n (taken clock meta frame)) ≡ lone_class meta frame
+unfolding classify lone_class
+lone-place n clock meta frame =
+    carried-place (network_of meta.interface.link frame meta.original) (is_captured_whole frame meta.original)
+    (stamped_of n meta) (stamped_of 0 meta)
+
+one_of_class : Class → Item → ℕ
+one_of_class c (packet meta frame) = if is_class c (lone_class meta frame) then 1 else 0
+one_of_class c (refused refusal) = 0
+
+class_step : (c : Class) (x : Clocked Item) (i : Item) (xs : List Taken)
+    → times c (classes_in [] (with_item x.clock i xs)) ≡ times c (classes_in [] xs) + one_of_class c i
+unfolding one_of_class
+class_step c x (packet meta frame) xs =
+    omega (
+      arith,
+      ap (λ k. (if is_class c k then 1 else 0) + times c (classes_in [] xs))
+          (lone-place (length xs) x.clock meta frame),
+    )
+class_step c x (refused refusal) xs = omega arith
+
+class_numbered : (c : Class) (file : ℕ) (x : Item) → one_of_class c (in_file file x) ≡ one_of_class c x
+unfolding one_of_class lone_class classify
+class_numbered c file (packet meta frame) = refl
+class_numbered c file (refused refusal) = refl
+
+-- ---- no groups
+
+-- whether a packet is a fragment doesn't hang on its place
+part-by : (o : Option Fragment) (h : HeaderFields) (captured : List ℕ) (s t : Stamped)
+    → is_part (classify_by o h captured s) ≡ is_part (classify_by o h captured t)
+part-by None h captured s t = refl
+part-by (Some it) h captured s t = refl
+
+part-in : (r : Reading) (s t : Stamped) → is_part (classify_in r s) ≡ is_part (classify_in r t)
+part-in (found header captured) s t = part-by header.fragment header captured s t
+part-in bad s t = refl
+part-in cut s t = refl
+
+part-carried : (k : Carried) (whole : Bool) (s t : Stamped)
+    → is_part (classify_at k whole s) ≡ is_part (classify_at k whole t)
+part-carried (carries.ipv4 bytes) whole s t = part-in (read_of bytes whole) s t
+part-carried carries.other_link whole s t = refl
+part-carried carries.not_ipv4 whole s t = refl
+part-carried carries.short whole s t = refl
+part-carried carries.cut whole s t = refl
+
+not-one : (b : Bool) (n : ℕ) → n + (if b then 1 else 0) ≡ 0 → b ≡ false
+not-one true n h = absurd (omega (arith, h))
+not-one false n h = refl
+
+-- the latest packet is no fragment, nor is one before it
+no-part : (x : Taken) (xs : List Taken) → parts_among (x ∷ xs) ≡ 0 → is_part (classify (length xs) x) ≡ false
+unfolding classify
+no-part x xs none =
+    part-carried (network_of x.meta.interface.link x.frame x.meta.original)
+    (is_captured_whole x.frame x.meta.original) (stamped_of (length xs) x.meta) (stamped_of 0 x.meta)
+    ∙ not-one (is_part (classify 0 x)) (parts_among xs) none
+
+no-parts : (x : Taken) (xs : List Taken) → parts_among (x ∷ xs) ≡ 0 → parts_among xs ≡ 0
+no-parts x xs none = omega (arith, none)
+
+completed-same : (k : Classification) (clock : Option Stamp) (events : List Event) → is_part k ≡ false
+    → completed_of open_limit (events_classified k clock events) ≡ completed_of open_limit events
+unfolding completed_of
+completed-same (plain c) clock events h = refl
+completed-same (datagram header captured) clock events h = refl
+completed-same (fragment p) clock events h = grind (arith, h)
+
+no-groups : (xs : List Taken) → parts_among xs ≡ 0 → groups_of xs ≡ []
+unfolding events_of completed_of
+no-groups [] none = refl
+no-groups (x ∷ xs) none =
+    completed-same (classify (length xs) x) x.clock (events_of xs) (no-part x xs none)
+    ∙ no-groups xs (no-parts x xs none)
+
+given-same : (k : Classification) (clock : Option Stamp) (events : List Event) → is_part k ≡ false
+    → (open_groups_after open_limit (events_classified k clock events)).given_up
+    ≡ (open_groups_after open_limit events).given_up
+unfolding open_groups_after step
+given-same (plain c) clock events h = refl
+given-same (datagram header captured) clock events h = refl
+given-same (fragment p) clock events h = grind (arith, h)
+
+none-given : (xs : List Taken) → parts_among xs ≡ 0 → given_up_in xs ≡ 0
+unfolding events_of open_groups_after
+none-given [] none = refl
+none-given (x ∷ xs) none =
+    given-same (classify (length xs) x) x.clock (events_of xs) (no-part x xs none)
+    ∙ none-given xs (no-parts x xs none)
+
+of_class : (c : Class) → IsSumOf (λ xs. times c (classes xs)) (one_of_class c)
+unfolding classes
+of_class c =
+    record {
+      sum = λ xs. times c (classes_in [] xs);
+      is = record { none = refl; step = λ x. class_step c x x.item; numbered = class_numbered c };
+      same = λ xs none. ap (λ groups. times c (classes_in groups xs)) (no-groups xs none);
+    }
+
+-- nothing is joined or given up
+nothing : (count : List Taken → ℕ) → ((xs : List Taken) → parts_among xs ≡ 0 → count xs ≡ 0)
+    → IsSumOf count (λ item. 0)
+nothing count none =
+    record {
+      sum = λ xs. 0;
+      is = record { none = refl; step = λ x xs. refl; numbered = λ file x. refl };
+      same = none;
+    }
+
+-- ---- rows
+
+-- a sum over units
+record Adds (total : List CountedUnit → ℕ) (each : CountedUnit → ℕ) : Type 0 where
+  empty : total [] ≡ 0
+  more : (unit : CountedUnit) (units : List CountedUnit) → total (unit ∷ units) ≡ each unit + total units
+
+-- what a unit adds to a total over those of a conversation in a direction
+of_unit : TalkKey → (CountedUnit → Bool) → (CountedUnit → ℕ) → Option CountedUnit → ℕ
+of_unit key dir each None = 0
+of_unit key dir each (Some unit) = if same_talk key (talk_key unit) && dir unit then each unit else 0
+
+-- the unit of a packet that is no fragment
+own_unit : Classification → Stamped → Option CountedUnit
+own_unit (plain c) stamped = None
+own_unit (datagram header captured) stamped = whole_unit header captured stamped
+own_unit (fragment p) stamped = None
+
+own-is : (k : Classification) (stamped : Stamped) (clock : Option Stamp) (events : List Event) → is_part k ≡ false
+    → unit_by k stamped clock events ≡ own_unit k stamped
+unfolding own_unit
+own-is (plain c) stamped clock events h = refl
+own-is (datagram header captured) stamped clock events h = refl
+own-is (fragment p) stamped clock events h = grind (arith, h)
+
+total-append : (total : List CountedUnit → ℕ) (each : CountedUnit → ℕ) → Adds total each
+    → (us vs : List CountedUnit) → total (us ++ vs) ≡ total us + total vs
+total-append total each adds [] vs = omega (arith, adds.empty)
+total-append total each adds (u ∷ us) vs =
+    omega (arith, adds.more u (us ++ vs), adds.more u us, total-append total each adds us vs)
+
+-- a total over the units of a conversation in a direction
+of_row : (List CountedUnit → ℕ) → (CountedUnit → Bool) → TalkKey → List CountedUnit → ℕ
+of_row total dir key units = total (filter dir (units_of_talk key units))
+
+single : (total : List CountedUnit → ℕ) (each : CountedUnit → ℕ) → Adds total each → (dir : CountedUnit → Bool)
+    (key : TalkKey) (unit : CountedUnit) (b d : Bool) → same_talk key (talk_key unit) ≡ b → dir unit ≡ d
+    → of_row total dir key (unit ∷ []) ≡ (if b && d then each unit else 0)
+unfolding of_row
+single total each adds dir key unit false d is so = rw is (adds.empty)
+single total each adds dir key unit true false is so = rw (is, so) (adds.empty)
+single total each adds dir key unit true true is so =
+    rw (is, so) (omega (arith, adds.more unit [], adds.empty))
+
+row-listed : (total : List CountedUnit → ℕ) (each : CountedUnit → ℕ) → Adds total each → (dir : CountedUnit → Bool)
+    (key : TalkKey) (unit : Option CountedUnit) → of_row total dir key (listed unit) ≡ of_unit key dir each unit
+unfolding of_row of_unit
+row-listed total each adds dir key None = adds.empty
+row-listed total each adds dir key (Some unit) =
+    single total each adds dir key unit (same_talk key (talk_key unit)) (dir unit) refl refl
+
+row-append : (total : List CountedUnit → ℕ) (each : CountedUnit → ℕ) → Adds total each → (dir : CountedUnit → Bool)
+    (key : TalkKey) (us vs : List CountedUnit)
+    → of_row total dir key (us ++ vs) ≡ of_row total dir key us + of_row total dir key vs
+unfolding of_row
+row-append total each adds dir key us vs =
+    let own : CountedUnit → Bool = λ unit. same_talk key (talk_key unit) in
+    ap (λ l. total (filter dir l)) (filter-append own us vs)
+    ∙ ap total (filter-append dir (filter own us) (filter own vs))
+    ∙ total-append total each adds (filter dir (filter own us)) (filter dir (filter own vs))
+
+-- A function of units reads nothing of their places.
+record ReadsNoPlace {A : Type 0} (f : CountedUnit → A) : Type 0 where
+  same : (protocol bytes n m : ℕ) (meta : Meta) (ends : Endpoint × Endpoint)
+      → f (unit_of protocol 1 bytes (timed_frame (Some (stamped_of n meta)))
+      (timed_frame (Some (stamped_of n meta))) ends)
+      ≡ f (unit_of protocol 1 bytes (timed_frame (Some (stamped_of m meta)))
+      (timed_frame (Some (stamped_of m meta))) ends)
+
+own-ends : (dir : CountedUnit → Bool) (each : CountedUnit → ℕ) → ReadsNoPlace dir → ReadsNoPlace each → (key : TalkKey)
+    (protocol bytes n m : ℕ) (meta : Meta) (ends : Option (Endpoint × Endpoint))
+    → of_unit key dir each (option_map (unit_of protocol 1 bytes (timed_frame (Some (stamped_of n meta)))
+    (timed_frame (Some (stamped_of n meta)))) ends)
+    ≡ of_unit key dir each (option_map (unit_of protocol 1 bytes (timed_frame (Some (stamped_of m meta)))
+    (timed_frame (Some (stamped_of m meta)))) ends)
+unfolding of_unit
+own-ends dir each d e key protocol bytes n m meta None = refl
+own-ends dir each d e key protocol bytes n m meta (Some ends) =
+    λ i. if same_talk key (talk_key (unit_of protocol 1 bytes (timed_frame (Some (stamped_of n meta)))
+    (timed_frame (Some (stamped_of n meta))) ends)) && d.same protocol bytes n m meta ends i
+    then e.same protocol bytes n m meta ends i else 0
+
+own-by : (dir : CountedUnit → Bool) (each : CountedUnit → ℕ) → ReadsNoPlace dir → ReadsNoPlace each → (key : TalkKey)
+    (o : Option Fragment) (h : HeaderFields) (captured : List ℕ) (n m : ℕ) (meta : Meta)
+    → of_unit key dir each (own_unit (classify_by o h captured (stamped_of n meta)) (stamped_of n meta))
+    ≡ of_unit key dir each (own_unit (classify_by o h captured (stamped_of m meta)) (stamped_of m meta))
+unfolding own_unit
+own-by dir each d e key None h captured n m meta =
+    own-ends dir each d e key h.key.protocol meta.original n m meta
+    (ends_of h.key.source h.key.destination (transport_of h.key.protocol captured h.data_length))
+own-by dir each d e key (Some it) h captured n m meta = refl
+
+own-in : (dir : CountedUnit → Bool) (each : CountedUnit → ℕ) → ReadsNoPlace dir → ReadsNoPlace each → (key : TalkKey)
+    (r : Reading) (n m : ℕ) (meta : Meta)
+    → of_unit key dir each (own_unit (classify_in r (stamped_of n meta)) (stamped_of n meta))
+    ≡ of_unit key dir each (own_unit (classify_in r (stamped_of m meta)) (stamped_of m meta))
+unfolding own_unit
+own-in dir each d e key (found header captured) n m meta =
+    own-by dir each d e key header.fragment header captured n m meta
+own-in dir each d e key bad n m meta = refl
+own-in dir each d e key cut n m meta = refl
+
+own-carried : (dir : CountedUnit → Bool) (each : CountedUnit → ℕ) → ReadsNoPlace dir → ReadsNoPlace each
+    → (key : TalkKey) (k : Carried) (whole : Bool) (n m : ℕ) (meta : Meta)
+    → of_unit key dir each (own_unit (classify_at k whole (stamped_of n meta)) (stamped_of n meta))
+    ≡ of_unit key dir each (own_unit (classify_at k whole (stamped_of m meta)) (stamped_of m meta))
+unfolding own_unit
+own-carried dir each d e key (carries.ipv4 bytes) whole n m meta =
+    own-in dir each d e key (read_of bytes whole) n m meta
+own-carried dir each d e key carries.other_link whole n m meta = refl
+own-carried dir each d e key carries.not_ipv4 whole n m meta = refl
+own-carried dir each d e key carries.short whole n m meta = refl
+own-carried dir each d e key carries.cut whole n m meta = refl
+
+-- what a packet adds by itself, and the sum over some
+own_value : TalkKey → (CountedUnit → Bool) → (CountedUnit → ℕ) → Meta → List ℕ → ℕ
+own_value key dir each meta frame =
+    of_unit key dir each (own_unit (classify 0 (taken None meta frame)) (stamped_of 0 meta))
+
+one_value : TalkKey → (CountedUnit → Bool) → (CountedUnit → ℕ) → Item → ℕ
+one_value key dir each (packet meta frame) = own_value key dir each meta frame
+one_value key dir each (refused refusal) = 0
+
+own_values : TalkKey → (CountedUnit → Bool) → (CountedUnit → ℕ) → List Taken → ℕ
+own_values key dir each [] = 0
+own_values key dir each (x ∷ xs) = own_values key dir each xs + own_value key dir each x.meta x.frame
+
+value_step : (key : TalkKey) (dir : CountedUnit → Bool) (each : CountedUnit → ℕ) (x : Clocked Item) (i : Item)
+    (xs : List Taken)
+    → own_values key dir each (with_item x.clock i xs) ≡ own_values key dir each xs + one_value key dir each i
+unfolding own_values one_value
+value_step key dir each x (packet meta frame) xs = refl
+value_step key dir each x (refused refusal) xs = omega arith
+
+value_numbered : (key : TalkKey) (dir : CountedUnit → Bool) (each : CountedUnit → ℕ) (file : ℕ) (x : Item)
+    → one_value key dir each (in_file file x) ≡ one_value key dir each x
+unfolding one_value own_value classify
+value_numbered key dir each file (packet meta frame) = refl
+value_numbered key dir each file (refused refusal) = refl
+
+-- what the unit at a packet adds
+at-packet : (dir : CountedUnit → Bool) (each : CountedUnit → ℕ) → ReadsNoPlace dir → ReadsNoPlace each → (key : TalkKey)
+    (x : Taken) (xs : List Taken) → parts_among (x ∷ xs) ≡ 0
+    → of_unit key dir each (unit_at xs x) ≡ own_value key dir each x.meta x.frame
+unfolding unit_at own_value classify
+at-packet dir each d e key x xs none =
+    ap (of_unit key dir each)
+    (own-is (classify (length xs) x) (stamped_of (length xs) x.meta) x.clock (events_of xs) (no-part x xs none))
+    ∙ own-carried dir each d e key (network_of x.meta.interface.link x.frame x.meta.original)
+    (is_captured_whole x.frame x.meta.original) (length xs) 0 x.meta
+
+row-same : (total : List CountedUnit → ℕ) (each : CountedUnit → ℕ) (dir : CountedUnit → Bool) → Adds total each
+    → ReadsNoPlace dir → ReadsNoPlace each → (key : TalkKey) (xs : List Taken) → parts_among xs ≡ 0
+    → of_row total dir key (counted_units xs) ≡ own_values key dir each xs
+unfolding counted_units own_values of_unit
+row-same total each dir adds d e key [] none = row-listed total each adds dir key None
+row-same total each dir adds d e key (x ∷ xs) none =
+    row-append total each adds dir key (counted_units xs) (listed (unit_at xs x))
+    ∙ (λ i. row-same total each dir adds d e key xs (no-parts x xs none) i
+    + (row-listed total each adds dir key (unit_at xs x) ∙ at-packet dir each d e key x xs none) i)
+
+of_talk : (total : List CountedUnit → ℕ) (each : CountedUnit → ℕ) (dir : CountedUnit → Bool) → Adds total each
+    → ReadsNoPlace dir → ReadsNoPlace each → (key : TalkKey)
+    → IsSumOf (λ xs. of_row total dir key (counted_units xs)) (one_value key dir each)
+unfolding own_values
+of_talk total each dir adds d e key =
+    record {
+      sum = own_values key dir each;
+      is = record {
+        none = refl;
+        step = λ x. value_step key dir each x x.item;
+        numbered = value_numbered key dir each;
+      };
+      same = row-same total each dir adds d e key;
+    }
+
+-- ---- times
+
+then-lt : (r q : Ordering) → is_lt (ordering_then r q) ≡ true → is_gt r ≡ false
+then-lt r q h = grind arith
+
+then-not-lt : (r q : Ordering) → is_lt (ordering_then r q) ≡ false → is_lt r ≡ false
+then-not-lt r q h = grind arith
+
+or-left : (x y : Bool) → (y ≡ false → x ≡ false) → not x ≡ (not x || not y)
+or-left true true h = refl
+or-left true false h = grind (arith, h refl)
+or-left false y h = refl
+
+or-right : (x y : Bool) → (x ≡ false → y ≡ false) → not y ≡ (not x || not y)
+or-right true y h = refl
+or-right false true h = grind (arith, h refl)
+or-right false false h = refl
+
+or-none : (x : Bool) → x ≡ (x || false)
+or-none true = refl
+or-none false = refl
+
+earlier-case : (until : Stamp) (a b : TimedFrame) (c : Bool) → is_lt (by_time b a) ≡ c
+    → is_by until (frame_time (earlier_frame (Some a) (Some b)))
+    ≡ (is_by until (Some a.time) || is_by until (Some b.time))
+earlier-case until a b true is =
+    rw is
+    (or-right (is_gt (stamp_cmp a.time until)) (is_gt (stamp_cmp b.time until))
+    (stamp_upto_trans b.time a.time until (then-lt (stamp_cmp b.time a.time) (nat_cmp b.place a.place) is)))
+earlier-case until a b false is =
+    rw is
+    (or-left (is_gt (stamp_cmp a.time until)) (is_gt (stamp_cmp b.time until))
+    (stamp_upto_trans a.time b.time until (stamp_upto_turned b.time a.time
+    (then-not-lt (stamp_cmp b.time a.time) (nat_cmp b.place a.place) is))))
+
+earlier-by : (until : Stamp) (a b : Option TimedFrame)
+    → is_by until (frame_time (earlier_frame a b)) ≡ (is_by until (frame_time a) || is_by until (frame_time b))
+earlier-by until None b = refl
+earlier-by until (Some a) None = or-none (is_by until (Some a.time))
+earlier-by until (Some a) (Some b) = earlier-case until a b (is_lt (by_time b a)) refl
+
+later-case : (since : Stamp) (a b : TimedFrame) (c : Bool) → is_lt (by_time_down b a) ≡ c
+    → is_from since (frame_time (later_frame (Some a) (Some b)))
+    ≡ (is_from since (Some a.time) || is_from since (Some b.time))
+later-case since a b true is =
+    rw is
+    (or-right (is_gt (stamp_cmp since a.time)) (is_gt (stamp_cmp since b.time))
+    (λ h. stamp_upto_trans since a.time b.time h
+    (then-lt (stamp_cmp a.time b.time) (nat_cmp b.place a.place) is)))
+later-case since a b false is =
+    rw is
+    (or-left (is_gt (stamp_cmp since a.time)) (is_gt (stamp_cmp since b.time))
+    (λ h. stamp_upto_trans since b.time a.time h (stamp_upto_turned a.time b.time
+    (then-not-lt (stamp_cmp a.time b.time) (nat_cmp b.place a.place) is))))
+
+later-from : (since : Stamp) (a b : Option TimedFrame)
+    → is_from since (frame_time (later_frame a b)) ≡ (is_from since (frame_time a) || is_from since (frame_time b))
+later-from since None b = refl
+later-from since (Some a) None = or-none (is_from since (Some a.time))
+later-from since (Some a) (Some b) = later-case since a b (is_lt (by_time_down b a)) refl
+
+one-more : (d : Bool) (unit : CountedUnit) (units : List CountedUnit)
+    → (d || not (length units == 0)) ≡ not (length (if d then unit ∷ units else units) == 0)
+one-more true unit units = grind arith
+one-more false unit units = refl
+
+least-by : (until : Stamp) (units : List CountedUnit)
+    → is_by until (frame_time (least_frame units))
+    ≡ not (length (filter (λ unit. is_by until (frame_time unit.first)) units) == 0)
+least-by until [] = refl
+least-by until (unit ∷ units) =
+    earlier-by until unit.first (least_frame units)
+    ∙ ap (λ b. is_by until (frame_time unit.first) || b) (least-by until units)
+    ∙ one-more (is_by until (frame_time unit.first)) unit
+    (filter (λ unit. is_by until (frame_time unit.first)) units)
+
+greatest-from : (since : Stamp) (units : List CountedUnit)
+    → is_from since (frame_time (greatest_frame units))
+    ≡ not (length (filter (λ unit. is_from since (frame_time unit.last)) units) == 0)
+greatest-from since [] = refl
+greatest-from since (unit ∷ units) =
+    later-from since unit.last (greatest_frame units)
+    ∙ ap (λ b. is_from since (frame_time unit.last) || b) (greatest-from since units)
+    ∙ one-more (is_from since (frame_time unit.last)) unit
+    (filter (λ unit. is_from since (frame_time unit.last)) units)
+
+-- the time of a frame doesn't hang on its place
+time-of : (n m : ℕ) (time : Option Stamp)
+    → frame_time (option_map (λ time. record { time = time; place = n }) time)
+    ≡ frame_time (option_map (λ time. record { time = time; place = m }) time)
+time-of n m None = refl
+time-of n m (Some time) = refl
+
+units-add : Adds length (λ unit. 1)
+units-add = record { empty = refl; more = λ unit units. omega arith }
+
+one-of-two : (a b : ℕ) → not (a + b == 0) ≡ (not (a == 0) || not (b == 0))
+one-of-two a b = grind arith
+
+-- a sum isn't 0 exactly if one of its terms isn't
+any-of : (count : List Taken → ℕ) (each : List (List Taken))
+    → not (sum_by count each == 0) ≡ list_any (λ xs. not (count xs == 0)) each
+any-of count [] = refl
+any-of count (xs ∷ each) =
+    ap (λ n. not (n == 0)) (sum_by-cons count xs each)
+    ∙ one-of-two (count xs) (sum_by count each)
+    ∙ ap (λ b. not (count xs == 0) || b) (any-of count each)
+
+any-rows : (p : TalkRow → Bool) (row : List Taken → TalkRow) (q : List Taken → Bool)
+    → ((xs : List Taken) → p (row xs) ≡ q xs) → (each : List (List Taken))
+    → list_any q each ≡ list_any p (map row each)
+any-rows p row q is [] = refl
+any-rows p row q is (xs ∷ each) = λ i. sym (is xs) i || any-rows p row q is each i
+
+-- ---- the law
+
+sum-rows : (f : TalkRow → ℕ) (row : List Taken → TalkRow) (each : List (List Taken))
+    → sum_by (λ xs. f (row xs)) each ≡ sum_by f (map row each)
+sum-rows f row [] = refl
+sum-rows f row (xs ∷ each) =
+    sum_by-cons (λ xs. f (row xs)) xs each ∙ ap (λ n. f (row xs) + n) (sum-rows f row each)
+    ∙ sym (sum_by-cons f (row xs) (map row each))
+
+frames-add : Adds frames_of (λ unit. unit.frames)
+frames-add = record { empty = refl; more = λ unit units. refl }
+
+bytes-add : Adds units_bytes (λ unit. unit.bytes)
+bytes-add = record { empty = refl; more = λ unit units. refl }
+
+pub sums-law : ReportSums
+unfolding of_row
+sums-law tail files none lone =
+    let each = map (λ bytes. taken_after [] (clocked_run tail (bytes ∷ []))) files in
+    let goes-forward : ReadsNoPlace is_forward = record { same = λ p b n m meta ends. refl } in
+    let goes-back : ReadsNoPlace (λ unit. not (is_forward unit)) = record { same = λ p b n m meta ends. refl } in
+    let in-frames : ReadsNoPlace (λ unit. unit.frames) = record { same = λ p b n m meta ends. refl } in
+    let in-each : ReadsNoPlace (λ (unit : CountedUnit). 1) = record { same = λ p b n m meta ends. refl } in
+    let in-bytes : ReadsNoPlace (λ unit. unit.bytes) = record { same = λ p b n m meta ends. refl } in
+    record {
+      totals = totals-law tail files none;
+      of_class = λ c. of_files (λ xs. times c (classes xs)) (one_of_class c) (of_class c) tail files none lone;
+      joined = of_files joined_in (λ item. 0)
+          (nothing joined_in (λ xs no. ap counted_in (no-groups xs no))) tail files none lone;
+      given_up = of_files given_up_in (λ item. 0) (nothing given_up_in none-given) tail files none lone;
+      rows = λ key. record {
+        forward_frames = of_files (λ xs. of_row frames_of is_forward key (counted_units xs))
+            (one_value key is_forward (λ unit. unit.frames))
+            (of_talk frames_of (λ unit. unit.frames) is_forward frames-add goes-forward in-frames key)
+            tail files none lone
+            ∙ sum-rows (λ r. r.forward_frames) (row_among key) each;
+        forward_bytes = of_files (λ xs. of_row units_bytes is_forward key (counted_units xs))
+            (one_value key is_forward (λ unit. unit.bytes))
+            (of_talk units_bytes (λ unit. unit.bytes) is_forward bytes-add goes-forward in-bytes key)
+            tail files none lone
+            ∙ sum-rows (λ r. r.forward_bytes) (row_among key) each;
+        backward_frames = of_files (λ xs. of_row frames_of (λ unit. not (is_forward unit)) key (counted_units xs))
+            (one_value key (λ unit. not (is_forward unit)) (λ unit. unit.frames))
+            (of_talk frames_of (λ unit. unit.frames) (λ unit. not (is_forward unit)) frames-add goes-back
+            in-frames key) tail files none lone
+            ∙ sum-rows (λ r. r.backward_frames) (row_among key) each;
+        backward_bytes = of_files (λ xs. of_row units_bytes (λ unit. not (is_forward unit)) key (counted_units xs))
+            (one_value key (λ unit. not (is_forward unit)) (λ unit. unit.bytes))
+            (of_talk units_bytes (λ unit. unit.bytes) (λ unit. not (is_forward unit)) bytes-add goes-back
+            in-bytes key) tail files none lone
+            ∙ sum-rows (λ r. r.backward_bytes) (row_among key) each;
+        first = λ time.
+            let by : CountedUnit → Bool = λ unit. is_by time (frame_time unit.first) in
+            let reads : ReadsNoPlace by =
+            record { same = λ p b n m meta ends. ap (is_by time) (time-of n m (meta_time meta)) } in
+            let count : List Taken → ℕ = λ xs. length (filter by (units_of_talk key (counted_units xs))) in
+            let is : (xs : List Taken) → is_by time (row_among key xs).first ≡ not (count xs == 0) =
+            λ xs. least-by time (units_of_talk key (counted_units xs)) in
+            is (taken_after [] (clocked_run tail files))
+            ∙ ap (λ n. not (n == 0)) (of_files count (one_value key by (λ unit. 1))
+            (of_talk length (λ unit. 1) by units-add reads in-each key) tail files none lone)
+            ∙ any-of count each
+            ∙ any-rows (λ r. is_by time r.first) (row_among key) (λ xs. not (count xs == 0)) is each;
+        last = λ time.
+            let from : CountedUnit → Bool = λ unit. is_from time (frame_time unit.last) in
+            let reads : ReadsNoPlace from =
+            record { same = λ p b n m meta ends. ap (is_from time) (time-of n m (meta_time meta)) } in
+            let count : List Taken → ℕ = λ xs. length (filter from (units_of_talk key (counted_units xs))) in
+            let is : (xs : List Taken) → is_from time (row_among key xs).last ≡ not (count xs == 0) =
+            λ xs. greatest-from time (units_of_talk key (counted_units xs)) in
+            is (taken_after [] (clocked_run tail files))
+            ∙ ap (λ n. not (n == 0)) (of_files count (one_value key from (λ unit. 1))
+            (of_talk length (λ unit. 1) from units-add reads in-each key) tail files none lone)
+            ∙ any-of count each
+            ∙ any-rows (λ r. is_from time r.last) (row_among key) (λ xs. not (count xs == 0)) is each;
+      };
+    }

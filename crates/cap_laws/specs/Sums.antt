@@ -1,0 +1,73 @@
+-- The report over several files that have no fragments is the sum of the reports over each file. With fragments it
+-- isn't: those of one datagram may come in two files.
+use Rattle.std.specs.Prelude.{◌≡◌, ◌+◌, ℕ, List, [], ◌∷◌, Bool, true, false, map, Option, Some, None, not}
+use Rattle.std.specs.Prelude.{if◌then◌else◌}
+use Rattle.std.specs.List.{list_any, sum_by}
+use Rattle.std.specs.Ordering.{is_gt}
+use Rattle.cap_bytes.specs.declared.faults.Tail.{Tail}
+use Rattle.cap_class.specs.Taken.{Classification, Taken, classify, datagram, fragment, plain}
+use Rattle.cap_class.specs.declared.classes.Class.{Class}
+use Rattle.cap_laws.specs.Totals.{TotalsAddUp}
+use Rattle.cap_merge.specs.Files.{clocked_run, run_of_files}
+use Rattle.cap_source.specs.Feed.{refusal_of}
+use Rattle.cap_talks.specs.declared.table.rows.TalkKey.{TalkKey}
+use Rattle.cap_talks.specs.declared.table.rows.TalkRow.{TalkRow}
+use Rattle.cap_talks.specs.table.Classes.{classes, times}
+use Rattle.cap_talks.specs.table.Conversations.{row_of, units_of_talk}
+use Rattle.cap_talks.specs.table.CountedUnits.{counted_units, given_up_in, joined_in}
+use Rattle.cap_talks.specs.talks.ReportText.{taken_after}
+use Rattle.cap_time.specs.Stamp.{stamp_cmp}
+use Rattle.cap_time.specs.declared.stamps.Stamp.{Stamp}
+
+-- whether a packet is a fragment of a datagram, by itself
+abbrev pub is_part : Classification → Bool
+is_part (plain c) = false
+is_part (datagram header captured) = false
+is_part (fragment p) = true
+
+-- how many of some packets are fragments
+abbrev pub parts_among : List Taken → ℕ
+parts_among [] = 0
+parts_among (x ∷ xs) = parts_among xs + (if is_part (classify 0 x) then 1 else 0)
+
+-- the row of a conversation in the report over some packets: that of no datagram, if it has none there
+abbrev pub row_among : TalkKey → List Taken → TalkRow
+row_among key xs = row_of (units_of_talk key (counted_units xs))
+
+-- a time is there and isn't after another, or isn't before it
+abbrev pub is_by : Stamp → Option Stamp → Bool
+is_by until None = false
+is_by until (Some time) = not (is_gt (stamp_cmp time until))
+
+abbrev pub is_from : Stamp → Option Stamp → Bool
+is_from since None = false
+is_from since (Some time) = not (is_gt (stamp_cmp since time))
+
+-- The counts of a row, in each direction, are the sums of those of several rows. Its first time is the least of theirs:
+-- it isn't after another time exactly if one of theirs isn't; and its last time is the greatest of theirs.
+pub record RowAddsUp (row : TalkRow) (rows : List TalkRow) : Type 0 where
+  pub forward_frames : row.forward_frames ≡ sum_by (λ r. r.forward_frames) rows
+  pub forward_bytes : row.forward_bytes ≡ sum_by (λ r. r.forward_bytes) rows
+  pub backward_frames : row.backward_frames ≡ sum_by (λ r. r.backward_frames) rows
+  pub backward_bytes : row.backward_bytes ≡ sum_by (λ r. r.backward_bytes) rows
+  pub first : (time : Stamp) → is_by time row.first ≡ list_any (λ r. is_by time r.first) rows
+  pub last : (time : Stamp) → is_from time row.last ≡ list_any (λ r. is_from time r.last) rows
+
+-- All that the report over some packets counts is the sum of what the reports over several lists of packets count: the
+-- line `total`, the packets of each class, the datagrams that were joined, the groups that were given up, and the row
+-- of each conversation.
+pub record ReportAddsUp (all : List Taken) (each : List (List Taken)) : Type 0 where
+  pub totals : TotalsAddUp all each
+  pub of_class : (c : Class) → times c (classes all) ≡ sum_by (λ xs. times c (classes xs)) each
+  pub joined : joined_in all ≡ sum_by joined_in each
+  pub given_up : given_up_in all ≡ sum_by given_up_in each
+  pub rows : (key : TalkKey) → RowAddsUp (row_among key all) (map (row_among key) each)
+
+-- If none of some files is refused, and none of their packets is a fragment, the report over all of them is the sum of
+-- the reports over each file alone.
+abbrev pub ReportSums : Type 0
+ReportSums =
+    (tail : Tail) (files : List (List ℕ)) → refusal_of (run_of_files tail files) ≡ None
+    → parts_among (taken_after [] (clocked_run tail files)) ≡ 0
+    → ReportAddsUp (taken_after [] (clocked_run tail files))
+    (map (λ bytes. taken_after [] (clocked_run tail (bytes ∷ []))) files)
