@@ -8,7 +8,10 @@ Prints, for each command, how many definitions and lines these are, by crate; wi
 what stands on nothing first, under the comments that head their files; with --page, their names by file, as docs/TRUSTED.md has them. Words of the toolchain's library and
 the fields of the types in src/ aren't listed.
 
-Use: checks/trusted.py [COMMAND | --page]
+With the name of a law, as `merge_sorts`, it prints the law's clauses and the definitions that they need beside those of the commands; with
+--laws, how many these are for each law.
+
+Use: checks/trusted.py [COMMAND | LAW | --laws | --page]
 """
 import pathlib, re, signal, sys
 
@@ -111,6 +114,57 @@ for path in sorted(TOP.glob("crates/*/specs/**/*.antt")):
     module, imports, wide, definitions, heads[module] = parsed(path)
     files[module] = imports, wide, definitions
 
+# a law: a public function without parameters, whose clauses say something of no call
+LAW = re.compile(r"^pub fn (\w+)\(\)\n((?:    ensures .*\n(?:        .*\n)*)+)", re.M)
+
+
+def laws():
+    """The laws by name: the clauses of each, and the definitions that they name."""
+    found = {}
+    for path in sorted(TOP.glob("crates/*/src/**/*.rt")):
+        text = path.read_text(encoding="utf-8")
+        imports = {}
+        for crate, inner, names in re.findall(r"^ghost use Rattle\.(\w+)\.specs\.([\w.]+)\.\{([^}]*)\}", text, re.M):
+            imports |= {name.strip(): f"{crate}.{inner}.{name.strip()}" for name in names.split(",")}
+        for name, clauses in LAW.findall(text):
+            named = [imports[word] for word in re.findall(r"[\w-]+", clauses) if word in imports]
+            # (two crates may each have a law of one name)
+            known, roots = found.get(name, ("", []))
+            found[name] = known + clauses, roots + [it for it in named if it.rpartition(".")[0] in files]
+    return found
+
+
+def print_definitions(parts):
+    """Prints definitions under the comments that head their files."""
+    module = ""
+    for lines, (where, _) in parts.items():
+        if where != module:
+            crate, *inner = where.split(".")
+            print(f"\n-- crates/{crate}/specs/{'/'.join(inner)}.antt\n{heads[where]}")
+            module = where
+        print("\n".join(lines) + "\n")
+
+
+def parts_of(names):
+    """Definitions by their lines, since a type of several cases stands under each of their names."""
+    parts = {}
+    for name in names:
+        module = name.rpartition(".")[0]
+        parts.setdefault(tuple(files[module][2][name]), (module, name))
+    return parts
+
+
+if sys.argv[1:] and sys.argv[1] not in (*ROOTS, "--page"):
+    of_commands = set(closure([root for roots in ROOTS.values() for root in roots], files))
+    for law, (clauses, roots) in laws().items():
+        parts = parts_of(it for it in closure(roots, files) if it not in of_commands)
+        if sys.argv[1] == law:
+            print(f"{clauses}\n{len(parts)} definitions beside those of the commands")
+            print_definitions(parts)
+        elif sys.argv[1] == "--laws":
+            print(f"{law}: {len(parts)} definitions, {sum(map(len, parts))} lines")
+    sys.exit(f"no command or law {sys.argv[1]}" if sys.argv[1] not in (*laws(), "--laws") else 0)
+
 PAGE = """# What must be read
 
 For verifiers: the definitions on which the text of a command rests, by file, what stands on nothing first; a type of
@@ -123,10 +177,7 @@ if is_page:
 
 for command, roots in ROOTS.items():
     order = closure(roots, files)
-    parts = {}
-    for name in order:
-        module = name.rpartition(".")[0]
-        parts.setdefault(tuple(files[module][2][name]), (module, name))
+    parts = parts_of(order)
     if is_page:
         count = sum(len(lines) for lines in parts)
         print(f"\n## capt {command}\n\n{len(parts)} definitions, {count} lines.\n\n| file | definitions |\n|---|---|")
@@ -137,13 +188,7 @@ for command, roots in ROOTS.items():
         continue
     if len(sys.argv) > 1:
         if sys.argv[1] == command:
-            module = ""
-            for lines, (where, _) in parts.items():
-                if where != module:
-                    crate, *inner = where.split(".")
-                    print(f"\n-- crates/{crate}/specs/{'/'.join(inner)}.antt\n{heads[where]}")
-                    module = where
-                print("\n".join(lines) + "\n")
+            print_definitions(parts)
         continue
     crates = {}
     for lines, (where, _) in parts.items():

@@ -17,8 +17,10 @@ use Rattle.cap_ip.specs.Header.{HeaderFields}
 use Rattle.cap_ip.specs.Read.{Reading, bad, cut, found, read_of}
 use Rattle.cap_ip.specs.Transport.{transport_of}
 use Rattle.cap_ip.specs.declared.headers.Fragment.{Fragment}
-use Rattle.cap_join.specs.Completed.{completed_of}
-use Rattle.cap_join.specs.History.{Event, open_groups_after, step}
+use Rattle.cap_join.specs.Completed.{completed_pieces_at}
+use Rattle.cap_join.specs.History.{Event}
+use Rattle.cap_join.specs.Places.{marks, times_given_up}
+use Rattle.cap_laws.specs.InOrder.{classes_at, groups_at, marks_of, unit_after, unit_by_places, units_at}
 use Rattle.cap_join.specs.Joiners.{open_limit}
 use Rattle.cap_join.specs.declared.datagrams.Stamped.{Stamped}
 use Rattle.cap_laws.proofs.Totals.{IsSum, adds_up, totals-law}
@@ -37,15 +39,13 @@ use Rattle.cap_talks.specs.declared.table.rows.TalkRow.{TalkRow}
 use Rattle.cap_talks.specs.declared.table.units.CountedUnit.{CountedUnit}
 use Rattle.cap_talks.specs.declared.table.units.Endpoint.{Endpoint}
 use Rattle.cap_talks.specs.declared.table.units.TimedFrame.{TimedFrame}
-use Rattle.cap_talks.specs.table.Classes.{class_by, classes, classes_in, groups_of, is_class, lone_class, times}
+use Rattle.cap_talks.specs.table.CountedUnits.{counted_in, listed, timed_frame, unit_of, whole_unit}
+use Rattle.cap_talks.specs.table.Classes.{class_by, classes_in, is_class, lone_class, times}
 use Rattle.cap_talks.specs.table.Conversations.{by_time, by_time_down, earlier_frame, frame_time, frames_of}
 use Rattle.cap_talks.specs.table.Conversations.{greatest_frame}
 use Rattle.cap_talks.specs.table.Conversations.{is_forward, later_frame, least_frame, same_talk, talk_key}
 use Rattle.cap_talks.specs.table.Conversations.{units_bytes}
 use Rattle.cap_talks.specs.table.Conversations.{units_of_talk}
-use Rattle.cap_talks.specs.table.CountedUnits.{counted_in, counted_units, given_up_in, joined_in, listed, timed_frame}
-use Rattle.cap_talks.specs.table.CountedUnits.{unit_at}
-use Rattle.cap_talks.specs.table.CountedUnits.{unit_by, unit_of, whole_unit}
 use Rattle.cap_talks.specs.table.Units.{ends_of}
 use Rattle.cap_time.proofs.StampForms.{stamp_upto_trans, stamp_upto_turned}
 use Rattle.cap_time.specs.Stamp.{stamp_cmp}
@@ -186,36 +186,33 @@ no-parts : (x : Taken) (xs : List Taken) → parts_among (x ∷ xs) ≡ 0 → pa
 no-parts x xs none = omega (arith, none)
 
 completed-same : (k : Classification) (clock : Option Stamp) (events : List Event) → is_part k ≡ false
-    → completed_of open_limit (events_classified k clock events) ≡ completed_of open_limit events
-unfolding completed_of
+    → completed_pieces_at (marks open_limit (events_classified k clock events))
+    ≡ completed_pieces_at (marks open_limit events)
 completed-same (plain c) clock events h = refl
 completed-same (datagram header captured) clock events h = refl
 completed-same (fragment p) clock events h = grind (arith, h)
 
-no-groups : (xs : List Taken) → parts_among xs ≡ 0 → groups_of xs ≡ []
-unfolding events_of completed_of
+no-groups : (xs : List Taken) → parts_among xs ≡ 0 → groups_at xs ≡ []
+unfolding events_of
 no-groups [] none = refl
 no-groups (x ∷ xs) none =
     completed-same (classify (length xs) x) x.clock (events_of xs) (no-part x xs none)
     ∙ no-groups xs (no-parts x xs none)
 
 given-same : (k : Classification) (clock : Option Stamp) (events : List Event) → is_part k ≡ false
-    → (open_groups_after open_limit (events_classified k clock events)).given_up
-    ≡ (open_groups_after open_limit events).given_up
-unfolding open_groups_after step
+    → times_given_up (marks open_limit (events_classified k clock events)) ≡ times_given_up (marks open_limit events)
 given-same (plain c) clock events h = refl
 given-same (datagram header captured) clock events h = refl
 given-same (fragment p) clock events h = grind (arith, h)
 
-none-given : (xs : List Taken) → parts_among xs ≡ 0 → given_up_in xs ≡ 0
-unfolding events_of open_groups_after
+none-given : (xs : List Taken) → parts_among xs ≡ 0 → times_given_up (marks_of xs) ≡ 0
+unfolding events_of
 none-given [] none = refl
 none-given (x ∷ xs) none =
     given-same (classify (length xs) x) x.clock (events_of xs) (no-part x xs none)
     ∙ none-given xs (no-parts x xs none)
 
-of_class : (c : Class) → IsSumOf (λ xs. times c (classes xs)) (one_of_class c)
-unfolding classes
+of_class : (c : Class) → IsSumOf (λ xs. times c (classes_at xs)) (one_of_class c)
 of_class c =
     record {
       sum = λ xs. times c (classes_in [] xs);
@@ -252,7 +249,7 @@ own_unit (datagram header captured) stamped = whole_unit header captured stamped
 own_unit (fragment p) stamped = None
 
 own-is : (k : Classification) (stamped : Stamped) (clock : Option Stamp) (events : List Event) → is_part k ≡ false
-    → unit_by k stamped clock events ≡ own_unit k stamped
+    → unit_by_places k stamped clock events ≡ own_unit k stamped
 unfolding own_unit
 own-is (plain c) stamped clock events h = refl
 own-is (datagram header captured) stamped clock events h = refl
@@ -376,8 +373,8 @@ value_numbered key dir each file (refused refusal) = refl
 -- what the unit at a packet adds
 at-packet : (dir : CountedUnit → Bool) (each : CountedUnit → ℕ) → ReadsNoPlace dir → ReadsNoPlace each → (key : TalkKey)
     (x : Taken) (xs : List Taken) → parts_among (x ∷ xs) ≡ 0
-    → of_unit key dir each (unit_at xs x) ≡ own_value key dir each x.meta x.frame
-unfolding unit_at own_value classify
+    → of_unit key dir each (unit_after xs x) ≡ own_value key dir each x.meta x.frame
+unfolding own_value classify
 at-packet dir each d e key x xs none =
     ap (of_unit key dir each)
     (own-is (classify (length xs) x) (stamped_of (length xs) x.meta) x.clock (events_of xs) (no-part x xs none))
@@ -386,17 +383,17 @@ at-packet dir each d e key x xs none =
 
 row-same : (total : List CountedUnit → ℕ) (each : CountedUnit → ℕ) (dir : CountedUnit → Bool) → Adds total each
     → ReadsNoPlace dir → ReadsNoPlace each → (key : TalkKey) (xs : List Taken) → parts_among xs ≡ 0
-    → of_row total dir key (counted_units xs) ≡ own_values key dir each xs
-unfolding counted_units own_values of_unit
+    → of_row total dir key (units_at xs) ≡ own_values key dir each xs
+unfolding units_at own_values of_unit
 row-same total each dir adds d e key [] none = row-listed total each adds dir key None
 row-same total each dir adds d e key (x ∷ xs) none =
-    row-append total each adds dir key (counted_units xs) (listed (unit_at xs x))
+    row-append total each adds dir key (units_at xs) (listed (unit_after xs x))
     ∙ (λ i. row-same total each dir adds d e key xs (no-parts x xs none) i
-    + (row-listed total each adds dir key (unit_at xs x) ∙ at-packet dir each d e key x xs none) i)
+    + (row-listed total each adds dir key (unit_after xs x) ∙ at-packet dir each d e key x xs none) i)
 
 of_talk : (total : List CountedUnit → ℕ) (each : CountedUnit → ℕ) (dir : CountedUnit → Bool) → Adds total each
     → ReadsNoPlace dir → ReadsNoPlace each → (key : TalkKey)
-    → IsSumOf (λ xs. of_row total dir key (counted_units xs)) (one_value key dir each)
+    → IsSumOf (λ xs. of_row total dir key (units_at xs)) (one_value key dir each)
 unfolding own_values
 of_talk total each dir adds d e key =
     record {
@@ -549,27 +546,28 @@ sums-law tail files none lone =
     let in-bytes : ReadsNoPlace (λ unit. unit.bytes) = record { same = λ p b n m meta ends. refl } in
     record {
       totals = totals-law tail files none;
-      of_class = λ c. of_files (λ xs. times c (classes xs)) (one_of_class c) (of_class c) tail files none lone;
-      joined = of_files joined_in (λ item. 0)
-          (nothing joined_in (λ xs no. ap counted_in (no-groups xs no))) tail files none lone;
-      given_up = of_files given_up_in (λ item. 0) (nothing given_up_in none-given) tail files none lone;
+      of_class = λ c. of_files (λ xs. times c (classes_at xs)) (one_of_class c) (of_class c) tail files none lone;
+      joined = of_files (λ xs. counted_in (groups_at xs)) (λ item. 0)
+          (nothing (λ xs. counted_in (groups_at xs)) (λ xs no. ap counted_in (no-groups xs no))) tail files none lone;
+      given_up = of_files (λ xs. times_given_up (marks_of xs)) (λ item. 0)
+          (nothing (λ xs. times_given_up (marks_of xs)) none-given) tail files none lone;
       rows = λ key. record {
-        forward_frames = of_files (λ xs. of_row frames_of is_forward key (counted_units xs))
+        forward_frames = of_files (λ xs. of_row frames_of is_forward key (units_at xs))
             (one_value key is_forward (λ unit. unit.frames))
             (of_talk frames_of (λ unit. unit.frames) is_forward frames-add goes-forward in-frames key)
             tail files none lone
             ∙ sum-rows (λ r. r.forward_frames) (row_among key) each;
-        forward_bytes = of_files (λ xs. of_row units_bytes is_forward key (counted_units xs))
+        forward_bytes = of_files (λ xs. of_row units_bytes is_forward key (units_at xs))
             (one_value key is_forward (λ unit. unit.bytes))
             (of_talk units_bytes (λ unit. unit.bytes) is_forward bytes-add goes-forward in-bytes key)
             tail files none lone
             ∙ sum-rows (λ r. r.forward_bytes) (row_among key) each;
-        backward_frames = of_files (λ xs. of_row frames_of (λ unit. not (is_forward unit)) key (counted_units xs))
+        backward_frames = of_files (λ xs. of_row frames_of (λ unit. not (is_forward unit)) key (units_at xs))
             (one_value key (λ unit. not (is_forward unit)) (λ unit. unit.frames))
             (of_talk frames_of (λ unit. unit.frames) (λ unit. not (is_forward unit)) frames-add goes-back
             in-frames key) tail files none lone
             ∙ sum-rows (λ r. r.backward_frames) (row_among key) each;
-        backward_bytes = of_files (λ xs. of_row units_bytes (λ unit. not (is_forward unit)) key (counted_units xs))
+        backward_bytes = of_files (λ xs. of_row units_bytes (λ unit. not (is_forward unit)) key (units_at xs))
             (one_value key (λ unit. not (is_forward unit)) (λ unit. unit.bytes))
             (of_talk units_bytes (λ unit. unit.bytes) (λ unit. not (is_forward unit)) bytes-add goes-back
             in-bytes key) tail files none lone
@@ -578,9 +576,9 @@ sums-law tail files none lone =
             let by : CountedUnit → Bool = λ unit. is_by time (frame_time unit.first) in
             let reads : ReadsNoPlace by =
             record { same = λ p b n m meta ends. ap (is_by time) (time-of n m (meta_time meta)) } in
-            let count : List Taken → ℕ = λ xs. length (filter by (units_of_talk key (counted_units xs))) in
+            let count : List Taken → ℕ = λ xs. length (filter by (units_of_talk key (units_at xs))) in
             let is : (xs : List Taken) → is_by time (row_among key xs).first ≡ not (count xs == 0) =
-            λ xs. least-by time (units_of_talk key (counted_units xs)) in
+            λ xs. least-by time (units_of_talk key (units_at xs)) in
             is (taken_after [] (clocked_run tail files))
             ∙ ap (λ n. not (n == 0)) (of_files count (one_value key by (λ unit. 1))
             (of_talk length (λ unit. 1) by units-add reads in-each key) tail files none lone)
@@ -590,9 +588,9 @@ sums-law tail files none lone =
             let from : CountedUnit → Bool = λ unit. is_from time (frame_time unit.last) in
             let reads : ReadsNoPlace from =
             record { same = λ p b n m meta ends. ap (is_from time) (time-of n m (meta_time meta)) } in
-            let count : List Taken → ℕ = λ xs. length (filter from (units_of_talk key (counted_units xs))) in
+            let count : List Taken → ℕ = λ xs. length (filter from (units_of_talk key (units_at xs))) in
             let is : (xs : List Taken) → is_from time (row_among key xs).last ≡ not (count xs == 0) =
-            λ xs. greatest-from time (units_of_talk key (counted_units xs)) in
+            λ xs. greatest-from time (units_of_talk key (units_at xs)) in
             is (taken_after [] (clocked_run tail files))
             ∙ ap (λ n. not (n == 0)) (of_files count (one_value key from (λ unit. 1))
             (of_talk length (λ unit. 1) from units-add reads in-each key) tail files none lone)

@@ -1,5 +1,5 @@
 -- The report over several files that have no fragments is the sum of the reports over each file. With fragments it
--- isn't: those of one datagram may come in two files.
+-- isn't: those of one datagram may come in two files. The report is the one by places (`InOrder.antt`).
 use Rattle.std.specs.Prelude.{◌≡◌, ◌+◌, ℕ, List, [], ◌∷◌, Bool, true, false, map, Option, Some, None, not}
 use Rattle.std.specs.Prelude.{if◌then◌else◌}
 use Rattle.std.specs.List.{list_any, sum_by}
@@ -7,14 +7,16 @@ use Rattle.std.specs.Ordering.{is_gt}
 use Rattle.cap_bytes.specs.declared.faults.Tail.{Tail}
 use Rattle.cap_class.specs.Taken.{Classification, Taken, classify, datagram, fragment, plain}
 use Rattle.cap_class.specs.declared.classes.Class.{Class}
+use Rattle.cap_join.specs.Places.{times_given_up}
+use Rattle.cap_laws.specs.InOrder.{classes_at, groups_at, marks_of, units_at}
 use Rattle.cap_laws.specs.Totals.{TotalsAddUp}
 use Rattle.cap_merge.specs.Files.{clocked_run, run_of_files}
 use Rattle.cap_source.specs.Feed.{refusal_of}
 use Rattle.cap_talks.specs.declared.table.rows.TalkKey.{TalkKey}
 use Rattle.cap_talks.specs.declared.table.rows.TalkRow.{TalkRow}
-use Rattle.cap_talks.specs.table.Classes.{classes, times}
+use Rattle.cap_talks.specs.table.Classes.{times}
 use Rattle.cap_talks.specs.table.Conversations.{row_of, units_of_talk}
-use Rattle.cap_talks.specs.table.CountedUnits.{counted_units, given_up_in, joined_in}
+use Rattle.cap_talks.specs.table.CountedUnits.{counted_in}
 use Rattle.cap_talks.specs.talks.ReportText.{taken_after}
 use Rattle.cap_time.specs.Stamp.{stamp_cmp}
 use Rattle.cap_time.specs.declared.stamps.Stamp.{Stamp}
@@ -32,7 +34,7 @@ parts_among (x ∷ xs) = parts_among xs + (if is_part (classify 0 x) then 1 else
 
 -- the row of a conversation in the report over some packets: that of no datagram, if it has none there
 abbrev pub row_among : TalkKey → List Taken → TalkRow
-row_among key xs = row_of (units_of_talk key (counted_units xs))
+row_among key xs = row_of (units_of_talk key (units_at xs))
 
 -- a time is there and isn't after another, or isn't before it
 abbrev pub is_by : Stamp → Option Stamp → Bool
@@ -58,9 +60,9 @@ pub record RowAddsUp (row : TalkRow) (rows : List TalkRow) : Type 0 where
 -- of each conversation.
 pub record ReportAddsUp (all : List Taken) (each : List (List Taken)) : Type 0 where
   pub totals : TotalsAddUp all each
-  pub of_class : (c : Class) → times c (classes all) ≡ sum_by (λ xs. times c (classes xs)) each
-  pub joined : joined_in all ≡ sum_by joined_in each
-  pub given_up : given_up_in all ≡ sum_by given_up_in each
+  pub of_class : (c : Class) → times c (classes_at all) ≡ sum_by (λ xs. times c (classes_at xs)) each
+  pub joined : counted_in (groups_at all) ≡ sum_by (λ xs. counted_in (groups_at xs)) each
+  pub given_up : times_given_up (marks_of all) ≡ sum_by (λ xs. times_given_up (marks_of xs)) each
   pub rows : (key : TalkKey) → RowAddsUp (row_among key all) (map (row_among key) each)
 
 -- If none of some files is refused, and none of their packets is a fragment, the report over all of them is the sum of
