@@ -24,7 +24,7 @@ use Rattle.cap_laws.specs.InOrder.{classes_at, groups_at, marks_of, unit_after, 
 use Rattle.cap_join.specs.Joiners.{open_limit}
 use Rattle.cap_join.specs.declared.datagrams.Stamped.{Stamped}
 use Rattle.cap_laws.proofs.Totals.{IsSum, adds_up, totals-law}
-use Rattle.cap_laws.specs.Sums.{ReportSums, is_by, is_from, is_part, parts_among}
+use Rattle.cap_laws.specs.Sums.{LoneClasses, ReportSums, is_by, is_from, is_part, parts_among}
 use Rattle.cap_laws.specs.Sums.{row_among}
 use Rattle.cap_laws.specs.again.Rounds.{in_file}
 use Rattle.cap_link.specs.Links.{is_captured_whole, network_of}
@@ -598,3 +598,10 @@ sums-law tail files none lone =
             ∙ any-rows (λ r. is_from time r.last) (row_among key) (λ xs. not (count xs == 0)) is each;
       };
     }
+
+lone-in : (xs : List Taken) → classes_in [] xs ≡ map (λ x. lone_class x.meta x.frame) xs
+lone-in [] = refl
+lone-in (x ∷ xs) = λ i. lone-place (length xs) x.clock x.meta x.frame i ∷ lone-in xs i
+
+pub lone-law : LoneClasses
+lone-law xs none = ap (λ groups. classes_in groups xs) (no-groups xs none) ∙ lone-in xs

@@ -14,7 +14,7 @@ use Rattle.cap_merge.specs.Files.{clocked_run, run_of_files}
 use Rattle.cap_source.specs.Feed.{refusal_of}
 use Rattle.cap_talks.specs.declared.table.rows.TalkKey.{TalkKey}
 use Rattle.cap_talks.specs.declared.table.rows.TalkRow.{TalkRow}
-use Rattle.cap_talks.specs.table.Classes.{times}
+use Rattle.cap_talks.specs.table.Classes.{lone_class, times}
 use Rattle.cap_talks.specs.table.Conversations.{row_of, units_of_talk}
 use Rattle.cap_talks.specs.table.CountedUnits.{counted_in}
 use Rattle.cap_talks.specs.talks.ReportText.{taken_after}
@@ -73,3 +73,7 @@ ReportSums =
     → parts_among (taken_after [] (clocked_run tail files)) ≡ 0
     → ReportAddsUp (taken_after [] (clocked_run tail files))
     (map (λ bytes. taken_after [] (clocked_run tail (bytes ∷ []))) files)
+
+-- If none of some packets is a fragment, each has the class that it has in a report over it alone.
+abbrev pub LoneClasses : Type 0
+LoneClasses = (xs : List Taken) → parts_among xs ≡ 0 → classes_at xs ≡ map (λ x. lone_class x.meta x.frame) xs

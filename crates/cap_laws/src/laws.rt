@@ -11,7 +11,7 @@ ghost use Rattle.cap_laws.specs.MergeSorts.{MergeSorts, RunSorts, SortsOnce};
 ghost use Rattle.cap_laws.specs.Reports.{MergedReport, PcapngReport, RuleLaw};
 ghost use Rattle.cap_laws.specs.Rounds.{RoundsInBytes};
 ghost use Rattle.cap_laws.specs.Runs.{MergedRun, PcapngRun};
-ghost use Rattle.cap_laws.specs.Sums.{ReportSums};
+ghost use Rattle.cap_laws.specs.Sums.{LoneClasses, ReportSums};
 ghost use Rattle.cap_laws.specs.Totals.{ReportTotals};
 ghost use Rattle.cap_laws.specs.WorkedReport.{Overlapped, Tagged};
 ghost use Rattle.cap_talks.specs.table.Classes.{OneClass};
@@ -138,9 +138,11 @@ pub fn report_totals()
 /// If none of some files is refused, and none of their packets is a fragment, all that the report over them counts is
 /// the sum of what the reports over each file alone count: the line `total`, the packets of each class, and the row of
 /// each conversation in both directions, whose first time is the least of theirs and whose last is the greatest. So
-/// machines may share an archive, and add up.
+/// machines may share an archive, and add up (`sums`). Each packet has the class then that it has in a report over it
+/// alone (`alone`).
 pub fn report_sums()
-    ensures { ReportSums }
+    ensures sums { ReportSums }
+    ensures alone { LoneClasses }
 {}
 
 /// Each packet has one class, and the seven counts add up to the number of packets.

@@ -77,3 +77,12 @@ pub(crate) const WHOLE_DASH: &str = "error: the argument '--whole' cannot be use
 
 For more information, try '--help'.
 ";
+
+// What is added to a message about words that ask for conversations, or for an output as tcpdump and tshark do.
+pub(crate) const TALKS_TIP: &str = "
+  tip: 'capt report' prints conversations
+";
+
+pub(crate) const WRITE_TIP: &str = "
+  tip: 'convert', 'merge' and 'join' write to '-o OUT'
+";

@@ -14,7 +14,7 @@ use crate::jobs::{
     Job, can_replace, can_show, check_files, data_of, format_of, is_whole, order_of, task_of,
 };
 use crate::shown::{escape, escape_lines};
-use crate::usage::{DATA_ALONE, DATA_NUMBER, WHOLE_DASH};
+use crate::usage::{DATA_ALONE, DATA_NUMBER, TALKS_TIP, WHOLE_DASH, WRITE_TIP};
 use clap::error::ErrorKind;
 use clap::{ArgMatches, Error};
 use std::alloc::{AllocError, Global};
@@ -46,6 +46,35 @@ fn refusal_of<S: AsStr>(alloc: Global, words: &[S]) -> Option<String> {
     format!(in alloc; "{error}").ok()
 }
 
+// Whether a word names what other programs call their list of conversations.
+fn is_talks(word: &str) -> bool {
+    word == "talks" || word == "conversations"
+}
+
+// What words are here that other programs take: the name of a command, or of the option for an output.
+fn tip_of<S: AsStr>(words: &[S]) -> Option<&'static str> {
+    if is_talks(words.get(1)?.as_str()) {
+        return Some(TALKS_TIP);
+    }
+    for word in words.iter() {
+        if word.as_str() == "-w" {
+            return Some(WRITE_TIP);
+        }
+    }
+    None
+}
+
+// The text of clap's error of that kind at those words, and a tip, if it refuses words that other programs take.
+fn with_tip<S: AsStr>(text: String, kind: ErrorKind, words: &[S]) -> Option<String> {
+    let mut text = text;
+    if fault_by(kind) == LineFault::Line {
+        if let Some(tip) = tip_of(words) {
+            text.push_str(tip).ok()?;
+        }
+    }
+    Some(text)
+}
+
 // The text of clap's error at those words, unless memory ran out. The words are named as a terminal shows them.
 fn said_by<S: AsStr>(alloc: Global, error: Error, words: &[S]) -> Option<String>
     ensures kind { IsSome result → kind_of error ≢ ErrorKind.OutOfMemory }
@@ -59,6 +88,7 @@ fn said_by<S: AsStr>(alloc: Global, error: Error, words: &[S]) -> Option<String>
         Some(text) => text,
         None => format!(in alloc; "{error}").ok()?,
     };
+    let text = with_tip(text, error.kind(), words)?;
     escape_lines(alloc, text.as_str()).ok()
 }
 
