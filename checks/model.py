@@ -460,9 +460,9 @@ def report(files):
     return "".join(lines), None
 
 
-def packet_line(n, p):
+def packet_line(n, p, start=0):
     return (f"packet {n} offset {p.offset} time {printed(p)} captured {p.captured} original {p.original} "
-            f"link {p.interface.link} data {p.data[:16].hex() or '-'}\n")
+            f"link {p.interface.link} data {p.data[start:start + 16].hex() or '-'}\n")
 
 
 def list_(files):
@@ -476,6 +476,13 @@ def differences(a, b):
     pairs = [("link", a.interface.link, b.interface.link), ("time", time_of(a), time_of(b)), ("captured", a.captured, b.captured),
              ("original", a.original, b.original), ("data", a.data, b.data)]
     return [name for name, of_a, of_b in pairs if of_a != of_b]
+
+
+def data_place(a, b):
+    """Where the captured bytes of two packets differ, from 0; None if they are the same, or if one packet isn't there."""
+    if a is None or b is None or a.data == b.data:
+        return None
+    return next((place for place, (one, other) in enumerate(zip(a.data, b.data)) if one != other), min(len(a.data), len(b.data)))
 
 
 def first_difference(files):
@@ -498,8 +505,10 @@ def diff(files):
     n, words, *packets = found
     if not words:
         return f"same packets {n}\n", None
-    sides = [f"{sign} {packet_line(n, packet) if packet else 'end' + chr(10)}" for sign, packet in zip("-+", packets)]
-    return f"differ packet {n} {' '.join(words)}\n{''.join(sides)}", None
+    place = data_place(*packets)
+    row = 0 if place is None else place // 16 * 16
+    sides = [f"{sign} {packet_line(n, packet, row) if packet else 'end' + chr(10)}" for sign, packet in zip("-+", packets)]
+    return f"differ packet {n} {' '.join(words)}{'' if place is None else f' at {place}'}\n{''.join(sides)}", None
 
 
 def blocks(files):

@@ -67,7 +67,8 @@ def object_of(line):
                 "forward": {"packets": int(out), "bytes": int(out_bytes)}, "backward": {"packets": int(back), "bytes": int(back_bytes)},
                 "first": time_of(first), "last": time_of(last)}
     if kind == "differ":
-        return {"type": kind, "packet": int(words[1]), "differs": words[2:]}
+        words, place = (words[:-2], {"data_at": int(words[-1])}) if "at" in words else (words, {})
+        return {"type": kind, "packet": int(words[1]), "differs": words[2:], **place}
     if kind in "-+":
         return {"type": "side", "side": kind, "packet": None if words == ["end"] else object_of(" ".join(words))}
     if kind == "digest":
@@ -87,8 +88,16 @@ def spelled(value):
     return json.dumps(value, separators=(",", ":"), ensure_ascii=False) + "\n"
 
 
+def all_objects(text):
+    """The objects of a command's lines. Of `diff` a side has the byte from which on its bytes are shown, if that isn't the first."""
+    objects = [object_of(line) for line in text.splitlines()]
+    row = objects[0].get("data_at", 0) // 16 * 16 if objects else 0
+    return [{"type": "side", "side": it["side"], "data_from": row, "packet": it["packet"]} if row and it["type"] == "side" else it
+            for it in objects]
+
+
 def objects_of(text):
-    return "".join(spelled(object_of(line)) for line in text.splitlines())
+    return "".join(spelled(it) for it in all_objects(text))
 
 
 def refused_object(refusal, path):

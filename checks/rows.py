@@ -11,7 +11,7 @@ import hashlib, itertools, json, os, re, struct, tempfile
 
 from captures import (CARRIED as PACKET, INTERFACE, MICRO_LITTLE, PROGRAM, SECTION, Bench, Count, datagram, make_shim, packet, pcap_header,
                       record, run, vector, wanted_of)
-from objects import object_of
+from objects import all_objects
 
 ETHERNET = f"{MICRO_LITTLE} 01000000"
 SECTION_BIG = "0a0d0d0a 0000001c 1a2b3c4d 0001 0000 ffffffffffffffff 0000001c"
@@ -63,6 +63,18 @@ NOT_LISTED = [
 
 def listed(number, offset, time="2+500000/1000000", original=4, link=1):
     return f"packet {number} offset {offset} time {time} captured 4 original {original} link {link} data 01020304\n"
+
+
+def of_data(data):
+    """A capture of one packet of those bytes, all of which were captured."""
+    size = (len(data) // 2).to_bytes(4, "little").hex()
+    return f"{ETHERNET} 02000000 20a10700 {size} {size} {data}"
+
+
+def shown(data, digits):
+    """Its line, with those digits of its bytes."""
+    size = len(data) // 2
+    return f"packet 1 offset 24 time 2+500000/1000000 captured {size} original {size} link 1 data {digits}\n"
 
 
 def enhanced(number):
@@ -556,18 +568,34 @@ RECORD = CARRIED.removeprefix(ETHERNET)
 LATER = f"{ETHERNET} 02000000 21a10700 04000000 04000000 01020304"
 OTHER = f"{MICRO_LITTLE} 65000000 03000000 00000000 03000000 06000000 0102ff"
 OTHER_LINE = "packet {} offset 24 time 3+0/1000000 captured 3 original 6 link 101 data 0102ff\n"
+# 70 bytes, others, where they differ, and what is shown of both: the 16 bytes of that row, or all that is left of it
+SEVENTY = bytes(range(70)).hex()
+FIRST, SECOND, FOURTH = "000102030405060708090a0b0c0d0e0f", "101112131415161718191a1b1c1d1e1f", "303132333435363738393a3b3c3d3e3f"
+PLACED = [
+    (SEVENTY[:30] + "ff" + SEVENTY[32:], "data at 15", FIRST, FIRST[:-2] + "ff"),
+    (SEVENTY[:32] + "ff" + SEVENTY[34:], "data at 16", SECOND, "ff" + SECOND[2:]),
+    (SEVENTY[:120] + "ff" + SEVENTY[122:], "data at 60", FOURTH, "303132333435363738393a3bff3d3e3f"),
+    (SEVENTY[:-2] + "ff", "data at 69", "404142434445", "4041424344ff"),
+    (SEVENTY[:96], "captured original data at 48", FOURTH, "-"),
+    (SEVENTY[:98], "captured original data at 49", FOURTH, "30"),
+    ("", "captured original data at 0", FIRST, "-"),
+]
 COMPARED = [
     *((CARRIED, other, False, SAME) for other in (CARRIED, CARRIED_BIG, vector("CARRY_PCAPNG").hex(), CARRY_BIG, NANO, HALVES, EARLIER, SKIPPING)),
     (HALVES, NANO, False, SAME), (UNTIMED, UNTIMED, False, SAME), (ETHERNET, SECTION, False, "same packets 0\n"),
     (CARRIED + RECORD, NANO + NANO_RECORD, False, "same packets 2\n"),
     (CARRIED, LATER, False, f"differ packet 1 time\n- {listed(1, 24)}+ {listed(1, 24, '2+500001/1000000')}"),
     (UNTIMED, CARRIED, False, f"differ packet 1 time\n- {listed(1, 48, '-')}+ {listed(1, 24)}"),
-    (CARRIED, CARRIED[:-1] + "5", False, f"differ packet 1 data\n- {listed(1, 24)}+ {listed(1, 24)[:-3]}05\n"),
+    (CARRIED, CARRIED[:-1] + "5", False, f"differ packet 1 data at 3\n- {listed(1, 24)}+ {listed(1, 24)[:-3]}05\n"),
     (CARRIED, CARRIED.replace("04000000 01020304", "05000000 01020304"), False,
      f"differ packet 1 original\n- {listed(1, 24)}+ {listed(1, 24, original=5)}"),
     (CARRIED.replace(ETHERNET, f"{MICRO_LITTLE} 65000000"), NANO, False,
      f"differ packet 1 link\n- {listed(1, 24, link=101)}+ {listed(1, 24, '2+500000000/1000000000')}"),
-    (OTHER, CARRIED, False, f"differ packet 1 link time captured original data\n- {OTHER_LINE.format(1)}+ {listed(1, 24)}"),
+    (OTHER, CARRIED, False, f"differ packet 1 link time captured original data at 2\n- {OTHER_LINE.format(1)}+ {listed(1, 24)}"),
+    *((of_data(SEVENTY), of_data(other), False, f"differ packet 1 {words}\n- {shown(SEVENTY, left)}+ {shown(other, right)}")
+      for other, words, left, right in PLACED),
+    *((of_data(other), of_data(SEVENTY), False, f"differ packet 1 {words}\n- {shown(other, right)}+ {shown(SEVENTY, left)}")
+      for other, words, left, right in PLACED),
     (CARRIED + RECORD, CARRIED, False, f"differ packet 2 end\n- {listed(2, 44)}+ end\n"),
     (SECTION, CARRIED, False, f"differ packet 1 end\n- end\n+ {listed(1, 24)}"),
     # cut: refused where both come to it, the first file before the second, and not if they differ before
@@ -620,7 +648,7 @@ INFO_JSON = ('{"type":"files","files":1}\n{"type":"file","file":1,"format":"pcap
 SIDE_JSON = '{"type":"side","side":"%s","packet":%s}\n'
 ENDED_JSON = ('{"type":"differ","packet":1,"differs":["end"]}\n' + SIDE_JSON % ("-", (LISTED_JSON % "01020304").strip())
               + SIDE_JSON % ("+", "null"))
-LATER_JSON = ('{"type":"differ","packet":1,"differs":["time","data"]}\n' + SIDE_JSON % ("-", (LISTED_JSON % "01020304").strip())
+LATER_JSON = ('{"type":"differ","packet":1,"differs":["time","data"],"data_at":3}\n' + SIDE_JSON % ("-", (LISTED_JSON % "01020304").strip())
               + SIDE_JSON % ("+", (LISTED_JSON % "01020305").strip().replace("60", "24").replace("500000", "500001", 1)))
 DIGEST_JSON = f'{{"type":"digest","file":%d,"sha256":"{hashlib.sha256(bytes.fromhex(CARRIED_TEXT)).hexdigest()}","packets":1,"cut":false}}\n'
 CUT_AT_60 = "refused offset 60 rule 3 cut"
@@ -640,7 +668,7 @@ LINES = [
     ("diff a b", prints(SAME)), ("diff a carried", prints(SAME)), ("diff carried - < b", prints(SAME)), ("diff --explain a b", prints(SAME)),
     ("diff - --allow-cut cut", differs(f"differ packet 1 end\n- {listed(1, 60)}+ end\n")), ("diff - -", INPUT),
     ("diff a cut", (1, b"", b"refused: file 2 offset 60 rule 3 cut\n", None)), ("diff none a", (1, b"", b"fault: open file 1\n", None)),
-    ("diff a later", differs(f"differ packet 1 time data\n- {listed(1, 60)}+ {listed(1, 24, '2+500001/1000000')[:-3]}05\n")),
+    ("diff a later", differs(f"differ packet 1 time data at 3\n- {listed(1, 60)}+ {listed(1, 24, '2+500001/1000000')[:-3]}05\n")),
     ("diff --json a carried", prints('{"type":"same","packets":1}\n')), ("diff a --json later", differs(LATER_JSON)),
     ("diff --json --allow-cut a cut", differs(ENDED_JSON)),
     ("diff --json a cut", (1, b"", b'{"type":"refused","file":2,"offset":60,"rule":3,"name":"cut","path":"cut"}\n', None)),
@@ -704,7 +732,7 @@ def is_json(count, bench, contents):
         for allow_cut in ([], ["--allow-cut"]):
             status, text, error = run([task, *allow_cut, *names], bench.program)
             seen = run([task, "--json", *allow_cut, *names], bench.program)
-            wanted = [object_of(line) for line in text.decode().splitlines()]
+            wanted = all_objects(text.decode())
             found = re.fullmatch(r"refused: file (\d+) offset (\d+) rule (\d+) (\S+)\n", error.decode())
             refused = [{"type": "refused", **dict(zip(("file", "offset", "rule"), map(int, found.groups()[:3]))), "name": found[4],
                         "path": names[int(found[1]) - 1]}] if found else []

@@ -1,11 +1,11 @@
 -- The words of what differs, as they are put into a line.
 use Rattle.std.proofs.Common.{◌≡◌, ◌++◌, ℕ, List, [], ◌∷◌, codes, decimal, Bool, true, false, if◌then◌else◌, refl, sym}
-use Rattle.std.proofs.Common.{ap, ◌∙◌, append_assoc, append-nil}
+use Rattle.std.proofs.Common.{ap, ◌∙◌, append_assoc, append-nil, Option, None}
 use Rattle.std.specs.Prelude.{◌||◌}
 use Rattle.std.proofs.Math.Bool.{or-false}
 use Rattle.cap_print.specs.declared.forms.Form.TheVariants.{Json, Text}
 use Rattle.cap_commands.proofs.Pieces.{joined, joined-more}
-use Rattle.cap_commands.specs.DiffText.{chosen, difference_line, quoted, spaced, words_of}
+use Rattle.cap_commands.specs.DiffText.{chosen, difference_line, place_in, quoted, spaced, words_of}
 use Rattle.cap_commands.specs.inner.DiffWords.{quoted_if}
 use Rattle.cap_commands.specs.declared.diff.Differences.{Differences}
 
@@ -43,13 +43,15 @@ spaced-words it =
     rw (a, b, c, d, e, none-chosen) refl
 
 -- the first line of a difference in text, part by part
-pub text-line : (n : ℕ) (it : Differences)
-    → codes "differ packet " ++ (decimal n ++ joined (spaced_parts it) (codes "\n"))
-    ≡ difference_line Text n (words_of it)
-text-line n it = rw (spaced-words it)
+pub text-line : (n : ℕ) (it : Differences) (place : Option ℕ)
+    → codes "differ packet " ++ (decimal n ++ joined (spaced_parts it) (place_in Text place (codes "\n")))
+    ≡ difference_line Text n (words_of it) place
+text-line n it place =
+    let end = place_in Text place (codes "\n") in
+    rw (spaced-words it)
     (ap (λ l. codes "differ packet " ++ l)
-    (ap (λ l. decimal n ++ l) (joined-more (spaced_parts it) [] (codes "\n"))
-    ∙ sym (append_assoc (decimal n) (joined (spaced_parts it) []) (codes "\n"))))
+    (ap (λ l. decimal n ++ l) (joined-more (spaced_parts it) [] end)
+    ∙ sym (append_assoc (decimal n) (joined (spaced_parts it) []) end)))
 
 -- whether a word is chosen
 abbrev pub is_any : List (Bool × List ℕ) → Bool
@@ -106,13 +108,13 @@ quoted-words it =
     rw (a, b, c, d, e, none-chosen, or-false it.bytes) refl
 
 -- the first line of a difference in JSON, part by part
-pub json-line : (n : ℕ) (it : Differences)
+pub json-line : (n : ℕ) (it : Differences) (place : Option ℕ)
     → codes "{\"type\":\"differ\",\"packet\":" ++ (decimal n ++ (codes ",\"differs\":["
-    ++ joined (quoted_parts it) (codes "]}\n")))
-    ≡ difference_line Json n (words_of it)
-json-line n it =
+    ++ joined (quoted_parts it) (codes "]" ++ place_in Json place (codes "}\n"))))
+    ≡ difference_line Json n (words_of it) place
+json-line n it place =
     let words = joined (quoted_parts it) [] in
-    let end = codes "]}\n" in
+    let end = codes "]" ++ place_in Json place (codes "}\n") in
     let before = codes ",\"differs\":[" in
     rw (quoted-words it)
     (ap (λ l. codes "{\"type\":\"differ\",\"packet\":" ++ l)
@@ -123,7 +125,7 @@ json-line n it =
 -- the line in JSON of a packet that one file lacks, part by part
 pub end-line : (n : ℕ)
     → codes "{\"type\":\"differ\",\"packet\":" ++ (decimal n ++ codes ",\"differs\":[\"end\"]}\n")
-    ≡ difference_line Json n (codes "end" ∷ [])
+    ≡ difference_line Json n (codes "end" ∷ []) None
 end-line n =
     let before = codes ",\"differs\":[" in
     let word = codes "\"end\"" in

@@ -1,5 +1,6 @@
 pub mod Divergence
 pub mod DiffWords
+pub mod FirstDifference
 mod Merging
 mod Leaving
 pub mod BlockListing

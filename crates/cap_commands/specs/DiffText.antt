@@ -1,14 +1,14 @@
 -- What `capt diff` prints of two captures: whether they have the same packets, in whatever container, byte order and
 -- units each of the two has them.
-use Rattle.std.specs.Prelude.{ℕ, ◌+◌, ◌==◌, List, [], ◌∷◌, ◌++◌, codes, decimal, Bool, true, false, not, ◌||◌}
-use Rattle.std.specs.Prelude.{◌≡◌, take, Option, Some, None, Result, Ok, Err, if◌then◌else◌}
+use Rattle.std.specs.Prelude.{ℕ, ◌+◌, ◌*◌, ◌/◌, ◌==◌, List, [], ◌∷◌, ◌++◌, codes, decimal, Bool, true, false, not, ◌||◌}
+use Rattle.std.specs.Prelude.{◌≡◌, take, drop, Option, Some, None, Result, Ok, Err, if◌then◌else◌}
 use Rattle.std.specs.Str.{bytes_eq}
 use Rattle.cap_bytes.specs.Printing.{PrintsFront}
 use Rattle.cap_bytes.specs.declared.faults.Fault.{Fault}
 use Rattle.cap_bytes.specs.declared.faults.Fault.TheVariants.{Refused, Read, Write, Memory}
 use Rattle.cap_bytes.specs.declared.faults.Refusal.{Refusal}
 use Rattle.cap_bytes.specs.declared.faults.Tail.{Tail}
-use Rattle.cap_print.specs.Facts.{begin_in, close_in, end_in, fields_in, line_in, named, number, one}
+use Rattle.cap_print.specs.Facts.{begin_in, close_in, end_in, fact_in, fields_in, line_in, named, number, one}
 use Rattle.cap_print.specs.declared.forms.Form.{Form}
 use Rattle.cap_print.specs.declared.forms.Form.TheVariants.{Json, Text}
 use Rattle.cap_source.specs.Feed.{Item, packet, refused}
@@ -46,6 +46,28 @@ differences_of a b =
 -- they differ in one of these at least
 abbrev pub do_differ : Differences → Bool
 do_differ it = it.link || it.time || it.captured || it.original || it.bytes
+
+-- how many bytes two lists have in common at their beginning: the place, counted from 0, of the first byte that isn't
+-- the same in both, or the length of the shorter list if the longer one begins with it
+unfoldable pub first_difference : List ℕ → List ℕ → ℕ
+first_difference [] ys = 0
+first_difference (x ∷ xs) [] = 0
+first_difference (x ∷ xs) (y ∷ ys) = if x == y then first_difference xs ys + 1 else 0
+
+-- where two lists of bytes differ, if they do
+abbrev pub place_of : List ℕ → List ℕ → Option ℕ
+place_of xs ys = if bytes_eq xs ys then None else Some (first_difference xs ys)
+
+-- where the captured bytes of two packets differ, if they do
+abbrev pub data_place : Option Compared → Option Compared → Option ℕ
+data_place (Some a) (Some b) = place_of a.frame b.frame
+data_place (Some a) None = None
+data_place None other = None
+
+-- the first byte of the row of 16 bytes in which a place is; of no place, the first of all
+abbrev pub row_of : Option ℕ → ℕ
+row_of None = 0
+row_of (Some place) = place / 16 * 16
 
 -- What two captures are to each other: the same packets, so many; or which is the first, from number 1, that isn't the
 -- same in both, with the packet of each, none if it has ended; or refused.
@@ -107,38 +129,62 @@ same_line form n = line_in form (record {
   fields = one (named (codes "packets") (number n)) ∷ [];
 })
 
--- the first line of a difference in a form, at the packet of that number, with these words
-abbrev pub difference_line : Form → ℕ → List (List ℕ) → List ℕ
-difference_line Text n words = codes "differ packet " ++ decimal n ++ spaced words ++ codes "\n"
-difference_line Json n words =
-    codes "{\"type\":\"differ\",\"packet\":" ++ decimal n ++ codes ",\"differs\":[" ++ quoted words ++ codes "]}\n"
+-- where the captured bytes differ, if they do, and then the rest of a line in a form
+abbrev pub place_in : Form → Option ℕ → List ℕ → List ℕ
+place_in form None rest = rest
+place_in form (Some place) rest =
+    fact_in form (record { label = codes " at "; key = codes "data_at"; value = number place }) rest
 
--- what stands before a packet in a form, by the sign of its file
-abbrev pub before_side : Form → List ℕ → List ℕ
-before_side Text sign = sign ++ codes " "
-before_side Json sign = codes "{\"type\":\"side\",\"side\":\"" ++ sign ++ codes "\",\"packet\":"
+-- the first line of a difference in a form, at the packet of that number, with these words, of which `data` is the
+-- last, and the place at which the captured bytes differ
+abbrev pub difference_line : Form → ℕ → List (List ℕ) → Option ℕ → List ℕ
+difference_line Text n words place =
+    codes "differ packet " ++ decimal n ++ spaced words ++ place_in Text place (codes "\n")
+difference_line Json n words place =
+    codes "{\"type\":\"differ\",\"packet\":" ++ decimal n ++ codes ",\"differs\":[" ++ quoted words
+    ++ (codes "]" ++ place_in Json place (codes "}\n"))
 
--- the packet of that number in a form, as `list` prints it with at most 16 of its bytes; in JSON its object ends the
--- object that it stands in
-abbrev pub packet_side : Form → ℕ → Compared → List ℕ
-packet_side form n a = begin_in form (codes "packet")
-    (fields_in form (facts_showing n a.meta (take 16 a.frame)).fields (close_in form (end_in form)))
+-- in JSON, from which byte on a packet's bytes are shown, if that isn't the first, and then the rest of the line
+abbrev pub from_json : ℕ → List ℕ → List ℕ
+from_json from rest = if from == 0 then rest else codes ",\"data_from\":" ++ decimal from ++ rest
+
+-- what stands before a packet in a form, by the sign of its file and the byte from which on its bytes are shown
+abbrev pub before_side : Form → List ℕ → ℕ → List ℕ
+before_side Text sign from = sign ++ codes " "
+before_side Json sign from =
+    codes "{\"type\":\"side\",\"side\":\"" ++ sign ++ (codes "\"" ++ from_json from (codes ",\"packet\":"))
+
+-- the bytes of a packet that are shown: at most 16, from that byte on
+abbrev pub shown_from : ℕ → List ℕ → List ℕ
+shown_from from frame = take 16 (drop from frame)
+
+-- the packet of that number in a form, as `list` prints it, with these of its bytes; in JSON its object ends the object
+-- that it stands in
+abbrev pub packet_side : Form → ℕ → Meta → List ℕ → List ℕ
+packet_side form n meta shown = begin_in form (codes "packet")
+    (fields_in form (facts_showing n meta shown).fields (close_in form (end_in form)))
 
 -- that there is no packet
 abbrev pub no_side : Form → List ℕ
 no_side Text = codes "end\n"
 no_side Json = codes "null}\n"
 
--- a packet in a form, or that there is none
-abbrev pub side_in : Form → ℕ → Option Compared → List ℕ
-side_in form n None = no_side form
-side_in form n (Some a) = packet_side form n a
+-- a packet in a form, with its bytes from that byte on, or that there is none
+abbrev pub side_in : Form → ℕ → ℕ → Option Compared → List ℕ
+side_in form n from None = no_side form
+side_in form n from (Some a) = packet_side form n a.meta (shown_from from a.frame)
 
--- what is printed of a comparison in a form
+-- both packets in a form, each with its sign, with their bytes from that byte on
+abbrev pub sides_in : Form → ℕ → ℕ → Option Compared → Option Compared → List ℕ
+sides_in form n from a b = (before_side form (codes "-") from ++ side_in form n from a)
+    ++ (before_side form (codes "+") from ++ side_in form n from b)
+
+-- what is printed of a comparison in a form: of packets whose captured bytes differ, the bytes from the row on in which
+-- they do
 abbrev pub diff_text_in : Form → Comparison → List ℕ
 diff_text_in form (same_packets n) = same_line form n
-diff_text_in form (other_packet n a b) = difference_line form n (difference_words a b)
-    ++ ((before_side form (codes "-") ++ side_in form n a) ++ (before_side form (codes "+") ++ side_in form n b))
+diff_text_in form (other_packet n a b) =
+    difference_line form n (difference_words a b) (data_place a b) ++ sides_in form n (row_of (data_place a b)) a b
 diff_text_in form (stopped_by refusal) = []
 
 -- the refusal that is returned

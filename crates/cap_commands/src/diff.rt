@@ -1,7 +1,7 @@
 //! `capt diff`: whether two captures have the same packets.
 ghost use Rattle.std.specs.Prelude.{◌≡◌, ℕ, ◌+◌, ◌≤◌, ◌++◌, ◌∷◌, ◌^◌, [], false, codes, None, Some};
 ghost use Rattle.std.specs.Prelude.{IsSome, IsTrue};
-ghost use Rattle.std.specs.Prelude.{IfOk, IsOkUnless, is_none, is_some, ◌&&◌};
+ghost use Rattle.std.specs.Prelude.{IfOk, IsOkUnless, is_none, is_some, length, ◌&&◌};
 ghost use Rattle.cap_bytes.specs.Device.{WriterKeeps, writer_of};
 ghost use Rattle.cap_bytes.specs.Printing.{Prints, is_write};
 ghost use Rattle.cap_print.specs.Lines.{text_in};
@@ -10,19 +10,22 @@ ghost use Rattle.cap_source.specs.Feed.{FeedKeeps, IsPacket};
 ghost use Rattle.cap_source.specs.ReadFaults.{FailsOf};
 ghost use Rattle.cap_source.specs.inner.Walk.{GivesPacket, ShowsItem};
 ghost use Rattle.cap_source.specs.Times.{meta_time};
-ghost use Rattle.cap_commands.specs.DiffText.{TellsDiff, before_side, compared, comparison_of, diff_text_in};
-ghost use Rattle.cap_commands.specs.DiffText.{difference_line, difference_words, differences_of, do_differ, is_same};
-ghost use Rattle.cap_commands.specs.DiffText.{is_same_time, other_packet, side_in};
+ghost use Rattle.cap_commands.specs.DiffText.{TellsDiff, before_side, compared, comparison_of, data_place};
+ghost use Rattle.cap_commands.specs.DiffText.{diff_text_in, difference_line, difference_words, differences_of};
+ghost use Rattle.cap_commands.specs.DiffText.{do_differ, first_difference, is_same, is_same_time, no_side};
+ghost use Rattle.cap_commands.specs.DiffText.{other_packet, packet_side, place_of, row_of, shown_from, side_in};
+ghost use Rattle.cap_commands.specs.DiffText.{sides_in};
 ghost use Rattle.cap_commands.specs.inner.DiffWalk.{FailsOne, KnowsPackets, Parts, are_alike, compared_of, given};
 ghost use Rattle.cap_commands.specs.inner.DiffWalk.{known_packet, parted};
 
-use crate::diff_lines::{before_first, before_second, differ_line, end_line, same_line};
+use crate::diff_lines::{differ_line, end_line, same_line, side_head};
 use crate::lines::write_side;
 use cap_bytes::{Fault, Sink, Source, Tail, put_all};
 use cap_print::{Form, Line};
 use cap_source::{Capture, Meta, PacketFeed};
 use cap_time::Stamp;
 use std::alloc::Global;
+use std::cmp::min;
 
 /// In which of five things two packets differ.
 #[derive(Clone, Copy, Debug, PartialEq, Eq)]
@@ -65,6 +68,19 @@ fn differences_of(first: &Meta, frame: &[u8], second: &Meta, bytes: &[u8]) -> Di
         original: first.original != second.original,
         bytes: frame != bytes,
     }
+}
+
+// How many bytes both have in common at their beginning.
+fn first_difference(first: &[u8], second: &[u8]) -> usize
+    ensures { result ≡ first_difference first.now second.now }
+{
+    let shorter = min(first.len(), second.len());
+    for place in 0..shorter {
+        if first[place] != second[place] {
+            return place;
+        }
+    }
+    shorter
 }
 
 // Whether they differ in one of these at least.
@@ -146,18 +162,28 @@ fn part<F: PacketFeed>(first: &mut F, second: &mut F) -> Result<Divergence, Faul
     }
 }
 
-// The line of a packet with these bytes in a form.
-fn packet_line(form: Form, n: u64, meta: &Meta, frame: &[u8]) -> Line
-    ensures { text_in result ≡ side_in form n (Some (record { meta = meta.now; frame = frame.now })) }
+// At most 16 bytes of a packet, from that byte on.
+fn shown_from(from: usize, frame: &[u8]) -> &[u8]
+    ensures shown { result.now ≡ shown_from from frame.now }
+    ensures few { length result.now ≤ 16 }
+{
+    let (_, rest) = frame.split_at(min(frame.len(), from));
+    let (shown, _) = rest.split_at(min(rest.len(), 16));
+    shown
+}
+
+// The line of a packet in a form, with its bytes from that byte on.
+fn packet_line(form: Form, n: u64, from: usize, meta: &Meta, frame: &[u8]) -> Line
+    ensures { text_in result ≡ packet_side form n meta.now (shown_from from frame.now) }
 {
     let mut line = Line::new();
-    write_side(&mut line, form, n, meta, frame);
+    write_side(&mut line, form, n, meta, shown_from(from, frame));
     line
 }
 
 // The line in a form that there is no packet.
 fn no_packet_line(form: Form) -> Line
-    ensures { (n : ℕ) → text_in result ≡ side_in form n None }
+    ensures { text_in result ≡ no_side form }
 {
     let mut line = Line::new();
     line.prepend_text(match form {
@@ -167,14 +193,14 @@ fn no_packet_line(form: Form) -> Line
     line
 }
 
-// The line of a packet that comes next in a form, or that there is none.
-fn side_line<F: PacketFeed>(form: Form, n: u64, packet: Option<Meta>, feed: &F) -> Line
+// The line of a packet that comes next in a form, with its bytes from that byte on, or that there is none.
+fn side_line<F: PacketFeed>(form: Form, n: u64, from: usize, packet: Option<Meta>, feed: &F) -> Line
     requires packet { IsSome packet → IsPacket (F.feed feed.now).known }
-    ensures { text_in result ≡ side_in form n (compared_of packet (F.feed feed.now).frame) }
+    ensures { text_in result ≡ side_in form n from (compared_of packet (F.feed feed.now).frame) }
 {
     match packet {
         None => no_packet_line(form),
-        Some(meta) => packet_line(form, n, &meta, feed.frame()),
+        Some(meta) => packet_line(form, n, from, &meta, feed.frame()),
     }
 }
 
@@ -188,70 +214,104 @@ fn put_line<W: Sink>(writer: &mut W, line: &Line) -> Result<(), Fault>
     put_all(writer, line.as_slice())
 }
 
-// Writes one side of a difference in a form: what stands before it, and the packet that comes next, or that there is
-// none.
+// Writes one side of a difference in a form: the sign of its file, and the packet that comes next, with its bytes from
+// that byte on, or that there is none.
 fn put_side<F: PacketFeed, W: Sink>(
     writer: &mut W,
     form: Form,
-    before: &[u8],
+    sign: &[u8],
     n: u64,
+    from: usize,
     packet: Option<Meta>,
     feed: &F,
 ) -> Result<(), Fault>
+    requires sign { length sign.now ≤ 400 }
     requires packet { IsSome packet → IsPacket (F.feed feed.now).known }
     ensures text { IsTrue (W.tells_held writer.old)
-        → Prints (before.now ++ side_in form n (compared_of packet (F.feed feed.now).frame)) None (W.held writer.old)
-        result (W.held writer.new) }
+        → Prints (before_side form sign.now from ++ side_in form n from (compared_of packet (F.feed feed.now).frame))
+        None (W.held writer.old) result (W.held writer.new) }
     ensures writer { WriterKeeps (writer_of W.Sink writer.old) (is_write result) (writer_of W.Sink writer.new) }
     ensures fault { IsOkUnless result Fault.Write }
 {
-    put_all(writer, before)?;
-    let line = side_line(form, n, packet, feed);
+    let head = side_head(form, sign, from);
+    put_all(writer, head.as_slice())?;
+    let line = side_line(form, n, from, packet, feed);
     put_line(writer, &line)
 }
 
-// Writes both sides in a form.
+// Writes both sides in a form, with their bytes from that byte on.
 fn put_sides<F: PacketFeed, W: Sink>(
     writer: &mut W,
     form: Form,
     n: u64,
+    from: usize,
     divergence: &Divergence,
     first: &F,
     second: &F,
 ) -> Result<(), Fault>
     requires known { KnowsPackets divergence.now (F.feed first.now) (F.feed second.now) }
     ensures text { IsTrue (W.tells_held writer.old)
-        → Prints ((before_side form (codes "-") ++ side_in form n
-        (compared_of divergence.now.first (F.feed first.now).frame))
-        ++ (before_side form (codes "+") ++ side_in form n
-        (compared_of divergence.now.second (F.feed second.now).frame))) None (W.held writer.old) result
+        → Prints (sides_in form n from (compared_of divergence.now.first (F.feed first.now).frame)
+        (compared_of divergence.now.second (F.feed second.now).frame)) None (W.held writer.old) result
         (W.held writer.new) }
     ensures writer { WriterKeeps (writer_of W.Sink writer.old) (is_write result) (writer_of W.Sink writer.new) }
     ensures fault { IsOkUnless result Fault.Write }
 {
-    put_side(writer, form, before_first(form), n, divergence.first, first)?;
-    put_side(
-        writer,
-        form,
-        before_second(form),
-        n,
-        divergence.second,
-        second,
-    )
+    put_side(writer, form, b"-", n, from, divergence.first, first)?;
+    put_side(writer, form, b"+", n, from, divergence.second, second)
 }
 
-// The first line of a difference in a form.
+// Where these captured bytes differ, if they do.
+fn place_of(frame: &[u8], bytes: &[u8]) -> Option<usize>
+    ensures { result ≡ place_of frame.now bytes.now }
+{
+    if frame == bytes {
+        None
+    } else {
+        Some(first_difference(frame, bytes))
+    }
+}
+
+// Where the captured bytes of the packets that come next differ, if they do.
+fn data_place<F: PacketFeed>(divergence: &Divergence, first: &F, second: &F) -> Option<usize>
+    requires known { KnowsPackets divergence.now (F.feed first.now) (F.feed second.now) }
+    ensures { result ≡ data_place (compared_of divergence.now.first (F.feed first.now).frame)
+        (compared_of divergence.now.second (F.feed second.now).frame) }
+{
+    match divergence.first {
+        None => None,
+        Some(_) => match divergence.second {
+            None => None,
+            Some(_) => place_of(first.frame(), second.frame()),
+        },
+    }
+}
+
+// The first byte of the row in which a place is.
+fn row_of(place: Option<usize>) -> usize
+    ensures { result ≡ row_of place }
+{
+    match place {
+        None => 0,
+        Some(place) => place / 16 * 16,
+    }
+}
+
+// The first line of a difference in a form, with where the captured bytes differ.
 fn head_line<F: PacketFeed>(
     form: Form,
     n: u64,
+    place: Option<usize>,
     divergence: &Divergence,
     first: &F,
     second: &F,
 ) -> Line
     requires known { KnowsPackets divergence.now (F.feed first.now) (F.feed second.now) }
+    requires place { place ≡ data_place (compared_of divergence.now.first (F.feed first.now).frame)
+        (compared_of divergence.now.second (F.feed second.now).frame) }
     ensures { text_in result ≡ difference_line form n
         (difference_words (compared_of divergence.now.first (F.feed first.now).frame)
-        (compared_of divergence.now.second (F.feed second.now).frame)) }
+        (compared_of divergence.now.second (F.feed second.now).frame)) place }
 {
     match divergence.first {
         None => end_line(form, n),
@@ -259,7 +319,7 @@ fn head_line<F: PacketFeed>(
             None => end_line(form, n),
             Some(other) => {
                 let it = differences_of(&one, first.frame(), &other, second.frame());
-                differ_line(form, n, it)
+                differ_line(form, n, it, place)
             }
         },
     }
@@ -282,9 +342,10 @@ fn put_difference<F: PacketFeed, W: Sink>(
     ensures writer { WriterKeeps (writer_of W.Sink writer.old) (is_write result) (writer_of W.Sink writer.new) }
     ensures fault { IsOkUnless result Fault.Write }
 {
-    let line = head_line(form, n, divergence, first, second);
+    let place = data_place(divergence, first, second);
+    let line = head_line(form, n, place, divergence, first, second);
     put_all(writer, line.as_slice())?;
-    put_sides(writer, form, n, divergence, first, second)
+    put_sides(writer, form, n, row_of(place), divergence, first, second)
 }
 
 // Whether both have ended.
@@ -330,9 +391,10 @@ fn put_divergence<F: PacketFeed, W: Sink>(
 /// captured and original length and captured bytes: `same packets N`, and returns `true`; or the number and the
 /// differences of the first packet that isn't the same in both, and its line in each, as `list_to` prints it, and
 /// returns `false`. In JSON these are three objects, of which the second and the third hold the object that
-/// `list_json_to` prints with 16 bytes, or `null`. If a file is refused before that, the refusal is returned. It
-/// returns `Read` if a read fails and `Memory` if a growth is refused; after these and a refusal nothing is printed. It
-/// returns `Write` if a write fails, after a prefix.
+/// `list_json_to` prints with 16 bytes, or `null`. If the captured bytes differ, the place of the first byte that
+/// differs is printed, and each line or object has the bytes from the row of 16 bytes on in which that byte is. If a
+/// file is refused before that, the refusal is returned. It returns `Read` if a read fails and `Memory` if a growth is
+/// refused; after these and a refusal nothing is printed. It returns `Write` if a write fails, after a prefix.
 pub fn diff_in<R: Source, W: Sink>(
     alloc: Global,
     first: R,

@@ -1,8 +1,8 @@
 //! The lines of `capt diff`, in text and in JSON.
-ghost use Rattle.std.specs.Prelude.{◌≡◌, ◌+◌, ◌≤◌, ◌++◌, ◌∷◌, [], ◌||◌, codes, if◌then◌else◌, length};
+ghost use Rattle.std.specs.Prelude.{◌≡◌, ◌+◌, ◌≤◌, ◌++◌, ◌∷◌, [], ◌||◌, codes, if◌then◌else◌, length, None};
 ghost use Rattle.cap_print.specs.Lines.{room_in, text_in};
 ghost use Rattle.cap_print.specs.declared.forms.Form.TheVariants.{Json, Text};
-ghost use Rattle.cap_commands.specs.DiffText.{before_side, difference_line, same_line, words_of};
+ghost use Rattle.cap_commands.specs.DiffText.{before_side, difference_line, from_json, place_in, same_line, words_of};
 ghost use Rattle.cap_commands.specs.inner.DiffWords.{quoted_if};
 
 use crate::diff::Differences;
@@ -40,12 +40,24 @@ fn either(first: bool, second: bool) -> bool
     first || second
 }
 
-// `differ packet N WORDS`
-fn differ_text(n: u64, it: Differences) -> Line
-    ensures { text_in result ≡ difference_line Text n (words_of it) }
+// Puts where the captured bytes differ, if they do.
+fn put_place(line: &mut Line, form: Form, place: Option<usize>)
+    requires { 31 ≤ room_in line.old }
+    ensures text { text_in line.new ≡ place_in form place (text_in line.old) }
+    ensures room { room_in line.old ≤ room_in line.new + 31 }
+{
+    if let Some(place) = place {
+        line.put_number_as(form, b" at ", b"data_at", place as u64);
+    }
+}
+
+// `differ packet N WORDS at PLACE`
+fn differ_text(n: u64, it: Differences, place: Option<usize>) -> Line
+    ensures { text_in result ≡ difference_line Text n (words_of it) place }
 {
     let mut line = Line::new();
     line.prepend_text(b"\n");
+    put_place(&mut line, Form::Text, place);
     prepend_if(&mut line, it.bytes, b" data");
     prepend_if(&mut line, it.original, b" original");
     prepend_if(&mut line, it.captured, b" captured");
@@ -55,15 +67,17 @@ fn differ_text(n: u64, it: Differences) -> Line
     line
 }
 
-// `{"type":"differ","packet":N,"differs":[WORDS]}`
-fn differ_json(n: u64, it: Differences) -> Line
-    ensures { text_in result ≡ difference_line Json n (words_of it) }
+// `{"type":"differ","packet":N,"differs":[WORDS],"data_at":PLACE}`
+fn differ_json(n: u64, it: Differences, place: Option<usize>) -> Line
+    ensures { text_in result ≡ difference_line Json n (words_of it) place }
 {
     let original = either(it.original, it.bytes);
     let captured = either(it.captured, original);
     let time = either(it.time, captured);
     let mut line = Line::new();
-    line.prepend_text(b"]}\n");
+    line.prepend_text(b"}\n");
+    put_place(&mut line, Form::Json, place);
+    line.prepend_text(b"]");
     prepend_quoted(&mut line, it.bytes, b"data", false);
     prepend_quoted(&mut line, it.original, b"original", it.bytes);
     prepend_quoted(&mut line, it.captured, b"captured", original);
@@ -74,19 +88,20 @@ fn differ_json(n: u64, it: Differences) -> Line
     line
 }
 
-/// The first line of two packets that differ, which have the number n, from 1.
-pub(crate) fn differ_line(form: Form, n: u64, it: Differences) -> Line
-    ensures { text_in result ≡ difference_line form n (words_of it) }
+/// The first line of two packets that differ, which have the number n, from 1, and whose captured bytes differ at that
+/// place, if they do.
+pub(crate) fn differ_line(form: Form, n: u64, it: Differences, place: Option<usize>) -> Line
+    ensures { text_in result ≡ difference_line form n (words_of it) place }
 {
     match form {
-        Form::Text => differ_text(n, it),
-        Form::Json => differ_json(n, it),
+        Form::Text => differ_text(n, it, place),
+        Form::Json => differ_json(n, it, place),
     }
 }
 
 /// The first line of a packet of one file that the other lacks, by its number, from 1.
 pub(crate) fn end_line(form: Form, n: u64) -> Line
-    ensures { text_in result ≡ difference_line form n (codes "end" ∷ []) }
+    ensures { text_in result ≡ difference_line form n (codes "end" ∷ []) None }
 {
     let mut line = Line::new();
     match form {
@@ -112,22 +127,35 @@ pub(crate) fn same_line(form: Form, n: u64) -> Line
     line
 }
 
-/// What stands before the packet of the first file.
-pub(crate) fn before_first(form: Form) -> &'static [u8]
-    ensures { result.now ≡ before_side form (codes "-") }
+// Puts in JSON from which byte on a packet's bytes are shown, if that isn't the first.
+fn put_from(line: &mut Line, from: usize)
+    requires { 33 ≤ room_in line.old }
+    ensures text { text_in line.new ≡ from_json from (text_in line.old) }
+    ensures room { room_in line.old ≤ room_in line.new + 33 }
 {
-    match form {
-        Form::Text => b"- ",
-        Form::Json => b"{\"type\":\"side\",\"side\":\"-\",\"packet\":",
+    if from != 0 {
+        line.prepend_field(b",\"data_from\":", from as u64);
     }
 }
 
-/// What stands before the packet of the second file.
-pub(crate) fn before_second(form: Form) -> &'static [u8]
-    ensures { result.now ≡ before_side form (codes "+") }
+/// What stands before the packet of a file of that sign, whose bytes are shown from that byte on.
+pub(crate) fn side_head(form: Form, sign: &[u8], from: usize) -> Line
+    requires { length sign.now ≤ 400 }
+    ensures { text_in result ≡ before_side form sign.now from }
 {
+    let mut line = Line::new();
     match form {
-        Form::Text => b"+ ",
-        Form::Json => b"{\"type\":\"side\",\"side\":\"+\",\"packet\":",
+        Form::Text => {
+            line.prepend_text(b" ");
+            line.prepend_text(sign);
+        }
+        Form::Json => {
+            line.prepend_text(b",\"packet\":");
+            put_from(&mut line, from);
+            line.prepend_text(b"\"");
+            line.prepend_text(sign);
+            line.prepend_text(b"{\"type\":\"side\",\"side\":\"");
+        }
     }
+    line
 }

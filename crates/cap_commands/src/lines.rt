@@ -13,7 +13,6 @@ use cap_bytes::Order;
 use cap_print::{Form, Line};
 use cap_source::Meta;
 use cap_time::Stamp;
-use std::cmp::min;
 
 // The time of a packet, if it has one, as it is printed.
 fn stamp_of(meta: &Meta) -> Option<Stamp>
@@ -62,15 +61,15 @@ pub(crate) fn write_packet_head(line: &mut Line, form: Form, n: u64, meta: &Meta
     put_packet(line, form, n, meta);
 }
 
-/// Makes a line the packet number n, from 1, in a form, with at most 16 of its bytes; in JSON its object ends the one
-/// that it stands in.
-pub(crate) fn write_side(line: &mut Line, form: Form, n: u64, meta: &Meta, bytes: &[u8])
-    ensures { text_in line.new ≡ packet_side form n (record { meta = meta.now; frame = bytes.now }) }
+/// Makes a line the packet number n, from 1, in a form, with these bytes of it; in JSON its object ends the one that it
+/// stands in.
+pub(crate) fn write_side(line: &mut Line, form: Form, n: u64, meta: &Meta, shown: &[u8])
+    requires { length shown.now ≤ 128 }
+    ensures { text_in line.new ≡ packet_side form n meta.now shown.now }
 {
-    let (front, _) = bytes.split_at(min(bytes.len(), 16));
     line.clear_to_end(form);
     line.put_group_end(form);
-    line.put_hex(form, b"data", front);
+    line.put_hex(form, b"data", shown);
     put_packet(line, form, n, meta);
 }
 

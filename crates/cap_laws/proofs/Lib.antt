@@ -4,6 +4,7 @@ mod Diffs
 mod DigestLaws
 mod FileNumbers
 mod FirstDifferences
+mod DataPlaces
 mod InOrder
 mod JoinedByPlaces
 mod JoinedUnits

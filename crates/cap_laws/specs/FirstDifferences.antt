@@ -1,7 +1,7 @@
 -- What `diff` says of two captures, by places: how far both are the same, and what comes next.
 use Rattle.std.specs.Prelude.{◌≡◌, ◌≢◌, ◌⊎◌, ℕ, ◌+◌, List, [], ◌∷◌, ◌++◌, length, Option, Some, None, IsTrue, ◌↔◌}
-use Rattle.std.specs.Prelude.{⊤}
-use Rattle.std.specs.List.{AllZip}
+use Rattle.std.specs.Prelude.{take, ⊤}
+use Rattle.std.specs.List.{AllZip, slice_get}
 use Rattle.std.specs.declared.cmp.Ordering.TheVariants.{Equal}
 use Rattle.cap_bytes.specs.declared.faults.Refusal.{Refusal}
 use Rattle.cap_bytes.specs.declared.faults.Tail.{Tail}
@@ -9,7 +9,7 @@ use Rattle.cap_source.specs.Feed.{Item, packet, refused}
 use Rattle.cap_source.specs.Items.{file_items}
 use Rattle.cap_source.specs.Times.{meta_time}
 use Rattle.cap_time.specs.Clock.{clock_cmp}
-use Rattle.cap_commands.specs.DiffText.{Compared, Comparison, comparison_of, differences_of}
+use Rattle.cap_commands.specs.DiffText.{Compared, Comparison, comparison_of, data_place, differences_of}
 use Rattle.cap_commands.specs.DiffText.{other_packet, same_packets, stopped_by}
 use Rattle.cap_commands.specs.declared.diff.Differences.{Differences}
 use Rattle.cap_laws.specs.again.Laws.{IsSamePacket, SamePackets}
@@ -73,3 +73,18 @@ pub record Names (a b : Compared) (it : Differences) : Type 0 where
 
 abbrev pub DifferencesNamed : Type 0
 DifferencesNamed = (a b : Compared) → Names a b (differences_of a b)
+
+-- Two lists of bytes differ first at a place, counted from 0: the bytes before it are the same in both, and the bytes
+-- at it aren't, or only one of the lists has a byte there.
+pub record DifferFirst (xs ys : List ℕ) (place : ℕ) : Type 0 where
+  pub before : take place xs ≡ take place ys
+  pub here : slice_get xs place ≢ slice_get ys place
+
+-- The place that is printed of two packets is the one at which their captured bytes differ first; none is printed
+-- exactly if these are the same.
+pub record IsPlaced (a b : Compared) : Type 0 where
+  pub some : (place : ℕ) → (data_place (Some a) (Some b) ≡ Some place) ↔ DifferFirst a.frame b.frame place
+  pub none : (data_place (Some a) (Some b) ≡ None) ↔ (a.frame ≡ b.frame)
+
+abbrev pub DifferencePlaced : Type 0
+DifferencePlaced = (a b : Compared) → IsPlaced a b

@@ -2,7 +2,7 @@
 ghost use Rattle.std.specs.Prelude.{List};
 ghost use Rattle.cap_laws.specs.CheckedPackets.{CheckedByPlaces};
 ghost use Rattle.cap_laws.specs.Diffs.{SameAsConverted, SameExactly};
-ghost use Rattle.cap_laws.specs.FirstDifferences.{DifferencesNamed, FirstDifference};
+ghost use Rattle.cap_laws.specs.FirstDifferences.{DifferencePlaced, DifferencesNamed, FirstDifference};
 ghost use Rattle.cap_laws.specs.Forms.{BodyParts, PcapReport};
 ghost use Rattle.cap_laws.specs.InOrder.{ByPlaces, ReportByPlaces};
 ghost use Rattle.cap_laws.specs.JoinedByPlaces.{JoinedByPlaces};
@@ -106,10 +106,12 @@ pub fn diff_same()
 /// What `diff` says of two captures, by places. Both begin with n packets that are the same, one by one. If both end
 /// there, it says that they have the same n packets. If the next packets differ, or only one capture has a next packet,
 /// it says that packet n + 1 differs. If the first capture is refused there, or the second is and the first isn't, it
-/// returns that refusal. It says nothing else. Of two packets it names exactly the fields in which they differ.
+/// returns that refusal. It says nothing else. Of two packets it names exactly the fields in which they differ, and if
+/// their captured bytes do, the place of the first byte that isn't the same in both, or that only one of them has.
 pub fn diff_first()
     ensures said { FirstDifference }
     ensures named { DifferencesNamed }
+    ensures placed { DifferencePlaced }
 {}
 
 /// `diff` says of a capture, of either format and whatever bytes it holds, and of what `convert` writes of it, in

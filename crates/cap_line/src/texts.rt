@@ -69,11 +69,14 @@ or, of the first packet that isn't the same in both:
   differ packet N WHAT
   - LINE
   + LINE
-WHAT is one or more of link, time, captured, original and data, or end if one
-capture has no packet N. LINE is the line of packet N as list prints it, of A
-after -, of B after +, or end. Times are compared exactly. Formats, byte orders,
-time units, interfaces and offsets may differ. If a capture is refused before
-that, nothing is printed. The status is 3 if the packets differ.
+WHAT is one or more of link, time, captured, original and data at P, or end if
+one capture has no packet N. LINE is the line of packet N as list prints it, of
+A after -, of B after +, or end. P is the place, counted from 0, of the first
+captured byte that differs or that only one packet has. LINE then shows the 16
+bytes of its row: bytes 48 to 63 if P is 60. Times are compared exactly.
+Formats, byte orders, time units, interfaces and offsets may differ. If a
+capture is refused before that, nothing is printed. The status is 3 if the
+packets differ.
 
 Examples: capt diff trace.pcap trace.pcapng
           set -o pipefail; zcat old.pcap.gz | capt diff - new.pcap";

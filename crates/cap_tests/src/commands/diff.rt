@@ -29,7 +29,26 @@ const TWICE: File = &[
     "01020304",
 ];
 
-const COMPARED: [Row; 11] = [
+// A packet of 20 bytes, one whose byte at 17 is another, and one whose first 16 bytes alone were captured.
+const TWENTY: File = &[
+    ETHERNET,
+    "0100000060e316001400000014000000",
+    "000102030405060708090a0b0c0d0e0f10111213",
+];
+
+const TWENTY_OTHER: File = &[
+    ETHERNET,
+    "0100000060e316001400000014000000",
+    "000102030405060708090a0b0c0d0e0f10ff1213",
+];
+
+const SIXTEEN: File = &[
+    ETHERNET,
+    "0100000060e316001000000014000000",
+    "000102030405060708090a0b0c0d0e0f",
+];
+
+const COMPARED: [Row; 13] = [
     (&[ETHERNET], &[ETHERNET], "same packets 0\n", Ok(true)),
     (CARRY_PCAP, CARRY_PCAPNG, "same packets 1\n", Ok(true)),
     (CARRY_PCAPNG, CARRY_PCAP, "same packets 1\n", Ok(true)),
@@ -45,7 +64,7 @@ const COMPARED: [Row; 11] = [
     (
         CARRY_PCAPNG,
         OTHER,
-        "differ packet 1 data\n\
+        "differ packet 1 data at 3\n\
         - packet 1 offset 60 time 2+500000/1000000 captured 4 original 4 link 1 data 01020304\n\
         + packet 1 offset 24 time 2+500000/1000000 captured 4 original 4 link 1 data 01020305\n",
         Ok(false),
@@ -53,9 +72,26 @@ const COMPARED: [Row; 11] = [
     (
         LONGER,
         CARRY_PCAP,
-        "differ packet 1 captured original data\n\
+        "differ packet 1 captured original data at 4\n\
         - packet 1 offset 24 time 2+500000/1000000 captured 5 original 6 link 1 data 0102030405\n\
         + packet 1 offset 24 time 2+500000/1000000 captured 4 original 4 link 1 data 01020304\n",
+        Ok(false),
+    ),
+    // the row in which the difference is
+    (
+        TWENTY,
+        TWENTY_OTHER,
+        "differ packet 1 data at 17\n\
+        - packet 1 offset 24 time 2+500000/1000000 captured 20 original 20 link 1 data 10111213\n\
+        + packet 1 offset 24 time 2+500000/1000000 captured 20 original 20 link 1 data 10ff1213\n",
+        Ok(false),
+    ),
+    (
+        SIXTEEN,
+        TWENTY,
+        "differ packet 1 captured data at 16\n\
+        - packet 1 offset 24 time 2+500000/1000000 captured 16 original 20 link 1 data -\n\
+        + packet 1 offset 24 time 2+500000/1000000 captured 20 original 20 link 1 data 10111213\n",
         Ok(false),
     ),
     (
@@ -80,7 +116,7 @@ const COMPARED: [Row; 11] = [
 ];
 
 // Two files, and what is printed of them in JSON.
-const OBJECTS: [(File, File, &str, bool); 5] = [
+const OBJECTS: [(File, File, &str, bool); 6] = [
     (
         CARRY_PCAP,
         CARRY_PCAPNG,
@@ -100,11 +136,21 @@ const OBJECTS: [(File, File, &str, bool); 5] = [
     (
         LONGER,
         CARRY_PCAP,
-        "{\"type\":\"differ\",\"packet\":1,\"differs\":[\"captured\",\"original\",\"data\"]}\n\
+        "{\"type\":\"differ\",\"packet\":1,\"differs\":[\"captured\",\"original\",\"data\"],\"data_at\":4}\n\
         {\"type\":\"side\",\"side\":\"-\",\"packet\":{\"type\":\"packet\",\"n\":1,\"offset\":24,\
         \"time\":[2,500000,1000000],\"captured\":5,\"original\":6,\"link\":1,\"data\":\"0102030405\"}}\n\
         {\"type\":\"side\",\"side\":\"+\",\"packet\":{\"type\":\"packet\",\"n\":1,\"offset\":24,\
         \"time\":[2,500000,1000000],\"captured\":4,\"original\":4,\"link\":1,\"data\":\"01020304\"}}\n",
+        false,
+    ),
+    (
+        TWENTY,
+        SIXTEEN,
+        "{\"type\":\"differ\",\"packet\":1,\"differs\":[\"captured\",\"data\"],\"data_at\":16}\n\
+        {\"type\":\"side\",\"side\":\"-\",\"data_from\":16,\"packet\":{\"type\":\"packet\",\"n\":1,\"offset\":24,\
+        \"time\":[2,500000,1000000],\"captured\":20,\"original\":20,\"link\":1,\"data\":\"10111213\"}}\n\
+        {\"type\":\"side\",\"side\":\"+\",\"data_from\":16,\"packet\":{\"type\":\"packet\",\"n\":1,\"offset\":24,\
+        \"time\":[2,500000,1000000],\"captured\":16,\"original\":20,\"link\":1,\"data\":\"\"}}\n",
         false,
     ),
     (

@@ -5,15 +5,17 @@ pub returns : goal.returns
 returns c =
     simp (
       c.prepend_field.ensures.text,
-      c.prepend_text-2.ensures.text,
+      c.prepend_text-3.ensures.text,
       c.prepend_quoted-5.ensures.text,
       c.prepend_quoted-4.ensures.text,
       c.prepend_quoted-3.ensures.text,
       c.prepend_quoted-2.ensures.text,
       c.prepend_quoted.ensures.text,
+      c.prepend_text-2.ensures.text,
+      c.put_place.ensures.text,
       c.prepend_text.ensures.text,
       c.new-line.ensures.text,
       c.either-time.ensures,
       c.either-captured.ensures,
       c.either-original.ensures,
-    ) (json-line c.args.n c.args.it)
+    ) (json-line c.args.n c.args.it c.args.place)

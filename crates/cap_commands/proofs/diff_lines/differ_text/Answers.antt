@@ -10,6 +10,7 @@ returns c =
       c.prepend_if-3.ensures.text,
       c.prepend_if-2.ensures.text,
       c.prepend_if.ensures.text,
+      c.put_place.ensures.text,
       c.prepend_text.ensures.text,
       c.new-line.ensures.text,
-    ) (text-line c.args.n c.args.it)
+    ) (text-line c.args.n c.args.it c.args.place)
