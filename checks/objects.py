@@ -2,7 +2,7 @@
 """JSON Lines: what `list`, `blocks`, `diff`, `info`, `report`, `digest` and `check` print with --json is, object for
 object and byte for byte, what the text lines of the model say of the same files, and Python's json reads each line as
 those values. Over the files of checks/corpus/, the examples, the worked captures, and captures made at random, some of
-them damaged; `list` also with --data. A refusal and a fault are an object too, with the file's path.
+them damaged; `list` and `diff` also with --data. A refusal and a fault are an object too, with the file's path.
 
 Use: checks/objects.py [PROGRAM [CAPTURES]]     (as after `rt run` or `rt ci` in crates/capt; 10,000 random captures in about a minute)
 """
@@ -109,10 +109,16 @@ def refused_object(refusal, path):
 def wanted_objects(task, contents, paths, allow_cut, data=None):
     """The status, standard output and standard error with --json."""
     text, refusal = model.answer(task, contents, allow_cut)
-    out = objects_of(text)
+    objects = all_objects(text)
     if data is not None:
-        packets = model.File(1, contents[0], allow_cut).packets
-        out = "".join(spelled({**json.loads(line), "data": packet.data[:data].hex()}) for line, packet in zip(out.splitlines(), packets))
+        files = [model.File(number, content, allow_cut) for number, content in enumerate(contents, 1)]
+        found = model.first_difference(files)[0] if task == "diff" else None
+        packets = found[2:] if found else files[0].packets
+        row = objects[0].get("data_at", 0) // 16 * 16 if found else 0
+        for it, packet in zip((side["packet"] for side in objects[1:]) if task == "diff" else objects, packets):
+            if packet:
+                it["data"] = packet.data[row:row + data].hex()
+    out = "".join(spelled(it) for it in objects)
     return model.status_of(task, text, refusal), out.encode(), refused_object(refusal, paths[refusal.file - 1]).encode() if refusal else b""
 
 
@@ -142,7 +148,8 @@ def main():
                 for allow_cut in (False, True):
                     holds(bench, task, [content], allow_cut, faults=(shim, {"PIECE": 1}) if allow_cut else None)
             for other in (content, vector("CARRY_PCAPNG")):
-                holds(bench, "diff", [content, other], False)
+                for data in (None, 0, 3, 128, 129, 262_144):
+                    holds(bench, "diff", [content, other], False, data)
             for data in (0, 3, 199, 200, 201, 400, 262_144):
                 holds(bench, "list", [content], False, data)
 
@@ -155,7 +162,7 @@ def main():
             task, allow_cut = rng.choice(("info", "report", "digest", "check", "blocks")), rng.random() < 0.5
             holds(bench, task, contents[:1] if task == "blocks" else contents, allow_cut)
             holds(bench, "list", contents[:1], allow_cut, rng.choice((None, None, 0, 20, 262_144)))
-            holds(bench, "diff", some_pair(rng, contents), allow_cut)
+            holds(bench, "diff", some_pair(rng, contents), allow_cut, rng.choice((None, None, 0, 20, 262_144)))
             for name in os.listdir(bench.folder):
                 os.remove(os.path.join(bench.folder, name))
 

@@ -522,6 +522,7 @@ completed '--json' capt digest --j
 completed check capt help ch
 completed '--json' capt check --j
 completed '--data' capt list --da
+completed '--data' capt diff --da
 completed '' capt list --json --data 1
 
 echo "$passed passed, $failed failed"

@@ -632,6 +632,11 @@ def differs(text):
     return 3, text.encode(), b"", None
 
 
+def data_of(objects, most):
+    """Objects with at most so many bytes of each packet."""
+    return re.sub(r'(?<="data":")[0-9a-f]*', lambda digits: digits[0][:2 * most], objects)
+
+
 def writes(content):
     """Writes OUT, which is the file c."""
     return 0, b"", b"", bytes.fromhex(content)
@@ -671,6 +676,8 @@ LINES = [
     ("diff a later", differs(f"differ packet 1 time data at 3\n- {listed(1, 60)}+ {listed(1, 24, '2+500001/1000000')[:-3]}05\n")),
     ("diff --json a carried", prints('{"type":"same","packets":1}\n')), ("diff a --json later", differs(LATER_JSON)),
     ("diff --json --allow-cut a cut", differs(ENDED_JSON)),
+    ("diff --json --data 4 a b", prints('{"type":"same","packets":1}\n')), ("diff --data 0 --json a later", differs(data_of(LATER_JSON, 0))),
+    ("diff --json --data=3 a later", differs(data_of(LATER_JSON, 3))), ("diff --json --data 262144 a later", differs(LATER_JSON)),
     ("diff --json a cut", (1, b"", b'{"type":"refused","file":2,"offset":60,"rule":3,"name":"cut","path":"cut"}\n', None)),
     ("info a b", prints(TWO)), ("info --allow-cut - < cut", prints(TOLD_CUT)), ("info - a -", INPUT),
     ("digest a b", prints(digests([CARRIED_TEXT] * 2, [1, 1]))), ("digest -", prints(digests([CARRIED_TEXT], [1]))), ("digest - -", INPUT),
@@ -706,7 +713,7 @@ LINES = [
     *((words, FAULTY) for words in (
         "", "help frobnicate", "frobnicate a", "--allow-cut list a", "list", "list a b", "list --version", "list --allow-cut --allow-cut a",
         "diff", "diff a", "diff a b a", "diff a --order big b", "diff -o c a b", "diff --to pcap a b", "diff --whole a b", "diff --data 4 a b",
-        "diff --json --data 4 a b", "diff --json --json a b",
+        "diff --json --data +4 a b", "diff --json --data 262145 a b", "diff --json --json a b",
         "list --allow-cut=yes a", "list --order big a", "list -x a", "blocks", "blocks a b", "digest", "digest -o c a", "check", "check -o c a",
         "check --whole a", "check --order big a", "check --data 4 a", "info", "info -o c a",
         "report", "report -o c a",

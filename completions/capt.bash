@@ -20,7 +20,7 @@ _capt() {
     case ${COMP_WORDS[1]} in
         help) mapfile -t COMPREPLY < <(compgen -W "$commands" -- "$word"); return ;;
         convert | merge | join) options='--allow-cut --explain --order --output --to --whole -o --help' ;;
-        list) options='--allow-cut --explain --json --data --help' ;;
+        list | diff) options='--allow-cut --explain --json --data --help' ;;
         *) options='--allow-cut --explain --json --help' ;;
     esac
     if [[ $word == -* ]]; then

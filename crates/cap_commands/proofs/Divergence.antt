@@ -165,38 +165,38 @@ Prints-more old new head rest Write is p = Prints-head None old new head rest Wr
 Prints-more old new head rest Memory is p = grind arith
 
 -- both have ended
-pub Tells-same : (form : Form) (n : ℕ) (one other : Option Meta) (f g old new : List ℕ)
+pub Tells-same : (form : Form) (most n : ℕ) (one other : Option Meta) (f g old new : List ℕ)
     → (is_none one && is_none other) ≡ true
-    → Prints {A = Unit {0}} (diff_text_in form (same_packets n)) None old (Ok tt) new
-    → TellsDiff form (parted n (compared_of one f) (compared_of other g)) old (Ok true) new
-Tells-same form n None None f g old new h p = (refl, refl, p.1)
-Tells-same form n None (Some o) f g old new h p = absurd (false≢true h)
-Tells-same form n (Some m) other f g old new h p = absurd (false≢true h)
+    → Prints {A = Unit {0}} (diff_text_in form most (same_packets n)) None old (Ok tt) new
+    → TellsDiff form most (parted n (compared_of one f) (compared_of other g)) old (Ok true) new
+Tells-same form most n None None f g old new h p = (refl, refl, p.1)
+Tells-same form most n None (Some o) f g old new h p = absurd (false≢true h)
+Tells-same form most n (Some m) other f g old new h p = absurd (false≢true h)
 
-pub Tells-same-fault : (form : Form) (n : ℕ) (one other : Option Meta) (f g old new : List ℕ) (fault : Fault)
+pub Tells-same-fault : (form : Form) (most n : ℕ) (one other : Option Meta) (f g old new : List ℕ) (fault : Fault)
     → (is_none one && is_none other) ≡ true → fault ≡ Write
-    → Prints {A = Unit {0}} (diff_text_in form (same_packets n)) None old (Err fault) new
-    → TellsDiff form (parted n (compared_of one f) (compared_of other g)) old (Err fault) new
-Tells-same-fault form n None None f g old new fault h is p = rw is ((refl, rw is at p))
-Tells-same-fault form n None (Some o) f g old new fault h is p = absurd (false≢true h)
-Tells-same-fault form n (Some m) other f g old new fault h is p = absurd (false≢true h)
+    → Prints {A = Unit {0}} (diff_text_in form most (same_packets n)) None old (Err fault) new
+    → TellsDiff form most (parted n (compared_of one f) (compared_of other g)) old (Err fault) new
+Tells-same-fault form most n None None f g old new fault h is p = rw is ((refl, rw is at p))
+Tells-same-fault form most n None (Some o) f g old new fault h is p = absurd (false≢true h)
+Tells-same-fault form most n (Some m) other f g old new fault h is p = absurd (false≢true h)
 
 -- one of them has a packet
-pub Tells-other : (form : Form) (n : ℕ) (one other : Option Meta) (f g old new : List ℕ)
+pub Tells-other : (form : Form) (most n : ℕ) (one other : Option Meta) (f g old new : List ℕ)
     → (is_none one && is_none other) ≡ false
-    → Prints {A = Unit {0}} (diff_text_in form (other_packet (n
+    → Prints {A = Unit {0}} (diff_text_in form most (other_packet (n
     + 1) (compared_of one f) (compared_of other g))) None old (Ok tt)
     new
-    → TellsDiff form (parted n (compared_of one f) (compared_of other g)) old (Ok false) new
-Tells-other form n None None f g old new h p = absurd (false≢true (sym h))
-Tells-other form n None (Some o) f g old new h p = (refl, refl, p.1)
-Tells-other form n (Some m) other f g old new h p = (refl, refl, p.1)
+    → TellsDiff form most (parted n (compared_of one f) (compared_of other g)) old (Ok false) new
+Tells-other form most n None None f g old new h p = absurd (false≢true (sym h))
+Tells-other form most n None (Some o) f g old new h p = (refl, refl, p.1)
+Tells-other form most n (Some m) other f g old new h p = (refl, refl, p.1)
 
-pub Tells-other-fault : (form : Form) (n : ℕ) (one other : Option Meta) (f g old new : List ℕ) (fault : Fault)
+pub Tells-other-fault : (form : Form) (most n : ℕ) (one other : Option Meta) (f g old new : List ℕ) (fault : Fault)
     → (is_none one && is_none other) ≡ false → fault ≡ Write
-    → Prints {A = Unit {0}} (diff_text_in form (other_packet (n + 1) (compared_of one f) (compared_of other g))) None
-    old (Err fault) new
-    → TellsDiff form (parted n (compared_of one f) (compared_of other g)) old (Err fault) new
-Tells-other-fault form n None None f g old new fault h is p = absurd (false≢true (sym h))
-Tells-other-fault form n None (Some o) f g old new fault h is p = rw is ((refl, rw is at p))
-Tells-other-fault form n (Some m) other f g old new fault h is p = rw is ((refl, rw is at p))
+    → Prints {A = Unit {0}} (diff_text_in form most (other_packet (n + 1) (compared_of one f) (compared_of other g)))
+    None old (Err fault) new
+    → TellsDiff form most (parted n (compared_of one f) (compared_of other g)) old (Err fault) new
+Tells-other-fault form most n None None f g old new fault h is p = absurd (false≢true (sym h))
+Tells-other-fault form most n None (Some o) f g old new fault h is p = rw is ((refl, rw is at p))
+Tells-other-fault form most n (Some m) other f g old new fault h is p = rw is ((refl, rw is at p))

@@ -154,9 +154,9 @@ before_side Text sign from = sign ++ codes " "
 before_side Json sign from =
     codes "{\"type\":\"side\",\"side\":\"" ++ sign ++ (codes "\"" ++ from_json from (codes ",\"packet\":"))
 
--- the bytes of a packet that are shown: at most 16, from that byte on
-abbrev pub shown_from : ℕ → List ℕ → List ℕ
-shown_from from frame = take 16 (drop from frame)
+-- the bytes of a packet that are shown: at most so many, from that byte on
+abbrev pub shown_from : ℕ → ℕ → List ℕ → List ℕ
+shown_from most from frame = take most (drop from frame)
 
 -- the packet of that number in a form, as `list` prints it, with these of its bytes; in JSON its object ends the object
 -- that it stands in
@@ -169,23 +169,23 @@ abbrev pub no_side : Form → List ℕ
 no_side Text = codes "end\n"
 no_side Json = codes "null}\n"
 
--- a packet in a form, with its bytes from that byte on, or that there is none
-abbrev pub side_in : Form → ℕ → ℕ → Option Compared → List ℕ
-side_in form n from None = no_side form
-side_in form n from (Some a) = packet_side form n a.meta (shown_from from a.frame)
+-- a packet in a form, with at most so many bytes from that byte on, or that there is none
+abbrev pub side_in : Form → ℕ → ℕ → ℕ → Option Compared → List ℕ
+side_in form most n from None = no_side form
+side_in form most n from (Some a) = packet_side form n a.meta (shown_from most from a.frame)
 
--- both packets in a form, each with its sign, with their bytes from that byte on
-abbrev pub sides_in : Form → ℕ → ℕ → Option Compared → Option Compared → List ℕ
-sides_in form n from a b = (before_side form (codes "-") from ++ side_in form n from a)
-    ++ (before_side form (codes "+") from ++ side_in form n from b)
+-- both packets in a form, each with its sign, with at most so many bytes from that byte on
+abbrev pub sides_in : Form → ℕ → ℕ → ℕ → Option Compared → Option Compared → List ℕ
+sides_in form most n from a b = (before_side form (codes "-") from ++ side_in form most n from a)
+    ++ (before_side form (codes "+") from ++ side_in form most n from b)
 
--- what is printed of a comparison in a form: of packets whose captured bytes differ, the bytes from the row on in which
--- they do
-abbrev pub diff_text_in : Form → Comparison → List ℕ
-diff_text_in form (same_packets n) = same_line form n
-diff_text_in form (other_packet n a b) =
-    difference_line form n (difference_words a b) (data_place a b) ++ sides_in form n (row_of (data_place a b)) a b
-diff_text_in form (stopped_by refusal) = []
+-- what is printed of a comparison in a form, with at most so many bytes of each packet: of packets whose captured bytes
+-- differ, those from the row on in which they do
+abbrev pub diff_text_in : Form → ℕ → Comparison → List ℕ
+diff_text_in form most (same_packets n) = same_line form n
+diff_text_in form most (other_packet n a b) = difference_line form n (difference_words a b) (data_place a b)
+    ++ sides_in form most n (row_of (data_place a b)) a b
+diff_text_in form most (stopped_by refusal) = []
 
 -- the refusal that is returned
 abbrev pub diff_refusal : Comparison → Option Refusal
@@ -199,11 +199,13 @@ is_same (same_packets n) = true
 is_same (other_packet n a b) = false
 is_same (stopped_by refusal) = false
 
--- The comparison is printed in a form, and returned; or a refusal is returned, and nothing is printed then, nor if a
--- read failed or a growth was refused. If the writer failed, a prefix is printed.
-abbrev pub TellsDiff : Form → Comparison → List ℕ → Result Bool Fault → List ℕ → Type 0
-TellsDiff form c old (Ok so) new = (diff_refusal c ≡ None) × (so ≡ is_same c) × (new ≡ old ++ diff_text_in form c)
-TellsDiff form c old (Err (Refused r)) new = (diff_refusal c ≡ Some r) × (new ≡ old)
-TellsDiff form c old (Err (Read file offset)) new = new ≡ old
-TellsDiff form c old (Err Write) new = (diff_refusal c ≡ None) × PrintsFront (diff_text_in form c) old new
-TellsDiff form c old (Err Memory) new = new ≡ old
+-- The comparison is printed in a form, with at most so many bytes of each packet, and returned; or a refusal is
+-- returned, and nothing is printed then, nor if a read failed or a growth was refused. If the writer failed, a prefix
+-- is printed.
+abbrev pub TellsDiff : Form → ℕ → Comparison → List ℕ → Result Bool Fault → List ℕ → Type 0
+TellsDiff form most c old (Ok so) new =
+    (diff_refusal c ≡ None) × (so ≡ is_same c) × (new ≡ old ++ diff_text_in form most c)
+TellsDiff form most c old (Err (Refused r)) new = (diff_refusal c ≡ Some r) × (new ≡ old)
+TellsDiff form most c old (Err (Read file offset)) new = new ≡ old
+TellsDiff form most c old (Err Write) new = (diff_refusal c ≡ None) × PrintsFront (diff_text_in form most c) old new
+TellsDiff form most c old (Err Memory) new = new ≡ old

@@ -83,8 +83,8 @@ DoesTask tasks.List tail form shown order to fails files finding =
     Prints (list_in form shown tail (only_of files)) (list_refusal tail (only_of files))
 DoesTask tasks.Blocks tail form shown order to fails files finding = Prints (block_list_in form tail (only_of files))
     (block_refusal tail (only_of files))
-DoesTask tasks.Diff tail form shown order to fails files finding = Tells (diff_text_in form (comparison_in tail files))
-    (diff_refusal (comparison_in tail files))
+DoesTask tasks.Diff tail form shown order to fails files finding =
+    Tells (diff_text_in form shown (comparison_in tail files)) (diff_refusal (comparison_in tail files))
 DoesTask tasks.Digest tail form shown order to fails files finding =
     Prints (digests_text form tail files) (first_refusal tail 1 files)
 DoesTask tasks.Check tail form shown order to fails files finding =

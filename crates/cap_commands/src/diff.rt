@@ -19,7 +19,8 @@ ghost use Rattle.cap_commands.specs.inner.DiffWalk.{FailsOne, KnowsPackets, Part
 ghost use Rattle.cap_commands.specs.inner.DiffWalk.{known_packet, parted};
 
 use crate::diff_lines::{differ_line, end_line, same_line, side_head};
-use crate::lines::write_side;
+use crate::lines::{MOST_SHOWN, write_side};
+use crate::list::put_long_packet;
 use cap_bytes::{Fault, Sink, Source, Tail, put_all};
 use cap_print::{Form, Line};
 use cap_source::{Capture, Meta, PacketFeed};
@@ -162,23 +163,20 @@ fn part<F: PacketFeed>(first: &mut F, second: &mut F) -> Result<Divergence, Faul
     }
 }
 
-// At most 16 bytes of a packet, from that byte on.
-fn shown_from(from: usize, frame: &[u8]) -> &[u8]
-    ensures shown { result.now ≡ shown_from from frame.now }
-    ensures few { length result.now ≤ 16 }
-{
-    let (_, rest) = frame.split_at(min(frame.len(), from));
-    let (shown, _) = rest.split_at(min(rest.len(), 16));
-    shown
+// Which of a packet's bytes are shown: at most so many, from that byte on.
+#[derive(Clone, Copy)]
+struct Shown {
+    from: usize,
+    most: u32,
 }
 
-// The line of a packet in a form, with its bytes from that byte on.
-fn packet_line(form: Form, n: u64, from: usize, meta: &Meta, frame: &[u8]) -> Line
-    ensures { text_in result ≡ packet_side form n meta.now (shown_from from frame.now) }
+// The bytes of a packet that are shown.
+fn shown_of(shown: Shown, frame: &[u8]) -> &[u8]
+    ensures { result.now ≡ shown_from shown.most shown.from frame.now }
 {
-    let mut line = Line::new();
-    write_side(&mut line, form, n, meta, shown_from(from, frame));
-    line
+    let (_, rest) = frame.split_at(min(frame.len(), shown.from));
+    let (front, _) = rest.split_at(min(rest.len(), shown.most as usize));
+    front
 }
 
 // The line in a form that there is no packet.
@@ -193,17 +191,6 @@ fn no_packet_line(form: Form) -> Line
     line
 }
 
-// The line of a packet that comes next in a form, with its bytes from that byte on, or that there is none.
-fn side_line<F: PacketFeed>(form: Form, n: u64, from: usize, packet: Option<Meta>, feed: &F) -> Line
-    requires packet { IsSome packet → IsPacket (F.feed feed.now).known }
-    ensures { text_in result ≡ side_in form n from (compared_of packet (F.feed feed.now).frame) }
-{
-    match packet {
-        None => no_packet_line(form),
-        Some(meta) => packet_line(form, n, from, &meta, feed.frame()),
-    }
-}
-
 // Writes a line.
 fn put_line<W: Sink>(writer: &mut W, line: &Line) -> Result<(), Fault>
     ensures text { IsTrue (W.tells_held writer.old)
@@ -214,51 +201,94 @@ fn put_line<W: Sink>(writer: &mut W, line: &Line) -> Result<(), Fault>
     put_all(writer, line.as_slice())
 }
 
-// Writes one side of a difference in a form: the sign of its file, and the packet that comes next, with its bytes from
-// that byte on, or that there is none.
+// Writes a packet in a form, with these of its bytes; in JSON its object ends the one that it stands in.
+fn put_packet<W: Sink>(
+    writer: &mut W,
+    form: Form,
+    n: u64,
+    meta: &Meta,
+    shown: &[u8],
+) -> Result<(), Fault>
+    ensures text { IsTrue (W.tells_held writer.old)
+        → Prints (packet_side form n meta.now shown.now) None (W.held writer.old) result (W.held writer.new) }
+    ensures writer { WriterKeeps (writer_of W.Sink writer.old) (is_write result) (writer_of W.Sink writer.new) }
+    ensures fault { IsOkUnless result Fault.Write }
+{
+    let mut line = Line::new();
+    if shown.len() > MOST_SHOWN {
+        return put_long_packet(writer, &mut line, form, true, n, meta, shown);
+    }
+    write_side(&mut line, form, n, meta, shown);
+    put_line(writer, &line)
+}
+
+// Writes the packet that comes next in a form, with these of its bytes, or that there is none.
+fn put_next<F: PacketFeed, W: Sink>(
+    writer: &mut W,
+    form: Form,
+    n: u64,
+    shown: Shown,
+    packet: Option<Meta>,
+    feed: &F,
+) -> Result<(), Fault>
+    requires packet { IsSome packet → IsPacket (F.feed feed.now).known }
+    ensures text { IsTrue (W.tells_held writer.old)
+        → Prints (side_in form shown.most n shown.from (compared_of packet (F.feed feed.now).frame)) None
+        (W.held writer.old) result (W.held writer.new) }
+    ensures writer { WriterKeeps (writer_of W.Sink writer.old) (is_write result) (writer_of W.Sink writer.new) }
+    ensures fault { IsOkUnless result Fault.Write }
+{
+    match packet {
+        None => put_line(writer, &no_packet_line(form)),
+        Some(meta) => put_packet(writer, form, n, &meta, shown_of(shown, feed.frame())),
+    }
+}
+
+// Writes one side of a difference in a form: the sign of its file, and the packet that comes next, with these of its
+// bytes, or that there is none.
 fn put_side<F: PacketFeed, W: Sink>(
     writer: &mut W,
     form: Form,
     sign: &[u8],
     n: u64,
-    from: usize,
+    shown: Shown,
     packet: Option<Meta>,
     feed: &F,
 ) -> Result<(), Fault>
     requires sign { length sign.now ≤ 400 }
     requires packet { IsSome packet → IsPacket (F.feed feed.now).known }
     ensures text { IsTrue (W.tells_held writer.old)
-        → Prints (before_side form sign.now from ++ side_in form n from (compared_of packet (F.feed feed.now).frame))
-        None (W.held writer.old) result (W.held writer.new) }
+        → Prints (before_side form sign.now shown.from
+        ++ side_in form shown.most n shown.from (compared_of packet (F.feed feed.now).frame)) None
+        (W.held writer.old) result (W.held writer.new) }
     ensures writer { WriterKeeps (writer_of W.Sink writer.old) (is_write result) (writer_of W.Sink writer.new) }
     ensures fault { IsOkUnless result Fault.Write }
 {
-    let head = side_head(form, sign, from);
+    let head = side_head(form, sign, shown.from);
     put_all(writer, head.as_slice())?;
-    let line = side_line(form, n, from, packet, feed);
-    put_line(writer, &line)
+    put_next(writer, form, n, shown, packet, feed)
 }
 
-// Writes both sides in a form, with their bytes from that byte on.
+// Writes both sides in a form, with these of their bytes.
 fn put_sides<F: PacketFeed, W: Sink>(
     writer: &mut W,
     form: Form,
     n: u64,
-    from: usize,
+    shown: Shown,
     divergence: &Divergence,
     first: &F,
     second: &F,
 ) -> Result<(), Fault>
     requires known { KnowsPackets divergence.now (F.feed first.now) (F.feed second.now) }
     ensures text { IsTrue (W.tells_held writer.old)
-        → Prints (sides_in form n from (compared_of divergence.now.first (F.feed first.now).frame)
+        → Prints (sides_in form shown.most n shown.from (compared_of divergence.now.first (F.feed first.now).frame)
         (compared_of divergence.now.second (F.feed second.now).frame)) None (W.held writer.old) result
         (W.held writer.new) }
     ensures writer { WriterKeeps (writer_of W.Sink writer.old) (is_write result) (writer_of W.Sink writer.new) }
     ensures fault { IsOkUnless result Fault.Write }
 {
-    put_side(writer, form, b"-", n, from, divergence.first, first)?;
-    put_side(writer, form, b"+", n, from, divergence.second, second)
+    put_side(writer, form, b"-", n, shown, divergence.first, first)?;
+    put_side(writer, form, b"+", n, shown, divergence.second, second)
 }
 
 // Where these captured bytes differ, if they do.
@@ -329,6 +359,7 @@ fn head_line<F: PacketFeed>(
 fn put_difference<F: PacketFeed, W: Sink>(
     writer: &mut W,
     form: Form,
+    most: u32,
     n: u64,
     divergence: &Divergence,
     first: &F,
@@ -336,7 +367,7 @@ fn put_difference<F: PacketFeed, W: Sink>(
 ) -> Result<(), Fault>
     requires known { KnowsPackets divergence.now (F.feed first.now) (F.feed second.now) }
     ensures text { IsTrue (W.tells_held writer.old)
-        → Prints (diff_text_in form (other_packet n (compared_of divergence.now.first (F.feed first.now).frame)
+        → Prints (diff_text_in form most (other_packet n (compared_of divergence.now.first (F.feed first.now).frame)
         (compared_of divergence.now.second (F.feed second.now).frame))) None (W.held writer.old) result
         (W.held writer.new) }
     ensures writer { WriterKeeps (writer_of W.Sink writer.old) (is_write result) (writer_of W.Sink writer.new) }
@@ -345,7 +376,11 @@ fn put_difference<F: PacketFeed, W: Sink>(
     let place = data_place(divergence, first, second);
     let line = head_line(form, n, place, divergence, first, second);
     put_all(writer, line.as_slice())?;
-    put_sides(writer, form, n, row_of(place), divergence, first, second)
+    let shown = Shown {
+        from: row_of(place),
+        most,
+    };
+    put_sides(writer, form, n, shown, divergence, first, second)
 }
 
 // Whether both have ended.
@@ -359,6 +394,7 @@ fn is_end(divergence: &Divergence) -> bool
 fn put_divergence<F: PacketFeed, W: Sink>(
     writer: &mut W,
     form: Form,
+    most: u32,
     divergence: &Divergence,
     first: &F,
     second: &F,
@@ -366,7 +402,7 @@ fn put_divergence<F: PacketFeed, W: Sink>(
     requires known { KnowsPackets divergence.now (F.feed first.now) (F.feed second.now) }
     requires few { divergence.now.passed ≤ 2 ^ 40 }
     ensures text { IsTrue (W.tells_held writer.old)
-        → TellsDiff form (parted divergence.now.passed (compared_of divergence.now.first (F.feed first.now).frame)
+        → TellsDiff form most (parted divergence.now.passed (compared_of divergence.now.first (F.feed first.now).frame)
         (compared_of divergence.now.second (F.feed second.now).frame)) (W.held writer.old) result (W.held writer.new) }
     ensures same { IfOk result (λ so. so ≡ (is_none divergence.now.first && is_none divergence.now.second)) }
     ensures writer { WriterKeeps (writer_of W.Sink writer.old) (is_write result) (writer_of W.Sink writer.new) }
@@ -379,6 +415,7 @@ fn put_divergence<F: PacketFeed, W: Sink>(
     put_difference(
         writer,
         form,
+        most,
         divergence.passed + 1,
         divergence,
         first,
@@ -391,20 +428,22 @@ fn put_divergence<F: PacketFeed, W: Sink>(
 /// captured and original length and captured bytes: `same packets N`, and returns `true`; or the number and the
 /// differences of the first packet that isn't the same in both, and its line in each, as `list_to` prints it, and
 /// returns `false`. In JSON these are three objects, of which the second and the third hold the object that
-/// `list_json_to` prints with 16 bytes, or `null`. If the captured bytes differ, the place of the first byte that
-/// differs is printed, and each line or object has the bytes from the row of 16 bytes on in which that byte is. If a
-/// file is refused before that, the refusal is returned. It returns `Read` if a read fails and `Memory` if a growth is
-/// refused; after these and a refusal nothing is printed. It returns `Write` if a write fails, after a prefix.
+/// `list_json_to` prints, or `null`. Each line or object has at most `most` bytes of its packet. If the captured bytes
+/// differ, the place of the first byte that differs is printed, and these are the bytes from the row of 16 bytes on in
+/// which that byte is. If a file is refused before that, the refusal is returned. It returns `Read` if a read fails and
+/// `Memory` if a growth is refused; after these and a refusal nothing is printed. It returns `Write` if a write fails,
+/// after a prefix.
 pub fn diff_in<R: Source, W: Sink>(
     alloc: Global,
     first: R,
     second: R,
     tail: Tail,
     form: Form,
+    most: u32,
     writer: &mut W,
 ) -> Result<bool, Fault>
     ensures text { IsTrue (R.tells_coming first) → IsTrue (R.tells_coming second) → IsTrue (W.tells_held writer.old)
-        → TellsDiff form (comparison_of tail (R.coming first) (R.coming second)) (W.held writer.old) result
+        → TellsDiff form most (comparison_of tail (R.coming first) (R.coming second)) (W.held writer.old) result
         (W.held writer.new) }
     ensures same { IsTrue (R.tells_coming first) → IsTrue (R.tells_coming second)
         → IfOk result (λ so. so ≡ is_same (comparison_of tail (R.coming first) (R.coming second))) }
@@ -414,10 +453,10 @@ pub fn diff_in<R: Source, W: Sink>(
     let mut first = Capture::new(alloc, first, 1, tail);
     let mut second = Capture::new(alloc, second, 2, tail);
     let divergence = part(&mut first, &mut second)?;
-    put_divergence(writer, form, &divergence, &first, &second)
+    put_divergence(writer, form, most, &divergence, &first, &second)
 }
 
-/// Does what `diff_in` does, in text.
+/// Does what `diff_in` does, in text and with at most 16 bytes of each packet.
 pub fn diff_to<R: Source, W: Sink>(
     alloc: Global,
     first: R,
@@ -426,12 +465,12 @@ pub fn diff_to<R: Source, W: Sink>(
     writer: &mut W,
 ) -> Result<bool, Fault>
     ensures text { IsTrue (R.tells_coming first) → IsTrue (R.tells_coming second) → IsTrue (W.tells_held writer.old)
-        → TellsDiff Text (comparison_of tail (R.coming first) (R.coming second)) (W.held writer.old) result
+        → TellsDiff Text 16 (comparison_of tail (R.coming first) (R.coming second)) (W.held writer.old) result
         (W.held writer.new) }
     ensures same { IsTrue (R.tells_coming first) → IsTrue (R.tells_coming second)
         → IfOk result (λ so. so ≡ is_same (comparison_of tail (R.coming first) (R.coming second))) }
     ensures writer { WriterKeeps (writer_of W.Sink writer.old) (is_write result) (writer_of W.Sink writer.new) }
     ensures read { FailsOf (R.can_fail first ∷ R.can_fail second ∷ []) result }
 {
-    diff_in(alloc, first, second, tail, Form::Text, writer)
+    diff_in(alloc, first, second, tail, Form::Text, 16, writer)
 }

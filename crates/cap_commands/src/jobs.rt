@@ -111,11 +111,12 @@ fn compare<R: Source, W: Sink>(
     sources: (R, R),
     tail: Tail,
     form: Form,
+    most: u32,
     writer: &mut W,
 ) -> Result<Finding, Fault>
     ensures text { IsTrue (R.tells_coming sources.0) → IsTrue (R.tells_coming sources.1)
         → IsTrue (W.tells_held writer.old)
-        → Tells (diff_text_in form (comparison_of tail (R.coming sources.0) (R.coming sources.1)))
+        → Tells (diff_text_in form most (comparison_of tail (R.coming sources.0) (R.coming sources.1)))
         (diff_refusal (comparison_of tail (R.coming sources.0) (R.coming sources.1))) (W.held writer.old)
         (done_of result) (W.held writer.new) }
     ensures finding { IfOk result (λ finding. IsTrue (R.tells_coming sources.0) → IsTrue (R.tells_coming sources.1)
@@ -124,7 +125,7 @@ fn compare<R: Source, W: Sink>(
     ensures read { FailsOf (R.can_fail sources.0 ∷ R.can_fail sources.1 ∷ []) result }
 {
     let (first, second) = sources;
-    let is_same = diff_in(alloc, first, second, tail, form, writer)?;
+    let is_same = diff_in(alloc, first, second, tail, form, most, writer)?;
     Ok(finding_of(is_same))
 }
 
@@ -241,7 +242,10 @@ pub fn job_to<R: Source, W: Sink>(
             printed(list_in(alloc, only(sources), tail, form, shown, writer))
         }
         Task::Blocks => printed(blocks_in(alloc, only(sources), tail, form, writer)),
-        Task::Diff => found(compare(alloc, pair(sources), tail, form, writer)),
+        Task::Diff => {
+            let shown = shown_of(form, job.data);
+            found(compare(alloc, pair(sources), tail, form, shown, writer))
+        }
         Task::Digest => printed(digests_to(alloc, sources, tail, form, writer)),
         Task::Check => found(check(alloc, sources, tail, form, writer)),
         Task::Info => printed(file_lines_in(alloc, sources, tail, form, writer)),

@@ -3,7 +3,8 @@ ghost use Rattle.std.specs.Prelude.{◌≡◌, ◌≤◌, ◌++◌, Some, codes,
 ghost use Rattle.cap_print.specs.Facts.{begin_in, fact_in, fields_in, line_in, named, word};
 ghost use Rattle.cap_print.specs.Lines.{room_in, text_in};
 ghost use Rattle.cap_commands.specs.BlockText.{block_line, kind_text, order_text};
-ghost use Rattle.cap_commands.specs.inner.PacketParts.{packet_head};
+ghost use Rattle.cap_print.specs.inner.Parts.{quote_in};
+ghost use Rattle.cap_commands.specs.inner.PacketParts.{object_end, packet_head};
 ghost use Rattle.cap_time.specs.Stamp.{printed_of};
 ghost use Rattle.cap_commands.specs.DiffText.{packet_side};
 ghost use Rattle.cap_commands.specs.ListText.{facts_showing, packet_fields, printed_in};
@@ -49,6 +50,19 @@ pub(crate) fn write_packet(line: &mut Line, form: Form, n: u64, meta: &Meta, sho
     line.clear_to_end(form);
     line.put_hex(form, b"data", shown);
     put_packet(line, form, n, meta);
+}
+
+/// Makes a line the end of a packet's line in a form, after the digits of its bytes; in JSON also the end of the object
+/// that it stands in, if it does.
+pub(crate) fn write_packet_end(line: &mut Line, form: Form, is_inner: bool)
+    ensures text { text_in line.new ≡ quote_in form (object_end form is_inner) }
+    ensures room { 508 ≤ room_in line.new }
+{
+    line.clear_to_end(form);
+    if is_inner {
+        line.put_group_end(form);
+    }
+    line.put_quote(form);
 }
 
 /// Makes a line the packet number n, from 1, in a form, up to the digits of its bytes.

@@ -1,10 +1,8 @@
 //! `capt list`, in text and in JSON: one line for each packet, as it is found.
 ghost use Rattle.std.specs.Prelude.{◌≡◌, ◌<◌, ◌≤◌, ◌^◌, ◌∷◌, [], None, IsTrue, length};
 ghost use Rattle.std.specs.Prelude.{IsOkUnless, is_err};
-ghost use Rattle.cap_commands.specs.ListText.{facts_showing, list_in, list_json, list_lines, list_refusal, list_text};
-ghost use Rattle.cap_commands.specs.ListText.{packet_line};
-ghost use Rattle.cap_commands.specs.inner.PacketParts.{packet_rest};
-ghost use Rattle.cap_print.specs.Facts.{line_in};
+ghost use Rattle.cap_commands.specs.ListText.{list_in, list_json, list_lines, list_refusal, list_text, packet_line};
+ghost use Rattle.cap_commands.specs.inner.PacketParts.{packet_rest, packet_text};
 ghost use Rattle.cap_bytes.specs.Device.{Puts, WriterKeeps, writer_of};
 ghost use Rattle.cap_bytes.specs.Printing.{Prints, is_write};
 ghost use Rattle.cap_source.specs.Feed.{refusal_of};
@@ -12,7 +10,7 @@ ghost use Rattle.cap_source.specs.ReadFaults.{FailsOf};
 ghost use Rattle.cap_source.specs.inner.Walk.{Walks};
 ghost use Rattle.cap_source.specs.inner.Growing.{IfMemory};
 
-use crate::lines::{MOST_SHOWN, write_packet, write_packet_head};
+use crate::lines::{MOST_SHOWN, write_packet, write_packet_end, write_packet_head};
 use cap_bytes::{Fault, Sink, Source, Tail, put_all};
 use cap_print::{Form, Line};
 use cap_source::{Capture, Meta, PacketFeed, next_packet};
@@ -20,9 +18,15 @@ use std::alloc::Global;
 use std::cmp::min;
 
 // Writes bytes as digits, and then the end of their packet's line in a form.
-fn put_rest<W: Sink>(writer: &mut W, line: &mut Line, form: Form, bytes: &[u8]) -> Result<(), Fault>
+fn put_rest<W: Sink>(
+    writer: &mut W,
+    line: &mut Line,
+    form: Form,
+    is_inner: bool,
+    bytes: &[u8],
+) -> Result<(), Fault>
     ensures bytes { IsTrue (W.tells_held writer.old)
-        → Puts (W.held writer.old) result (W.held writer.new) (packet_rest form bytes.now) }
+        → Puts (W.held writer.old) result (W.held writer.new) (packet_rest form is_inner bytes.now) }
     ensures writer { WriterKeeps (writer_of W.Sink writer.old) (is_err result) (writer_of W.Sink writer.new) }
     ensures fault { IsOkUnless result Fault.Write }
 {
@@ -34,31 +38,32 @@ fn put_rest<W: Sink>(writer: &mut W, line: &mut Line, form: Form, bytes: &[u8]) 
         put_all(writer, line.as_slice())?;
         rest = behind;
     }
-    line.clear_to_end(form);
-    line.put_quote(form);
+    write_packet_end(line, form, is_inner);
     line.prepend_hex(b"", rest);
     put_all(writer, line.as_slice())
 }
 
-// Writes the packet number n, from 1, in a form, with these of its captured bytes, which are more than a line holds.
+/// Writes the packet number n, from 1, in a form, with these of its captured bytes, which are more than a line holds.
+/// In JSON its object ends the one that it stands in, if it does. It returns `Write` if that fails, after a prefix.
 #[inline(never)]
-fn put_long_packet<W: Sink>(
+pub(crate) fn put_long_packet<W: Sink>(
     writer: &mut W,
     line: &mut Line,
     form: Form,
+    is_inner: bool,
     n: u64,
     meta: &Meta,
     shown: &[u8],
 ) -> Result<(), Fault>
     requires { 128 < length shown.now }
     ensures bytes { IsTrue (W.tells_held writer.old)
-        → Puts (W.held writer.old) result (W.held writer.new) (line_in form (facts_showing n meta.now shown.now)) }
+        → Puts (W.held writer.old) result (W.held writer.new) (packet_text form is_inner n meta.now shown.now) }
     ensures writer { WriterKeeps (writer_of W.Sink writer.old) (is_err result) (writer_of W.Sink writer.new) }
     ensures fault { IsOkUnless result Fault.Write }
 {
     write_packet_head(line, form, n, meta);
     put_all(writer, line.as_slice())?;
-    put_rest(writer, line, form, shown)
+    put_rest(writer, line, form, is_inner, shown)
 }
 
 // Writes the packet number n, from 1, in a form, with at most `most` of its captured bytes.
@@ -79,7 +84,7 @@ fn put_packet<W: Sink>(
 {
     let (shown, _) = bytes.split_at(min(bytes.len(), most as usize));
     if shown.len() > MOST_SHOWN {
-        return put_long_packet(writer, line, form, n, meta, shown);
+        return put_long_packet(writer, line, form, false, n, meta, shown);
     }
     write_packet(line, form, n, meta, shown);
     put_all(writer, line.as_slice())

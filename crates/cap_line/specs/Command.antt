@@ -102,10 +102,10 @@ list_app = with_rule (with_rule (showing_app (codes "list")) data_rule) file_rul
 abbrev pub blocks_app : App
 blocks_app = with_rule (showing_app (codes "blocks")) file_rule
 
--- `diff A B`
+-- `diff [--data N] A B`
 abbrev pub diff_app : App
-diff_app =
-    with_rule (with_rule (showing_app (codes "diff")) (required_rule (codes "A"))) (required_rule (codes "B"))
+diff_app = with_rule (with_rule (with_rule (showing_app (codes "diff")) data_rule) (required_rule (codes "A")))
+    (required_rule (codes "B"))
 
 -- `digest FILE..`
 abbrev pub digest_app : App

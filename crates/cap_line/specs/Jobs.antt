@@ -113,12 +113,13 @@ is_printing tasks.Convert = false
 is_printing tasks.Merge = false
 is_printing tasks.Join = false
 
--- whether a task lists packets
+-- whether a task prints packets
 abbrev pub is_listing : Task → Bool
 is_listing tasks.List = true
+is_listing tasks.Diff = true
 is_listing _ = false
 
--- whether a task can show what is asked for: JSON Lines if it prints, and a number of bytes of each packet if it lists
+-- whether a task can show what is asked for: JSON Lines if it prints, and a number of bytes of each packet if it prints
 -- packets as JSON Lines
 abbrev pub can_show : Task → Bool → Option ℕ → Bool
 can_show task json None = not json || is_printing task

@@ -286,9 +286,10 @@ fn diff<'a>(alloc: Global) -> Result<Command<'a>, AllocError>
     ensures local { IfOk result (λ c. (fields_of c).has_globals ≡ false) }
 {
     let before = showing(alloc, "diff", texts::DIFF_ABOUT, texts::DIFF_HELP);
+    let shown = with_argument(before, data(alloc));
     let first = required(alloc, "A", texts::A_HELP);
     with_argument(
-        with_argument(before, first),
+        with_argument(shown, first),
         required(alloc, "B", texts::B_HELP),
     )
 }

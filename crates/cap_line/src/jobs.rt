@@ -175,14 +175,13 @@ pub fn data_of(text: Option<&str>) -> Result<Option<u32>, LineFault>
 }
 
 /// Whether a task can show what is asked for: JSON Lines if it prints, and a number of bytes of each packet if it
-/// lists packets as JSON Lines.
+/// prints packets as JSON Lines.
 pub fn can_show(task: Task, json: bool, count: Option<u32>) -> bool
     ensures { result ≡ can_show task json count }
 {
     match task {
-        Task::List => json || count.is_none(),
-        Task::Blocks | Task::Diff | Task::Digest | Task::Check | Task::Info | Task::Report =>
-            count.is_none(),
+        Task::List | Task::Diff => json || count.is_none(),
+        Task::Blocks | Task::Digest | Task::Check | Task::Info | Task::Report => count.is_none(),
         Task::Convert | Task::Merge | Task::Join => !json && count.is_none(),
     }
 }

@@ -8,7 +8,7 @@ Usage: capt report [--allow-cut] [--json] FILE...
        capt info [--allow-cut] [--json] FILE...
        capt list [--allow-cut] [--json [--data N]] FILE
        capt blocks [--allow-cut] [--json] FILE
-       capt diff [--allow-cut] [--json] A B
+       capt diff [--allow-cut] [--json [--data N]] A B
        capt digest [--allow-cut] [--json] FILE...
        capt check [--allow-cut] [--json] FILE...
        capt convert [--allow-cut] [--order ORDER] --to FORMAT -o OUT FILE
@@ -38,7 +38,8 @@ Options:
                  what isn't carried on, as at a terminal
       --json     Of report, info, list, blocks, diff, digest, check: print
                  JSON Lines
-      --data N   Of list --json: show N bytes of each packet, default 16
+      --data N   Of list and diff with --json: show N bytes of each packet,
+                 default 16
       --whole    Of convert, merge and join: leave OUT as it was until all is
                  done
 

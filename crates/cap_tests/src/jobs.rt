@@ -128,7 +128,7 @@ fn bytes_shown_are_a_number(rt: HostRuntime) {
 }
 
 // Tasks, whether JSON Lines are asked for, how many bytes, and whether the task can show that.
-const SHOWN: [(Task, bool, Option<u32>, bool); 17] = [
+const SHOWN: [(Task, bool, Option<u32>, bool); 18] = [
     (Task::List, false, None, true),
     (Task::List, true, None, true),
     (Task::List, true, Some(0), true),
@@ -136,7 +136,8 @@ const SHOWN: [(Task, bool, Option<u32>, bool); 17] = [
     (Task::Blocks, true, None, true),
     (Task::Blocks, true, Some(16), false),
     (Task::Diff, true, None, true),
-    (Task::Diff, true, Some(16), false),
+    (Task::Diff, true, Some(16), true),
+    (Task::Diff, false, Some(16), false),
     (Task::Digest, true, None, true),
     (Task::Digest, true, Some(16), false),
     (Task::Check, false, None, true),

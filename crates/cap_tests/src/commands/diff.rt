@@ -115,17 +115,19 @@ const COMPARED: [Row; 13] = [
     (CUT_PCAP, CUT_PCAP, "", Err((1, 24, Rule::Cut))),
 ];
 
-// Two files, and what is printed of them in JSON.
-const OBJECTS: [(File, File, &str, bool); 6] = [
+// Two files, how many bytes of a packet are shown at most, and what is printed of them in JSON.
+const OBJECTS: [(File, File, u32, &str, bool); 8] = [
     (
         CARRY_PCAP,
         CARRY_PCAPNG,
+        16,
         "{\"type\":\"same\",\"packets\":1}\n",
         true,
     ),
     (
         CARRY_PCAP,
         LATER,
+        16,
         "{\"type\":\"differ\",\"packet\":1,\"differs\":[\"time\"]}\n\
         {\"type\":\"side\",\"side\":\"-\",\"packet\":{\"type\":\"packet\",\"n\":1,\"offset\":24,\
         \"time\":[2,500000,1000000],\"captured\":4,\"original\":4,\"link\":1,\"data\":\"01020304\"}}\n\
@@ -136,6 +138,7 @@ const OBJECTS: [(File, File, &str, bool); 6] = [
     (
         LONGER,
         CARRY_PCAP,
+        16,
         "{\"type\":\"differ\",\"packet\":1,\"differs\":[\"captured\",\"original\",\"data\"],\"data_at\":4}\n\
         {\"type\":\"side\",\"side\":\"-\",\"packet\":{\"type\":\"packet\",\"n\":1,\"offset\":24,\
         \"time\":[2,500000,1000000],\"captured\":5,\"original\":6,\"link\":1,\"data\":\"0102030405\"}}\n\
@@ -146,6 +149,7 @@ const OBJECTS: [(File, File, &str, bool); 6] = [
     (
         TWENTY,
         SIXTEEN,
+        16,
         "{\"type\":\"differ\",\"packet\":1,\"differs\":[\"captured\",\"data\"],\"data_at\":16}\n\
         {\"type\":\"side\",\"side\":\"-\",\"data_from\":16,\"packet\":{\"type\":\"packet\",\"n\":1,\"offset\":24,\
         \"time\":[2,500000,1000000],\"captured\":20,\"original\":20,\"link\":1,\"data\":\"10111213\"}}\n\
@@ -153,9 +157,33 @@ const OBJECTS: [(File, File, &str, bool); 6] = [
         \"time\":[2,500000,1000000],\"captured\":16,\"original\":20,\"link\":1,\"data\":\"\"}}\n",
         false,
     ),
+    // fewer bytes of the row, and none
+    (
+        TWENTY,
+        TWENTY_OTHER,
+        3,
+        "{\"type\":\"differ\",\"packet\":1,\"differs\":[\"data\"],\"data_at\":17}\n\
+        {\"type\":\"side\",\"side\":\"-\",\"data_from\":16,\"packet\":{\"type\":\"packet\",\"n\":1,\"offset\":24,\
+        \"time\":[2,500000,1000000],\"captured\":20,\"original\":20,\"link\":1,\"data\":\"101112\"}}\n\
+        {\"type\":\"side\",\"side\":\"+\",\"data_from\":16,\"packet\":{\"type\":\"packet\",\"n\":1,\"offset\":24,\
+        \"time\":[2,500000,1000000],\"captured\":20,\"original\":20,\"link\":1,\"data\":\"10ff12\"}}\n",
+        false,
+    ),
+    (
+        CARRY_PCAP,
+        OTHER,
+        0,
+        "{\"type\":\"differ\",\"packet\":1,\"differs\":[\"data\"],\"data_at\":3}\n\
+        {\"type\":\"side\",\"side\":\"-\",\"packet\":{\"type\":\"packet\",\"n\":1,\"offset\":24,\
+        \"time\":[2,500000,1000000],\"captured\":4,\"original\":4,\"link\":1,\"data\":\"\"}}\n\
+        {\"type\":\"side\",\"side\":\"+\",\"packet\":{\"type\":\"packet\",\"n\":1,\"offset\":24,\
+        \"time\":[2,500000,1000000],\"captured\":4,\"original\":4,\"link\":1,\"data\":\"\"}}\n",
+        false,
+    ),
     (
         TWICE,
         CARRY_PCAPNG,
+        16,
         "{\"type\":\"differ\",\"packet\":2,\"differs\":[\"end\"]}\n\
         {\"type\":\"side\",\"side\":\"-\",\"packet\":{\"type\":\"packet\",\"n\":2,\"offset\":44,\
         \"time\":[2,500000,1000000],\"captured\":4,\"original\":4,\"link\":1,\"data\":\"01020304\"}}\n\
@@ -165,6 +193,7 @@ const OBJECTS: [(File, File, &str, bool); 6] = [
     (
         &[ETHERNET],
         CARRY_PCAP,
+        16,
         "{\"type\":\"differ\",\"packet\":1,\"differs\":[\"end\"]}\n\
         {\"type\":\"side\",\"side\":\"-\",\"packet\":null}\n\
         {\"type\":\"side\",\"side\":\"+\",\"packet\":{\"type\":\"packet\",\"n\":1,\"offset\":24,\
@@ -174,12 +203,20 @@ const OBJECTS: [(File, File, &str, bool); 6] = [
 ];
 
 // What is printed in JSON and returned of two files.
-fn is_object(rt: &impl Abort, alloc: Global, row: &(File, File, &str, bool)) {
-    let (first, second, text, is_same) = *row;
+fn is_object(rt: &impl Abort, alloc: Global, row: &(File, File, u32, &str, bool)) {
+    let (first, second, most, text, is_same) = *row;
     let mut writer = room_of(rt, alloc, 1024);
     let one = reader_of(rt, alloc, first, 4096);
     let other = reader_of(rt, alloc, second, 4096);
-    let answer = diff_in(alloc, one, other, Tail::Refuse, Form::Json, &mut writer);
+    let answer = diff_in(
+        alloc,
+        one,
+        other,
+        Tail::Refuse,
+        Form::Json,
+        most,
+        &mut writer,
+    );
     same!(rt; (answer, writer.bytes()), (Ok(is_same), text.as_bytes()));
 }
 

@@ -15,7 +15,8 @@ returns-in_err-put_all-clause-text g c = λ w.
     let line = difference_line c.args.form c.args.n (difference_words a b) in
     rw (p.1, p.2)
     (Prints-head None (g.W.Sink.held c.args.writer.now) (g.W.Sink.held c.put_all.new.writer) (line place)
-    (sides_in c.args.form c.args.n (row_of place) a b) c.in_err-put_all.field-0.0 c.in_err-put_all.ensures.fault
+    (sides_in c.args.form c.args.most c.args.n (row_of place) a b) c.in_err-put_all.field-0.0
+    c.in_err-put_all.ensures.fault
     (rw (c.as_slice.ensures.value ∙ (c.head_line-line.ensures ∙ ap line c.data_place-place.ensures)) at
     (c.in_err-put_all.ensures.bytes w)))
 
@@ -28,7 +29,7 @@ returns-clause-text g c = λ w.
     let mid = g.W.Sink.held c.put_all.new.writer in
     let new = g.W.Sink.held c.put_sides.new.writer in
     let from_is : c.row_of.result ≡ row_of place = c.row_of.ensures ∙ ap row_of c.data_place-place.ensures in
-    let sides = λ (from : ℕ). sides_in c.args.form c.args.n from a b in
+    let sides = λ (from : ℕ). sides_in c.args.form c.args.most c.args.n from a b in
     Prints-behind None (g.W.Sink.held c.args.writer.now) mid new (line place) (sides (row_of place)) c.put_sides.result
     (rw (c.as_slice.ensures.value ∙ (c.head_line-line.ensures ∙ ap line c.data_place-place.ensures)) at
     (c.in_ok-put_all.ensures.bytes w))

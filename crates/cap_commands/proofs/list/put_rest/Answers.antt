@@ -4,7 +4,6 @@ use Rattle.hex.specs.Hex.{encode_lower}
 use Rattle.cap_bytes.proofs.Putting.{Putting, Putting-front}
 use Rattle.cap_commands.proofs.Pieces.{Putting-line, Puts-err, Puts-last, rest-piece}
 use Rattle.cap_commands.specs.inner.PacketParts.{packet_rest}
-use Rattle.cap_print.specs.inner.Parts.{quote_in}
 use Rattle.cap_commands.proofs.list.put_rest.Goals as goal
 
 pub returns-in_err-put_all-clause-bytes : goal.returns-in_err-put_all-clause-bytes
@@ -18,12 +17,12 @@ returns-in_err-put_all-clause-bytes g c = λ t.
     c.as_slice.ensures.value ∙ (c.prepend_hex.ensures.text ∙ (ap (λ l. encode_lower piece ++ l) c.clear.ensures.text
     ∙ append-nil (encode_lower piece))) in
     let wrote = c.in_err-put_all.ensures.bytes (i.told t) in
-    Puts-err _ _ (packet_rest c.args.form c.args.bytes.now) c.from_residual.result p.0 p.1
-    (Putting-front _ _ _ (packet_rest c.args.form c.args.bytes.now) c.as_slice.result.now
-    (packet_rest c.args.form behind) wrote.0
-    (subst (Putting _ _ (packet_rest c.args.form c.args.bytes.now))
-    (ap (packet_rest c.args.form) parts ∙ (rest-piece c.args.form piece behind
-    ∙ ap (λ l. l ++ packet_rest c.args.form behind) (sym line_is))) i)
+    Puts-err _ _ (packet_rest c.args.form c.args.is_inner c.args.bytes.now) c.from_residual.result p.0 p.1
+    (Putting-front _ _ _ (packet_rest c.args.form c.args.is_inner c.args.bytes.now) c.as_slice.result.now
+    (packet_rest c.args.form c.args.is_inner behind) wrote.0
+    (subst (Putting _ _ (packet_rest c.args.form c.args.is_inner c.args.bytes.now))
+    (ap (packet_rest c.args.form c.args.is_inner) parts ∙ (rest-piece c.args.form c.args.is_inner piece behind
+    ∙ ap (λ l. l ++ packet_rest c.args.form c.args.is_inner behind) (sym line_is))) i)
     t wrote.1)
 
 pub loop-rest-preserved : goal.loop-rest-preserved
@@ -35,11 +34,11 @@ loop-rest-preserved g c =
     let line_is : c.as_slice.result.now ≡ encode_lower piece =
     c.as_slice.ensures.value ∙ (c.prepend_hex.ensures.text ∙ (ap (λ l. encode_lower piece ++ l) c.clear.ensures.text
     ∙ append-nil (encode_lower piece))) in (
-      Putting-line _ _ _ _ (packet_rest c.args.form c.loop-rest.rest.now) c.as_slice.result.now
-          (packet_rest c.args.form behind)
+      Putting-line _ _ _ _ (packet_rest c.args.form c.args.is_inner c.loop-rest.rest.now) c.as_slice.result.now
+          (packet_rest c.args.form c.args.is_inner behind)
           c.loop-rest.invariant.0
-          (ap (packet_rest c.args.form) parts ∙ (rest-piece c.args.form piece behind
-          ∙ ap (λ l. l ++ packet_rest c.args.form behind) (sym line_is)))
+          (ap (packet_rest c.args.form c.args.is_inner) parts ∙ (rest-piece c.args.form c.args.is_inner piece behind
+          ∙ ap (λ l. l ++ packet_rest c.args.form c.args.is_inner behind) (sym line_is)))
           e.bytes e.writer.told e.writer.cannot,
       search rules,
     )
@@ -48,9 +47,10 @@ pub returns-clause-bytes : goal.returns-clause-bytes
 returns-clause-bytes g c = λ t.
     let i = c.loop-rest.invariant.0 in
     let rest = c.loop-rest.rest.now in
-    let line_is : c.as_slice-2.result.now ≡ packet_rest c.args.form rest =
+    let line_is : c.as_slice-2.result.now ≡ packet_rest c.args.form c.args.is_inner rest =
     c.as_slice-2.ensures.value ∙ (c.prepend_hex-2.ensures.text ∙ ap (λ l. encode_lower rest ++ l)
-    (c.put_quote.ensures.text ∙ ap (quote_in c.args.form) c.clear_to_end.ensures.text)) in
-    Puts-last _ _ _ (packet_rest c.args.form c.args.bytes.now) c.as_slice-2.result.now c.put_all-2.result
-    (subst (Putting _ _ (packet_rest c.args.form c.args.bytes.now)) (sym line_is) i) t
+    c.write_packet_end.ensures.text) in
+    Puts-last _ _ _ (packet_rest c.args.form c.args.is_inner c.args.bytes.now) c.as_slice-2.result.now
+    c.put_all-2.result
+    (subst (Putting _ _ (packet_rest c.args.form c.args.is_inner c.args.bytes.now)) (sym line_is) i) t
     (c.put_all-2.ensures.bytes (i.told t))
