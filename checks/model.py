@@ -469,13 +469,13 @@ def list_(files):
     return "".join(packet_line(n, p) for n, p in enumerate(files[0].packets, 1)), files[0].refusal
 
 
-def differences(a, b):
-    """In what two packets differ; `end` if there is one of them."""
+def differences(a, b, ignored=()):
+    """In what two packets differ, but for what is ignored; `end` if there is one of them."""
     if a is None or b is None:
         return ["end"]
     pairs = [("link", a.interface.link, b.interface.link), ("time", time_of(a), time_of(b)), ("captured", a.captured, b.captured),
              ("original", a.original, b.original), ("data", a.data, b.data)]
-    return [name for name, of_a, of_b in pairs if of_a != of_b]
+    return [name for name, of_a, of_b in pairs if of_a != of_b and name not in ignored]
 
 
 def data_place(a, b):
@@ -485,21 +485,21 @@ def data_place(a, b):
     return next((place for place, (one, other) in enumerate(zip(a.data, b.data)) if one != other), min(len(a.data), len(b.data)))
 
 
-def first_difference(files):
-    """The number of the first packet that isn't the same in two files, in what it differs, and both packets; or the number of packets; or
-    the refusal before that."""
+def first_difference(files, ignored=()):
+    """The number of the first packet that isn't the same in two files, but for what is ignored, in what it differs, and both packets; or the
+    number of packets; or the refusal before that."""
     items = [file.packets + ([file.refusal] if file.refusal else []) for file in files]
     for n, (a, b) in enumerate(zip_longest(*items), 1):
         refused = [item for item in (a, b) if isinstance(item, Refusal)]
         if refused:
             return None, refused[0]
-        if differences(a, b):
-            return (n, differences(a, b), a, b), None
+        if differences(a, b, ignored):
+            return (n, differences(a, b, ignored), a, b), None
     return (len(items[0]), [], None, None), None
 
 
-def diff(files):
-    found, refusal = first_difference(files)
+def diff(files, ignored=()):
+    found, refusal = first_difference(files, ignored)
     if refusal:
         return "", refusal
     n, words, *packets = found
@@ -611,9 +611,10 @@ def join(to, order, files):
     return write_run(to, order, packets, refusal)
 
 
-def answer(task, contents, allow_cut=False, order="<"):
+def answer(task, contents, allow_cut=False, order="<", ignored=()):
     """What a task has to write over the contents of files, and the refusal or None. The task is a command's name, `pcap` or
-    `pcapng` for `convert` to that format, or `merge-pcap` or `join-pcap` for `merge` or `join` to pcap."""
+    `pcapng` for `convert` to that format, or `merge-pcap` or `join-pcap` for `merge` or `join` to pcap. `diff` ignores times, link types or
+    original lengths, if these are named."""
     files = [File(number, data, allow_cut, task == "blocks") for number, data in enumerate(contents, 1)]
     to = "pcap" if task.endswith("-pcap") else "pcapng"
     if task in ("merge", "merge-pcap"):
@@ -625,7 +626,9 @@ def answer(task, contents, allow_cut=False, order="<"):
         return to_pcap(order, files[0])
     if task in ("join", "join-pcap"):
         return join(to, order, files)
-    return {"list": list_, "blocks": blocks, "diff": diff, "info": info, "report": report, "digest": digest,
+    if task == "diff":
+        return diff(files, ignored)
+    return {"list": list_, "blocks": blocks, "info": info, "report": report, "digest": digest,
             "check": check}[task](files)
 
 

@@ -2,7 +2,7 @@
 """JSON Lines: what `list`, `blocks`, `diff`, `info`, `report`, `digest` and `check` print with --json is, object for
 object and byte for byte, what the text lines of the model say of the same files, and Python's json reads each line as
 those values. Over the files of checks/corpus/, the examples, the worked captures, and captures made at random, some of
-them damaged; `list` and `diff` also with --data. A refusal and a fault are an object too, with the file's path.
+them damaged; `list` and `diff` also with --data, and `diff` with --ignore. A refusal and a fault are an object too, with the file's path.
 
 Use: checks/objects.py [PROGRAM [CAPTURES]]     (as after `rt run` or `rt ci` in crates/capt; 10,000 random captures in about a minute)
 """
@@ -106,13 +106,13 @@ def refused_object(refusal, path):
                     "path": path})
 
 
-def wanted_objects(task, contents, paths, allow_cut, data=None):
+def wanted_objects(task, contents, paths, allow_cut, data=None, ignored=()):
     """The status, standard output and standard error with --json."""
-    text, refusal = model.answer(task, contents, allow_cut)
+    text, refusal = model.answer(task, contents, allow_cut, ignored=ignored)
     objects = all_objects(text)
     if data is not None:
         files = [model.File(number, content, allow_cut) for number, content in enumerate(contents, 1)]
-        found = model.first_difference(files)[0] if task == "diff" else None
+        found = model.first_difference(files, ignored)[0] if task == "diff" else None
         packets = found[2:] if found else files[0].packets
         row = objects[0].get("data_at", 0) // 16 * 16 if found else 0
         for it, packet in zip((side["packet"] for side in objects[1:]) if task == "diff" else objects, packets):
@@ -130,11 +130,12 @@ def main():
     with tempfile.TemporaryDirectory() as folder:
         shim = make_shim(folder)
 
-        def holds(bench, task, contents, allow_cut, data=None, faults=None):
+        def holds(bench, task, contents, allow_cut, data=None, faults=None, ignored=()):
             paths = [bench.name(content) for content in contents]
-            words = [task, "--json", *(["--allow-cut"] if allow_cut else []), *([] if data is None else ["--data", str(data)]), *paths]
+            words = [task, "--json", *(["--allow-cut"] if allow_cut else []), *([] if data is None else ["--data", str(data)]),
+                     *(f"--ignore={kind}" for kind in ignored), *paths]
             seen = run(words, program, faults)[:3]
-            wanted = wanted_objects(task, contents, paths, allow_cut, data)
+            wanted = wanted_objects(task, contents, paths, allow_cut, data, ignored)
             count.check(f"capt {' '.join(words)}", seen == wanted, f"wanted {wanted!r:.600}\n  saw {seen!r:.600}")
             try:
                 for line in (seen[1] + seen[2]).splitlines():
@@ -162,7 +163,8 @@ def main():
             task, allow_cut = rng.choice(("info", "report", "digest", "check", "blocks")), rng.random() < 0.5
             holds(bench, task, contents[:1] if task == "blocks" else contents, allow_cut)
             holds(bench, "list", contents[:1], allow_cut, rng.choice((None, None, 0, 20, 262_144)))
-            holds(bench, "diff", some_pair(rng, contents), allow_cut, rng.choice((None, None, 0, 20, 262_144)))
+            pair, ignored = some_pair(rng, contents), [kind for kind in ("time", "link", "original") if rng.random() < 0.3]
+            holds(bench, "diff", pair, allow_cut, rng.choice((None, None, 0, 20, 262_144)), ignored=ignored)
             for name in os.listdir(bench.folder):
                 os.remove(os.path.join(bench.folder, name))
 

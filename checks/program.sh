@@ -523,6 +523,8 @@ completed check capt help ch
 completed '--json' capt check --j
 completed '--data' capt list --da
 completed '--data' capt diff --da
+completed '--ignore' capt diff --i
+completed 'time' capt diff --ignore t
 completed '' capt list --json --data 1
 
 echo "$passed passed, $failed failed"

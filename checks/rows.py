@@ -647,6 +647,7 @@ def gives(content):
     return 0, bytes.fromhex(content), b"", None
 
 
+LATER_LINE = f"{listed(1, 24, '2+500001/1000000')[:-3]}05\n"
 LISTED_JSON = '{"type":"packet","n":1,"offset":60,"time":[2,500000,1000000],"captured":4,"original":4,"link":1,"data":"%s"}\n'
 INFO_JSON = ('{"type":"files","files":1}\n{"type":"file","file":1,"format":"pcapng","packets":0,"bytes":0,"truncated":0,"skipped":0,'
              '"first":null,"last":null,"cut":true}\n')
@@ -673,7 +674,12 @@ LINES = [
     ("diff a b", prints(SAME)), ("diff a carried", prints(SAME)), ("diff carried - < b", prints(SAME)), ("diff --explain a b", prints(SAME)),
     ("diff - --allow-cut cut", differs(f"differ packet 1 end\n- {listed(1, 60)}+ end\n")), ("diff - -", INPUT),
     ("diff a cut", (1, b"", b"refused: file 2 offset 60 rule 3 cut\n", None)), ("diff none a", (1, b"", b"fault: open file 1\n", None)),
-    ("diff a later", differs(f"differ packet 1 time data at 3\n- {listed(1, 60)}+ {listed(1, 24, '2+500001/1000000')[:-3]}05\n")),
+    ("diff a later", differs(f"differ packet 1 time data at 3\n- {listed(1, 60)}+ {LATER_LINE}")),
+    ("diff --ignore link --ignore=original a later", differs(f"differ packet 1 time data at 3\n- {listed(1, 60)}+ {LATER_LINE}")),
+    ("diff --ignore time a later", differs(f"differ packet 1 data at 3\n- {listed(1, 60)}+ {LATER_LINE}")),
+    ("diff a moved", differs(f"differ packet 1 time\n- {listed(1, 60)}+ {listed(1, 24, '2+500001/1000000')}")),
+    ("diff --ignore time a moved", prints(SAME)), ("diff a --ignore=time --ignore time --json moved", prints('{"type":"same","packets":1}\n')),
+    ("diff --json --ignore=time a later", differs(LATER_JSON.replace('"time",', ""))),
     ("diff --json a carried", prints('{"type":"same","packets":1}\n')), ("diff a --json later", differs(LATER_JSON)),
     ("diff --json --allow-cut a cut", differs(ENDED_JSON)),
     ("diff --json --data 4 a b", prints('{"type":"same","packets":1}\n')), ("diff --data 0 --json a later", differs(data_of(LATER_JSON, 0))),
@@ -713,7 +719,8 @@ LINES = [
     *((words, FAULTY) for words in (
         "", "help frobnicate", "frobnicate a", "--allow-cut list a", "list", "list a b", "list --version", "list --allow-cut --allow-cut a",
         "diff", "diff a", "diff a b a", "diff a --order big b", "diff -o c a b", "diff --to pcap a b", "diff --whole a b", "diff --data 4 a b",
-        "diff --json --data +4 a b", "diff --json --data 262145 a b", "diff --json --json a b",
+        "diff --ignore a b", "diff --ignore=data a b", "diff --ignore captured a b", "diff --ignore time,link a b", "list --ignore time a",
+        "digest --ignore time a", "diff --json --data +4 a b", "diff --json --data 262145 a b", "diff --json --json a b",
         "list --allow-cut=yes a", "list --order big a", "list -x a", "blocks", "blocks a b", "digest", "digest -o c a", "check", "check -o c a",
         "check --whole a", "check --order big a", "check --data 4 a", "info", "info -o c a",
         "report", "report -o c a",
@@ -834,7 +841,7 @@ def main():
         work = os.path.join(folder, "work")
         os.mkdir(work)
         carried = vector("CARRY_PCAPNG")
-        kept = {"cut": carried[:-1], "carried": bytes.fromhex(CARRIED), "later": bytes.fromhex(LATER)[:-1] + b"\5"}
+        kept = {"cut": carried[:-1], "carried": bytes.fromhex(CARRIED), "later": bytes.fromhex(LATER)[:-1] + b"\5", "moved": bytes.fromhex(LATER)}
         for name in ("a", "b", "--allow-cut", *kept):
             with open(os.path.join(work, name), "wb") as file:
                 file.write(kept.get(name, carried))

@@ -15,12 +15,14 @@ _capt() {
     case $before in
         --order) mapfile -t COMPREPLY < <(compgen -W 'big little' -- "$word"); return ;;
         --data) COMPREPLY=(); return ;;
+        --ignore) mapfile -t COMPREPLY < <(compgen -W 'time link original' -- "$word"); return ;;
         --to) mapfile -t COMPREPLY < <(compgen -W 'pcap pcapng' -- "$word"); return ;;
     esac
     case ${COMP_WORDS[1]} in
         help) mapfile -t COMPREPLY < <(compgen -W "$commands" -- "$word"); return ;;
         convert | merge | join) options='--allow-cut --explain --order --output --to --whole -o --help' ;;
-        list | diff) options='--allow-cut --explain --json --data --help' ;;
+        list) options='--allow-cut --explain --json --data --help' ;;
+        diff) options='--allow-cut --explain --ignore --json --data --help' ;;
         *) options='--allow-cut --explain --json --help' ;;
     esac
     if [[ $word == -* ]]; then

@@ -19,6 +19,7 @@ complete -c capt -n "__fish_seen_subcommand_from $commands" -l allow-cut -d 'Dro
 complete -c capt -n "__fish_seen_subcommand_from $commands" -l explain -d 'Name the file of a fault, and why'
 complete -c capt -n '__fish_seen_subcommand_from report info list blocks diff digest check' -l json -d 'Print JSON Lines'
 complete -c capt -n '__fish_seen_subcommand_from list diff' -l data -x -d 'With --json, bytes of each packet that are shown'
+complete -c capt -n '__fish_seen_subcommand_from diff' -l ignore -x -a 'time link original' -d 'Let packets differ in this'
 complete -c capt -n '__fish_seen_subcommand_from convert merge join' -l order -x -a 'big little' -d 'Byte order of the output'
 complete -c capt -n '__fish_seen_subcommand_from convert merge join' -l to -x -a 'pcap pcapng' -d 'Format of the output'
 complete -c capt -n '__fish_seen_subcommand_from convert merge join' -s o -l output -r -d 'Output file'

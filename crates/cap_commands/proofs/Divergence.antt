@@ -12,21 +12,22 @@ use Rattle.cap_source.proofs.Onward.{Keeps-refl, Keeps-trans}
 use Rattle.cap_source.specs.Feed.{Feed, FeedKeeps, FeedPasses, Item, packet}
 use Rattle.cap_source.specs.inner.Walk.{GivesPacket, ShowsItem}
 use Rattle.cap_source.specs.declared.packets.Meta.{Meta}
-use Rattle.cap_print.specs.declared.forms.Form.{Form}
+use Rattle.cap_line.specs.declared.jobs.Ignored.{Ignored}
 use Rattle.cap_commands.specs.DiffText.{TellsDiff, compared, diff_text_in}
 use Rattle.cap_commands.specs.DiffText.{other_packet, same_packets}
 use Rattle.cap_commands.specs.inner.DiffWalk.{FailsOne, Parts, are_alike, compared_of, parted}
+use Rattle.cap_commands.specs.declared.diff.DiffOptions.{DiffOptions}
 use Rattle.cap_commands.specs.declared.diff.Divergence.{Divergence}
 
 -- Of two feeds so many packets were passed, which are the same.
-pub record Matched (a b c d : Feed) (n : ℕ) : Type 0 where
+pub record Matched (ignored : Ignored) (a b c d : Feed) (n : ℕ) : Type 0 where
   pub number : n + c.left ≤ a.left
   pub first : FeedKeeps a c
   pub second : FeedKeeps b d
-  pub same : IsTrue a.told → IsTrue b.told → compared 0 a.items b.items ≡ compared n c.items d.items
+  pub same : IsTrue a.told → IsTrue b.told → compared ignored 0 a.items b.items ≡ compared ignored n c.items d.items
 
-pub Matched-none : (a b : Feed) → Matched a b a b 0
-Matched-none a b = record {
+pub Matched-none : (ignored : Ignored) (a b : Feed) → Matched ignored a b a b 0
+Matched-none ignored a b = record {
   number = omega arith;
   first = Keeps-refl a;
   second = Keeps-refl b;
@@ -34,52 +35,52 @@ Matched-none a b = record {
 }
 
 -- two packets that are the same
-compared-alike : (n : ℕ) (m o : Meta) (f g : List ℕ) (xs ys : List Item)
-    → are_alike (compared_of (Some m) f) (compared_of (Some o) g) ≡ true
-    → compared n (packet m f ∷ xs) (packet o g ∷ ys) ≡ compared (n + 1) xs ys
+compared-alike : (ignored : Ignored) (n : ℕ) (m o : Meta) (f g : List ℕ) (xs ys : List Item)
+    → are_alike ignored (compared_of (Some m) f) (compared_of (Some o) g) ≡ true
+    → compared ignored n (packet m f ∷ xs) (packet o g ∷ ys) ≡ compared ignored (n + 1) xs ys
 unfolding compared
-compared-alike n m o f g xs ys h = grind arith
+compared-alike ignored n m o f g xs ys h = grind arith
 
 -- a packet and what isn't one, or isn't the same
-compared-parted : (n : ℕ) (one other : Option Meta) (f g : List ℕ) (c d shown seen : Feed)
+compared-parted : (ignored : Ignored) (n : ℕ) (one other : Option Meta) (f g : List ℕ) (c d shown seen : Feed)
     → ShowsItem c (Ok one) shown → ShowsItem d (Ok other) seen → shown.frame ≡ f → seen.frame ≡ g
-    → are_alike (compared_of one f) (compared_of other g) ≡ false
-    → compared n c.items d.items ≡ parted n (compared_of one f) (compared_of other g)
+    → are_alike ignored (compared_of one f) (compared_of other g) ≡ false
+    → compared ignored n c.items d.items ≡ parted n (compared_of one f) (compared_of other g)
 unfolding compared
-compared-parted n None None f g c d shown seen p q r s h = grind arith
-compared-parted n None (Some o) f g c d shown seen p q r s h = grind arith
-compared-parted n (Some m) None f g c d shown seen p q r s h = grind arith
-compared-parted n (Some m) (Some o) f g c d shown seen p q r s h = grind arith
+compared-parted ignored n None None f g c d shown seen p q r s h = grind arith
+compared-parted ignored n None (Some o) f g c d shown seen p q r s h = grind arith
+compared-parted ignored n (Some m) None f g c d shown seen p q r s h = grind arith
+compared-parted ignored n (Some m) (Some o) f g c d shown seen p q r s h = grind arith
 
 -- the first is refused
-compared-first : (n : ℕ) (fault : Fault) (ys : List Item) (c shown : Feed) (f g : List ℕ)
+compared-first : (ignored : Ignored) (n : ℕ) (fault : Fault) (ys : List Item) (c shown : Feed) (f g : List ℕ)
     → ShowsItem c (Err fault) shown
-    → Parts (compared n c.items ys) (Err fault) f g
+    → Parts (compared ignored n c.items ys) (Err fault) f g
 unfolding compared
-compared-first n (Refused r) ys c shown f g p = grind arith
-compared-first n (Read file offset) ys c shown f g p = tt
-compared-first n Write ys c shown f g p = p
-compared-first n Memory ys c shown f g p = tt
+compared-first ignored n (Refused r) ys c shown f g p = grind arith
+compared-first ignored n (Read file offset) ys c shown f g p = tt
+compared-first ignored n Write ys c shown f g p = p
+compared-first ignored n Memory ys c shown f g p = tt
 
 -- the second is refused
-compared-second : (n : ℕ) (one : Option Meta) (fault : Fault) (c d shown seen : Feed) (f g : List ℕ)
+compared-second : (ignored : Ignored) (n : ℕ) (one : Option Meta) (fault : Fault) (c d shown seen : Feed) (f g : List ℕ)
     → ShowsItem c (Ok one) shown → ShowsItem d (Err fault) seen
-    → Parts (compared n c.items d.items) (Err fault) f g
+    → Parts (compared ignored n c.items d.items) (Err fault) f g
 unfolding compared
-compared-second n None (Refused r) c d shown seen f g p q = grind arith
-compared-second n (Some m) (Refused r) c d shown seen f g p q = grind arith
-compared-second n one (Read file offset) c d shown seen f g p q = tt
-compared-second n one Write c d shown seen f g p q = q
-compared-second n one Memory c d shown seen f g p q = tt
+compared-second ignored n None (Refused r) c d shown seen f g p q = grind arith
+compared-second ignored n (Some m) (Refused r) c d shown seen f g p q = grind arith
+compared-second ignored n one (Read file offset) c d shown seen f g p q = tt
+compared-second ignored n one Write c d shown seen f g p q = q
+compared-second ignored n one Memory c d shown seen f g p q = tt
 
 -- two packets more
-pub Matched-more : (a b c d shown seen v w : Feed) (n : ℕ) (m o : Meta) → Matched a b c d n
+pub Matched-more : (ignored : Ignored) (a b c d shown seen v w : Feed) (n : ℕ) (m o : Meta) → Matched ignored a b c d n
     → FeedKeeps c shown → (IsTrue c.told → ShowsItem c (Ok (Some m)) shown)
     → FeedKeeps d seen → (IsTrue d.told → ShowsItem d (Ok (Some o)) seen)
-    → are_alike (compared_of (Some m) shown.frame) (compared_of (Some o) seen.frame) ≡ true
+    → are_alike ignored (compared_of (Some m) shown.frame) (compared_of (Some o) seen.frame) ≡ true
     → FeedPasses shown v → FeedKeeps shown v → FeedPasses seen w → FeedKeeps seen w
-    → Matched a b v w (n + 1)
-Matched-more a b c d shown seen v w n m o i asked shows asks sees like passed keeps passes holds = record {
+    → Matched ignored a b v w (n + 1)
+Matched-more ignored a b c d shown seen v w n m o i asked shows asks sees like passed keeps passes holds = record {
   number = omega (arith, i.number, asked.left, passed.left);
   first = Keeps-trans a c v i.first (Keeps-trans c shown v asked keeps);
   second = Keeps-trans b d w i.second (Keeps-trans d seen w asks holds);
@@ -90,61 +91,66 @@ Matched-more a b c d shown seen v w n m o i asked shows asks sees like passed ke
       let q = sees du in
       let xs : drop 1 c.items ≡ v.items = sym (passed.items (asked.told ct) ∙ ap (drop 1) p.0.items) in
       let ys : drop 1 d.items ≡ w.items = sym (passes.items (asks.told du) ∙ ap (drop 1) q.0.items) in
-      i.same t u ∙ (ap (λ l. compared n l d.items) p.1
-      ∙ (ap (compared n (packet m shown.frame ∷ drop 1 c.items)) q.1
-      ∙ (compared-alike n m o shown.frame seen.frame (drop 1 c.items) (drop 1 d.items) like
-      ∙ (ap (λ l. compared (n + 1) l (drop 1 d.items)) xs ∙ ap (compared (n + 1) v.items) ys))));
+      i.same t u ∙ (ap (λ l. compared ignored n l d.items) p.1
+      ∙ (ap (compared ignored n (packet m shown.frame ∷ drop 1 c.items)) q.1
+      ∙ (compared-alike ignored n m o shown.frame seen.frame (drop 1 c.items) (drop 1 d.items) like
+      ∙ (ap (λ l. compared ignored (n + 1) l (drop 1 d.items)) xs ∙ ap (compared ignored (n + 1) v.items) ys))));
 }
 
 -- the same of what comes next, which is a packet of each since they are the same
-pub Matched-next : (a b c d shown seen v w : Feed) (n : ℕ) (one other : Option Meta) → Matched a b c d n
+pub Matched-next : (ignored : Ignored) (a b c d shown seen v w : Feed) (n : ℕ) (one other : Option Meta)
+    → Matched ignored a b c d n
     → FeedKeeps c shown → (IsTrue c.told → ShowsItem c (Ok one) shown)
     → FeedKeeps d seen → (IsTrue d.told → ShowsItem d (Ok other) seen)
-    → are_alike (compared_of one shown.frame) (compared_of other seen.frame) ≡ true
+    → are_alike ignored (compared_of one shown.frame) (compared_of other seen.frame) ≡ true
     → FeedPasses shown v → FeedKeeps shown v → FeedPasses seen w → FeedKeeps seen w
-    → Matched a b v w (n + 1)
-Matched-next a b c d shown seen v w n (Some m) (Some o) i asked shows asks sees like passed keeps passes holds =
-    Matched-more a b c d shown seen v w n m o i asked shows asks sees like passed keeps passes holds
-Matched-next a b c d shown seen v w n None other i asked shows asks sees like passed keeps passes holds =
+    → Matched ignored a b v w (n + 1)
+Matched-next ignored a b c d shown seen v w n (Some m) (Some o) i asked shows asks sees like passed keeps passes holds =
+    Matched-more ignored a b c d shown seen v w n m o i asked shows asks sees like passed keeps passes holds
+Matched-next ignored a b c d shown seen v w n None other i asked shows asks sees like passed keeps passes holds =
     absurd (false≢true like)
-Matched-next a b c d shown seen v w n (Some m) None i asked shows asks sees like passed keeps passes holds =
+Matched-next ignored a b c d shown seen v w n (Some m) None i asked shows asks sees like passed keeps passes holds =
     absurd (false≢true like)
 
 -- where they part
-pub Parts-parted : (a b c d shown seen : Feed) (n : ℕ) (one other : Option Meta) → Matched a b c d n
+pub Parts-parted : (ignored : Ignored) (a b c d shown seen : Feed) (n : ℕ) (one other : Option Meta)
+    → Matched ignored a b c d n
     → (IsTrue c.told → ShowsItem c (Ok one) shown) → (IsTrue d.told → ShowsItem d (Ok other) seen)
-    → are_alike (compared_of one shown.frame) (compared_of other seen.frame) ≡ false
+    → are_alike ignored (compared_of one shown.frame) (compared_of other seen.frame) ≡ false
     → IsTrue a.told → IsTrue b.told
-    → compared 0 a.items b.items ≡ parted n (compared_of one shown.frame) (compared_of other seen.frame)
-Parts-parted a b c d shown seen n one other i shows sees unlike t u =
-    i.same t u ∙ compared-parted n one other shown.frame seen.frame c d shown seen (shows (i.first.told t))
+    → compared ignored 0 a.items b.items ≡ parted n (compared_of one shown.frame) (compared_of other seen.frame)
+Parts-parted ignored a b c d shown seen n one other i shows sees unlike t u =
+    i.same t u ∙ compared-parted ignored n one other shown.frame seen.frame c d shown seen (shows (i.first.told t))
     (sees (i.second.told u)) refl refl unlike
 
 -- a fault of the first
-pub Parts-first : (a b c d shown : Feed) (n : ℕ) (fault : Fault) (f g : List ℕ) → Matched a b c d n
+pub Parts-first : (ignored : Ignored) (a b c d shown : Feed) (n : ℕ) (fault : Fault) (f g : List ℕ)
+    → Matched ignored a b c d n
     → (IsTrue c.told → ShowsItem c (Err fault) shown) → IsTrue a.told → IsTrue b.told
-    → Parts (compared 0 a.items b.items) (Err fault) f g
-Parts-first a b c d shown n fault f g i shows t u =
+    → Parts (compared ignored 0 a.items b.items) (Err fault) f g
+Parts-first ignored a b c d shown n fault f g i shows t u =
     subst (λ k. Parts k (Err fault) f g) (sym (i.same t u))
-    (compared-first n fault d.items c shown f g (shows (i.first.told t)))
+    (compared-first ignored n fault d.items c shown f g (shows (i.first.told t)))
 
 -- a fault of the second
-pub Parts-second : (a b c d shown seen : Feed) (n : ℕ) (one : Option Meta) (fault : Fault) (f g : List ℕ)
-    → Matched a b c d n
+pub Parts-second : (ignored : Ignored) (a b c d shown seen : Feed) (n : ℕ) (one : Option Meta) (fault : Fault)
+    (f g : List ℕ) → Matched ignored a b c d n
     → (IsTrue c.told → ShowsItem c (Ok one) shown) → (IsTrue d.told → ShowsItem d (Err fault) seen)
-    → IsTrue a.told → IsTrue b.told → Parts (compared 0 a.items b.items) (Err fault) f g
-Parts-second a b c d shown seen n one fault f g i shows sees t u =
+    → IsTrue a.told → IsTrue b.told → Parts (compared ignored 0 a.items b.items) (Err fault) f g
+Parts-second ignored a b c d shown seen n one fault f g i shows sees t u =
     subst (λ k. Parts k (Err fault) f g) (sym (i.same t u))
-    (compared-second n one fault c d shown seen f g (shows (i.first.told t)) (sees (i.second.told u)))
+    (compared-second ignored n one fault c d shown seen f g (shows (i.first.told t)) (sees (i.second.told u)))
 
 -- a failed read of the first, and of the second
-pub Fails-first : (a b c d shown : Feed) (n : ℕ) (fault : Fault) → Matched a b c d n → GivesPacket c (Err fault) shown
+pub Fails-first : (ignored : Ignored) (a b c d shown : Feed) (n : ℕ) (fault : Fault) → Matched ignored a b c d n
+    → GivesPacket c (Err fault) shown
     → FailsOne {A = Divergence} a b (Err fault)
-Fails-first a b c d shown n fault i gives = grind arith
+Fails-first ignored a b c d shown n fault i gives = grind arith
 
-pub Fails-second : (a b c d seen : Feed) (n : ℕ) (fault : Fault) → Matched a b c d n → GivesPacket d (Err fault) seen
+pub Fails-second : (ignored : Ignored) (a b c d seen : Feed) (n : ℕ) (fault : Fault) → Matched ignored a b c d n
+    → GivesPacket d (Err fault) seen
     → FailsOne {A = Divergence} a b (Err fault)
-Fails-second a b c d seen n fault i gives = grind arith
+Fails-second ignored a b c d seen n fault i gives = grind arith
 
 -- What `put_all` writes is printed: it answers no other fault than `Write`.
 pub Prints-line : (text old new : List ℕ) (result : Result (Unit {0}) Fault) → Puts old result new text
@@ -165,38 +171,40 @@ Prints-more old new head rest Write is p = Prints-head None old new head rest Wr
 Prints-more old new head rest Memory is p = grind arith
 
 -- both have ended
-pub Tells-same : (form : Form) (most n : ℕ) (one other : Option Meta) (f g old new : List ℕ)
+pub Tells-same : (options : DiffOptions) (n : ℕ) (one other : Option Meta) (f g old new : List ℕ)
     → (is_none one && is_none other) ≡ true
-    → Prints {A = Unit {0}} (diff_text_in form most (same_packets n)) None old (Ok tt) new
-    → TellsDiff form most (parted n (compared_of one f) (compared_of other g)) old (Ok true) new
-Tells-same form most n None None f g old new h p = (refl, refl, p.1)
-Tells-same form most n None (Some o) f g old new h p = absurd (false≢true h)
-Tells-same form most n (Some m) other f g old new h p = absurd (false≢true h)
+    → Prints {A = Unit {0}} (diff_text_in options (same_packets n)) None old (Ok tt) new
+    → TellsDiff options (parted n (compared_of one f) (compared_of other g)) old (Ok true) new
+Tells-same options n None None f g old new h p = (refl, refl, p.1)
+Tells-same options n None (Some o) f g old new h p = absurd (false≢true h)
+Tells-same options n (Some m) other f g old new h p = absurd (false≢true h)
 
-pub Tells-same-fault : (form : Form) (most n : ℕ) (one other : Option Meta) (f g old new : List ℕ) (fault : Fault)
+pub Tells-same-fault : (options : DiffOptions) (n : ℕ) (one other : Option Meta)
+    (f g old new : List ℕ) (fault : Fault)
     → (is_none one && is_none other) ≡ true → fault ≡ Write
-    → Prints {A = Unit {0}} (diff_text_in form most (same_packets n)) None old (Err fault) new
-    → TellsDiff form most (parted n (compared_of one f) (compared_of other g)) old (Err fault) new
-Tells-same-fault form most n None None f g old new fault h is p = rw is ((refl, rw is at p))
-Tells-same-fault form most n None (Some o) f g old new fault h is p = absurd (false≢true h)
-Tells-same-fault form most n (Some m) other f g old new fault h is p = absurd (false≢true h)
+    → Prints {A = Unit {0}} (diff_text_in options (same_packets n)) None old (Err fault) new
+    → TellsDiff options (parted n (compared_of one f) (compared_of other g)) old (Err fault) new
+Tells-same-fault options n None None f g old new fault h is p = rw is ((refl, rw is at p))
+Tells-same-fault options n None (Some o) f g old new fault h is p = absurd (false≢true h)
+Tells-same-fault options n (Some m) other f g old new fault h is p = absurd (false≢true h)
 
 -- one of them has a packet
-pub Tells-other : (form : Form) (most n : ℕ) (one other : Option Meta) (f g old new : List ℕ)
+pub Tells-other : (options : DiffOptions) (n : ℕ) (one other : Option Meta) (f g old new : List ℕ)
     → (is_none one && is_none other) ≡ false
-    → Prints {A = Unit {0}} (diff_text_in form most (other_packet (n
-    + 1) (compared_of one f) (compared_of other g))) None old (Ok tt)
-    new
-    → TellsDiff form most (parted n (compared_of one f) (compared_of other g)) old (Ok false) new
-Tells-other form most n None None f g old new h p = absurd (false≢true (sym h))
-Tells-other form most n None (Some o) f g old new h p = (refl, refl, p.1)
-Tells-other form most n (Some m) other f g old new h p = (refl, refl, p.1)
+    → Prints {A = Unit {0}} (diff_text_in options (other_packet (n + 1) (compared_of one f) (compared_of other g)))
+    None old (Ok tt) new
+    → TellsDiff options (parted n (compared_of one f) (compared_of other g)) old (Ok false) new
+Tells-other options n None None f g old new h p = absurd (false≢true (sym h))
+Tells-other options n None (Some o) f g old new h p = (refl, refl, p.1)
+Tells-other options n (Some m) other f g old new h p = (refl, refl, p.1)
 
-pub Tells-other-fault : (form : Form) (most n : ℕ) (one other : Option Meta) (f g old new : List ℕ) (fault : Fault)
+pub Tells-other-fault : (options : DiffOptions) (n : ℕ) (one other : Option Meta)
+    (f g old new : List ℕ) (fault : Fault)
     → (is_none one && is_none other) ≡ false → fault ≡ Write
-    → Prints {A = Unit {0}} (diff_text_in form most (other_packet (n + 1) (compared_of one f) (compared_of other g)))
-    None old (Err fault) new
-    → TellsDiff form most (parted n (compared_of one f) (compared_of other g)) old (Err fault) new
-Tells-other-fault form most n None None f g old new fault h is p = absurd (false≢true (sym h))
-Tells-other-fault form most n None (Some o) f g old new fault h is p = rw is ((refl, rw is at p))
-Tells-other-fault form most n (Some m) other f g old new fault h is p = rw is ((refl, rw is at p))
+    → Prints {A = Unit {0}}
+    (diff_text_in options (other_packet (n + 1) (compared_of one f) (compared_of other g))) None old
+    (Err fault) new
+    → TellsDiff options (parted n (compared_of one f) (compared_of other g)) old (Err fault) new
+Tells-other-fault options n None None f g old new fault h is p = absurd (false≢true (sym h))
+Tells-other-fault options n None (Some o) f g old new fault h is p = rw is ((refl, rw is at p))
+Tells-other-fault options n (Some m) other f g old new fault h is p = rw is ((refl, rw is at p))

@@ -1,7 +1,7 @@
 -- What `capt diff` prints of two captures: whether they have the same packets, in whatever container, byte order and
 -- units each of the two has them.
 use Rattle.std.specs.Prelude.{ℕ, ◌+◌, ◌*◌, ◌/◌, ◌==◌, List, [], ◌∷◌, ◌++◌, codes, decimal, Bool, true, false, not, ◌||◌}
-use Rattle.std.specs.Prelude.{◌≡◌, take, drop, Option, Some, None, Result, Ok, Err, if◌then◌else◌}
+use Rattle.std.specs.Prelude.{◌≡◌, ◌&&◌, take, drop, Option, Some, None, Result, Ok, Err, if◌then◌else◌}
 use Rattle.std.specs.Str.{bytes_eq}
 use Rattle.cap_bytes.specs.Printing.{PrintsFront}
 use Rattle.cap_bytes.specs.declared.faults.Fault.{Fault}
@@ -17,7 +17,9 @@ use Rattle.cap_source.specs.Times.{meta_time}
 use Rattle.cap_source.specs.declared.packets.Meta.{Meta}
 use Rattle.cap_time.specs.Stamp.{stamp_eq}
 use Rattle.cap_time.specs.declared.stamps.Stamp.{Stamp}
+use Rattle.cap_line.specs.declared.jobs.Ignored.{Ignored}
 use Rattle.cap_commands.specs.ListText.{facts_showing}
+use Rattle.cap_commands.specs.declared.diff.DiffOptions.{DiffOptions}
 use Rattle.cap_commands.specs.declared.diff.Differences.{Differences}
 
 -- A packet with its captured bytes.
@@ -32,14 +34,23 @@ is_same_time None (Some other) = false
 is_same_time (Some stamp) None = false
 is_same_time (Some stamp) (Some other) = stamp_eq stamp other
 
--- in which of five things two packets differ: link type, exact time, captured length, original length, captured bytes
-abbrev pub differences_of : Compared → Compared → Differences
-differences_of a b =
+-- nothing is ignored
+abbrev pub nothing_ignored : Ignored
+nothing_ignored = record { time = false; link = false; original = false }
+
+-- the options of `diff` without any: nothing is ignored, and it prints text, with at most 16 bytes of each packet
+abbrev pub default_options : DiffOptions
+default_options = record { ignored = nothing_ignored; form = Text; most = 16 }
+
+-- in which of five things two packets differ: link type, exact time, captured length, original length, captured bytes;
+-- what is ignored doesn't count
+abbrev pub differences_of : Ignored → Compared → Compared → Differences
+differences_of ignored a b =
     record {
-      link = not (a.meta.interface.link == b.meta.interface.link);
-      time = not (is_same_time (meta_time a.meta) (meta_time b.meta));
+      link = not ignored.link && not (a.meta.interface.link == b.meta.interface.link);
+      time = not ignored.time && not (is_same_time (meta_time a.meta) (meta_time b.meta));
       captured = not (a.meta.captured == b.meta.captured);
-      original = not (a.meta.original == b.meta.original);
+      original = not ignored.original && not (a.meta.original == b.meta.original);
       bytes = not (bytes_eq a.frame b.frame);
     }
 
@@ -76,23 +87,26 @@ pub data Comparison : Type 0 where
   other_packet : ℕ → Option Compared → Option Compared → Comparison
   stopped_by : Refusal → Comparison
 
--- the comparison of two captures' items, after so many packets that are the same
-unfoldable pub compared : ℕ → List Item → List Item → Comparison
-compared n (refused r ∷ xs) ys = stopped_by r
-compared n (packet meta frame ∷ xs) (refused r ∷ ys) = stopped_by r
-compared n (packet meta frame ∷ xs) [] = other_packet (n + 1) (Some (record { meta = meta; frame = frame })) None
-compared n (packet meta frame ∷ xs) (packet other bytes ∷ ys) =
-    (if do_differ (differences_of (record { meta = meta; frame = frame }) (record { meta = other; frame = bytes }))
+-- the comparison of two captures' items, after so many packets that are the same but for what is ignored
+unfoldable pub compared : Ignored → ℕ → List Item → List Item → Comparison
+compared ignored n (refused r ∷ xs) ys = stopped_by r
+compared ignored n (packet meta frame ∷ xs) (refused r ∷ ys) = stopped_by r
+compared ignored n (packet meta frame ∷ xs) [] =
+    other_packet (n + 1) (Some (record { meta = meta; frame = frame })) None
+compared ignored n (packet meta frame ∷ xs) (packet other bytes ∷ ys) =
+    (if do_differ
+    (differences_of ignored (record { meta = meta; frame = frame }) (record { meta = other; frame = bytes }))
     then other_packet (n + 1) (Some (record { meta = meta; frame = frame }))
     (Some (record { meta = other; frame = bytes }))
-    else compared (n + 1) xs ys)
-compared n [] (refused r ∷ ys) = stopped_by r
-compared n [] [] = same_packets n
-compared n [] (packet other bytes ∷ ys) = other_packet (n + 1) None (Some (record { meta = other; frame = bytes }))
+    else compared ignored (n + 1) xs ys)
+compared ignored n [] (refused r ∷ ys) = stopped_by r
+compared ignored n [] [] = same_packets n
+compared ignored n [] (packet other bytes ∷ ys) =
+    other_packet (n + 1) None (Some (record { meta = other; frame = bytes }))
 
 -- the comparison of two files of those bytes, which have the numbers 1 and 2
-abbrev pub comparison_of : Tail → List ℕ → List ℕ → Comparison
-comparison_of tail first second = compared 0 (file_items tail 1 first) (file_items tail 2 second)
+abbrev pub comparison_of : Ignored → Tail → List ℕ → List ℕ → Comparison
+comparison_of ignored tail first second = compared ignored 0 (file_items tail 1 first) (file_items tail 2 second)
 
 -- the words of which that is so
 unfoldable pub chosen : List (Bool × List ℕ) → List (List ℕ)
@@ -106,10 +120,10 @@ words_of it = chosen
     ∷ (it.original, codes "original") ∷ (it.bytes, codes "data") ∷ [])
 
 -- in what two packets differ; of one whose counterpart is missing, that the other file has ended
-abbrev pub difference_words : Option Compared → Option Compared → List (List ℕ)
-difference_words (Some a) (Some b) = words_of (differences_of a b)
-difference_words (Some a) None = codes "end" ∷ []
-difference_words None other = codes "end" ∷ []
+abbrev pub difference_words : Ignored → Option Compared → Option Compared → List (List ℕ)
+difference_words ignored (Some a) (Some b) = words_of (differences_of ignored a b)
+difference_words ignored (Some a) None = codes "end" ∷ []
+difference_words ignored None other = codes "end" ∷ []
 
 -- words in text, each after a blank
 abbrev pub spaced : List (List ℕ) → List ℕ
@@ -179,13 +193,14 @@ abbrev pub sides_in : Form → ℕ → ℕ → ℕ → Option Compared → Optio
 sides_in form most n from a b = (before_side form (codes "-") from ++ side_in form most n from a)
     ++ (before_side form (codes "+") from ++ side_in form most n from b)
 
--- what is printed of a comparison in a form, with at most so many bytes of each packet: of packets whose captured bytes
--- differ, those from the row on in which they do
-abbrev pub diff_text_in : Form → ℕ → Comparison → List ℕ
-diff_text_in form most (same_packets n) = same_line form n
-diff_text_in form most (other_packet n a b) = difference_line form n (difference_words a b) (data_place a b)
-    ++ sides_in form most n (row_of (data_place a b)) a b
-diff_text_in form most (stopped_by refusal) = []
+-- what is printed of a comparison with these options: of packets whose captured bytes differ, their bytes from the row
+-- on in which they do
+abbrev pub diff_text_in : DiffOptions → Comparison → List ℕ
+diff_text_in options (same_packets n) = same_line options.form n
+diff_text_in options (other_packet n a b) =
+    difference_line options.form n (difference_words options.ignored a b) (data_place a b)
+    ++ sides_in options.form options.most n (row_of (data_place a b)) a b
+diff_text_in options (stopped_by refusal) = []
 
 -- the refusal that is returned
 abbrev pub diff_refusal : Comparison → Option Refusal
@@ -199,13 +214,12 @@ is_same (same_packets n) = true
 is_same (other_packet n a b) = false
 is_same (stopped_by refusal) = false
 
--- The comparison is printed in a form, with at most so many bytes of each packet, and returned; or a refusal is
--- returned, and nothing is printed then, nor if a read failed or a growth was refused. If the writer failed, a prefix
--- is printed.
-abbrev pub TellsDiff : Form → ℕ → Comparison → List ℕ → Result Bool Fault → List ℕ → Type 0
-TellsDiff form most c old (Ok so) new =
-    (diff_refusal c ≡ None) × (so ≡ is_same c) × (new ≡ old ++ diff_text_in form most c)
-TellsDiff form most c old (Err (Refused r)) new = (diff_refusal c ≡ Some r) × (new ≡ old)
-TellsDiff form most c old (Err (Read file offset)) new = new ≡ old
-TellsDiff form most c old (Err Write) new = (diff_refusal c ≡ None) × PrintsFront (diff_text_in form most c) old new
-TellsDiff form most c old (Err Memory) new = new ≡ old
+-- The comparison is printed with these options, and returned; or a refusal is returned, and nothing is printed then,
+-- nor if a read failed or a growth was refused. If the writer failed, a prefix is printed.
+abbrev pub TellsDiff : DiffOptions → Comparison → List ℕ → Result Bool Fault → List ℕ → Type 0
+TellsDiff options c old (Ok so) new =
+    (diff_refusal c ≡ None) × (so ≡ is_same c) × (new ≡ old ++ diff_text_in options c)
+TellsDiff options c old (Err (Refused r)) new = (diff_refusal c ≡ Some r) × (new ≡ old)
+TellsDiff options c old (Err (Read file offset)) new = new ≡ old
+TellsDiff options c old (Err Write) new = (diff_refusal c ≡ None) × PrintsFront (diff_text_in options c) old new
+TellsDiff options c old (Err Memory) new = new ≡ old

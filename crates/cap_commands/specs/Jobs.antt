@@ -8,6 +8,7 @@ use Rattle.cap_bytes.specs.declared.faults.Tail.TheVariants.{Accept, Refuse}
 use Rattle.cap_bytes.specs.declared.numbers.Order.{Order}
 use Rattle.cap_check.specs.CheckText.{WritesChecks}
 use Rattle.cap_check.specs.Checking.{Opened}
+use Rattle.cap_line.specs.declared.jobs.Ignored.{Ignored}
 use Rattle.cap_line.specs.declared.jobs.Job.{Job}
 use Rattle.cap_line.specs.declared.jobs.Task.{Task}
 use Rattle.cap_line.specs.declared.jobs.Task.TheVariants as tasks
@@ -27,6 +28,7 @@ use Rattle.cap_commands.specs.JoinText.{join_refusal_in, join_text_in}
 use Rattle.cap_commands.specs.ListText.{list_in, list_refusal}
 use Rattle.cap_commands.specs.MergeText.{merge_refusal_in, merge_text_in}
 use Rattle.cap_commands.specs.Left.{nothing_left}
+use Rattle.cap_commands.specs.declared.diff.DiffOptions.{DiffOptions}
 use Rattle.cap_commands.specs.declared.jobs.Done.{Done}
 use Rattle.cap_commands.specs.declared.jobs.Finding.{Finding}
 use Rattle.cap_commands.specs.declared.jobs.Finding.TheVariants.{Difference, NotWhole, Nothing}
@@ -43,9 +45,9 @@ only_of [] = []
 only_of (bytes ∷ files) = bytes
 
 -- the comparison of two files
-abbrev pub comparison_in : Tail → List (List ℕ) → Comparison
-comparison_in tail [] = comparison_of tail [] []
-comparison_in tail (first ∷ files) = comparison_of tail first (only_of files)
+abbrev pub comparison_in : Ignored → Tail → List (List ℕ) → Comparison
+comparison_in ignored tail [] = comparison_of ignored tail [] []
+comparison_in ignored tail (first ∷ files) = comparison_of ignored tail first (only_of files)
 
 -- the format that `merge` and `join` write
 abbrev pub format_in : Option Format → Format
@@ -60,6 +62,10 @@ form_by false = Text
 abbrev pub shown_by : Form → Option ℕ → ℕ
 shown_by Text count = 16
 shown_by Json count = unwrap_or count 16
+
+-- the options of `diff`, by what is ignored, the form, and how many bytes are shown
+abbrev pub options_by : Ignored → Form → ℕ → DiffOptions
+options_by ignored form shown = record { ignored = ignored; form = form; most = shown }
 
 -- files of those bytes, with whether a read of each can fail
 abbrev pub opened_files : List Bool → List (List ℕ) → List (Option Opened)
@@ -77,35 +83,37 @@ whole_by (Err fault) finding = Err fault
 
 -- What is written, found and returned by a task over files of those bytes, of which a read can fail or not: `list`,
 -- `blocks` and `convert` are of one file, `diff` is of two.
-abbrev pub DoesTask : Task → Tail → Form → ℕ → Order → Option Format → List Bool → List (List ℕ) → Finding → List ℕ
-    → Result Unit Fault → List ℕ → Type 0
-DoesTask tasks.List tail form shown order to fails files finding =
+abbrev pub DoesTask : Task → Ignored → Tail → Form → ℕ → Order → Option Format → List Bool → List (List ℕ) → Finding
+    → List ℕ → Result Unit Fault → List ℕ → Type 0
+DoesTask tasks.List ignored tail form shown order to fails files finding =
     Prints (list_in form shown tail (only_of files)) (list_refusal tail (only_of files))
-DoesTask tasks.Blocks tail form shown order to fails files finding = Prints (block_list_in form tail (only_of files))
-    (block_refusal tail (only_of files))
-DoesTask tasks.Diff tail form shown order to fails files finding =
-    Tells (diff_text_in form shown (comparison_in tail files)) (diff_refusal (comparison_in tail files))
-DoesTask tasks.Digest tail form shown order to fails files finding =
+DoesTask tasks.Blocks ignored tail form shown order to fails files finding =
+    Prints (block_list_in form tail (only_of files)) (block_refusal tail (only_of files))
+DoesTask tasks.Diff ignored tail form shown order to fails files finding =
+    Tells (diff_text_in (options_by ignored form shown) (comparison_in ignored tail files))
+    (diff_refusal (comparison_in ignored tail files))
+DoesTask tasks.Digest ignored tail form shown order to fails files finding =
     Prints (digests_text form tail files) (first_refusal tail 1 files)
-DoesTask tasks.Check tail form shown order to fails files finding =
+DoesTask tasks.Check ignored tail form shown order to fails files finding =
     λ old result new. WritesChecks form tail (opened_files fails files) old (whole_by result finding) new
-DoesTask tasks.Info tail form shown order to fails files finding =
+DoesTask tasks.Info ignored tail form shown order to fails files finding =
     Tells (info_text_in form tail files) (first_refusal tail 1 files)
-DoesTask tasks.Report tail form shown order to fails files finding =
+DoesTask tasks.Report ignored tail form shown order to fails files finding =
     Tells (report_text_in form (length files) (endings_of_files tail files) (clocked_run tail files))
     (report_refusal (clocked_run tail files))
-DoesTask tasks.Convert tail form shown order None fails files finding = λ old result new. ⊥
-DoesTask tasks.Convert tail form shown order (Some format) fails files finding =
+DoesTask tasks.Convert ignored tail form shown order None fails files finding = λ old result new. ⊥
+DoesTask tasks.Convert ignored tail form shown order (Some format) fails files finding =
     Prints (convert_text format order tail (only_of files)) (convert_refusal format tail (only_of files))
-DoesTask tasks.Merge tail form shown order to fails files finding =
+DoesTask tasks.Merge ignored tail form shown order to fails files finding =
     Prints (merge_text_in (format_in to) order tail files) (merge_refusal_in (format_in to) tail files)
-DoesTask tasks.Join tail form shown order to fails files finding =
+DoesTask tasks.Join ignored tail form shown order to fails files finding =
     Prints (join_text_in (format_in to) order tail files) (join_refusal_in (format_in to) tail files)
 
 -- What is written, found and returned by a job: what its task is, with its tail, its form, its order and its format.
 abbrev pub Does : Job → List Bool → List (List ℕ) → Finding → List ℕ → Result Unit Fault → List ℕ → Type 0
 Does job =
-    DoesTask job.task (tail_of job.allow_cut) (form_by job.json) (shown_by (form_by job.json) job.data) job.order job.to
+    DoesTask job.task job.ignored (tail_of job.allow_cut) (form_by job.json) (shown_by (form_by job.json) job.data)
+    job.order job.to
 
 -- what is found by whether two captures have the same packets
 abbrev pub finding_by : Bool → Finding
@@ -119,14 +127,14 @@ whole_finding false = NotWhole
 
 -- What a task finds in files of those bytes: `diff` by whether they differ; `check` by whether all are whole, which
 -- also hangs on the reads.
-abbrev pub FindsTask : Task → Tail → List (List ℕ) → Finding → Type 0
-FindsTask tasks.Diff tail files found = found ≡ finding_by (is_same (comparison_in tail files))
-FindsTask tasks.Check tail files found = (are_whole : Bool) × (found ≡ whole_finding are_whole)
-FindsTask _ tail files found = found ≡ Nothing
+abbrev pub FindsTask : Task → Ignored → Tail → List (List ℕ) → Finding → Type 0
+FindsTask tasks.Diff ignored tail files found = found ≡ finding_by (is_same (comparison_in ignored tail files))
+FindsTask tasks.Check ignored tail files found = (are_whole : Bool) × (found ≡ whole_finding are_whole)
+FindsTask _ ignored tail files found = found ≡ Nothing
 
 -- what a job finds
 abbrev pub Finds : Job → List (List ℕ) → Finding → Type 0
-Finds job = FindsTask job.task (tail_of job.allow_cut)
+Finds job = FindsTask job.task job.ignored (tail_of job.allow_cut)
 
 -- what a job returns, but for what it finds
 abbrev pub done_of : Result Finding Fault → Result Unit Fault

@@ -1,20 +1,19 @@
 //! `capt diff`: whether two captures have the same packets.
 ghost use Rattle.std.specs.Prelude.{◌≡◌, ℕ, ◌+◌, ◌≤◌, ◌++◌, ◌∷◌, ◌^◌, [], false, codes, None, Some};
 ghost use Rattle.std.specs.Prelude.{IsSome, IsTrue};
-ghost use Rattle.std.specs.Prelude.{IfOk, IsOkUnless, is_none, is_some, length, ◌&&◌};
+ghost use Rattle.std.specs.Prelude.{IfOk, IsOkUnless, is_none, is_some, length, not, ◌&&◌};
 ghost use Rattle.cap_bytes.specs.Device.{WriterKeeps, writer_of};
 ghost use Rattle.cap_bytes.specs.Printing.{Prints, is_write};
 ghost use Rattle.cap_print.specs.Lines.{text_in};
-ghost use Rattle.cap_print.specs.declared.forms.Form.TheVariants.{Text};
 ghost use Rattle.cap_source.specs.Feed.{FeedKeeps, IsPacket};
 ghost use Rattle.cap_source.specs.ReadFaults.{FailsOf};
 ghost use Rattle.cap_source.specs.inner.Walk.{GivesPacket, ShowsItem};
 ghost use Rattle.cap_source.specs.Times.{meta_time};
 ghost use Rattle.cap_commands.specs.DiffText.{TellsDiff, before_side, compared, comparison_of, data_place};
-ghost use Rattle.cap_commands.specs.DiffText.{diff_text_in, difference_line, difference_words, differences_of};
-ghost use Rattle.cap_commands.specs.DiffText.{do_differ, first_difference, is_same, is_same_time, no_side};
-ghost use Rattle.cap_commands.specs.DiffText.{other_packet, packet_side, place_of, row_of, shown_from, side_in};
-ghost use Rattle.cap_commands.specs.DiffText.{sides_in};
+ghost use Rattle.cap_commands.specs.DiffText.{default_options, diff_text_in, difference_line, difference_words};
+ghost use Rattle.cap_commands.specs.DiffText.{differences_of, do_differ, first_difference, is_same, is_same_time};
+ghost use Rattle.cap_commands.specs.DiffText.{no_side, nothing_ignored, other_packet, packet_side, place_of, row_of};
+ghost use Rattle.cap_commands.specs.DiffText.{shown_from, side_in, sides_in};
 ghost use Rattle.cap_commands.specs.inner.DiffWalk.{FailsOne, KnowsPackets, Parts, are_alike, compared_of, given};
 ghost use Rattle.cap_commands.specs.inner.DiffWalk.{known_packet, parted};
 
@@ -22,6 +21,7 @@ use crate::diff_lines::{differ_line, end_line, same_line, side_head};
 use crate::lines::{MOST_SHOWN, write_side};
 use crate::list::put_long_packet;
 use cap_bytes::{Fault, Sink, Source, Tail, put_all};
+use cap_line::{Ignored, NOTHING_IGNORED};
 use cap_print::{Form, Line};
 use cap_source::{Capture, Meta, PacketFeed};
 use cap_time::Stamp;
@@ -43,6 +43,17 @@ pub struct Differences {
     pub bytes: bool,
 }
 
+/// How two captures are compared, and how that is printed.
+#[derive(Clone, Copy, Debug, PartialEq, Eq)]
+pub struct DiffOptions {
+    /// In what two packets may differ and still count as the same.
+    pub ignored: Ignored,
+    /// The form.
+    pub form: Form,
+    /// How many bytes of each packet are shown at most.
+    pub most: u32,
+}
+
 // Whether two packets have the same exact time, or both have none.
 fn is_same_time(first: Option<Stamp>, second: Option<Stamp>) -> bool
     ensures { result ≡ is_same_time first second }
@@ -56,17 +67,30 @@ fn is_same_time(first: Option<Stamp>, second: Option<Stamp>) -> bool
     }
 }
 
-// In what two packets with these captured bytes differ.
+// Whether something counts as a difference: it isn't ignored, and isn't the same.
+fn counts(is_ignored: bool, is_same: bool) -> bool
+    ensures { result ≡ (not is_ignored && not is_same) }
+{
+    !is_ignored && !is_same
+}
+
+// In what two packets with these captured bytes differ, but for what is ignored.
 #[inline(always)]
-fn differences_of(first: &Meta, frame: &[u8], second: &Meta, bytes: &[u8]) -> Differences
-    ensures { result ≡ differences_of (record { meta = first.now; frame = frame.now })
+fn differences_of(
+    ignored: Ignored,
+    first: &Meta,
+    frame: &[u8],
+    second: &Meta,
+    bytes: &[u8],
+) -> Differences
+    ensures { result ≡ differences_of ignored (record { meta = first.now; frame = frame.now })
         (record { meta = second.now; frame = bytes.now }) }
 {
     Differences {
-        link: first.interface.link != second.interface.link,
-        time: !is_same_time(first.time(), second.time()),
+        link: counts(ignored.link, first.interface.link == second.interface.link),
+        time: counts(ignored.time, is_same_time(first.time(), second.time())),
         captured: first.captured != second.captured,
-        original: first.original != second.original,
+        original: counts(ignored.original, first.original == second.original),
         bytes: frame != bytes,
     }
 }
@@ -119,27 +143,28 @@ fn packet_of<F: PacketFeed>(feed: &F, found: bool) -> Option<Meta>
     if found { Some(*feed.packet()) } else { None }
 }
 
-// Whether the packets that come next, if there are some, are the same: none is the same as nothing.
-fn is_alike<F: PacketFeed>(first: &F, one: bool, second: &F, other: bool) -> bool
+// Whether the packets that come next, if there are some, are the same but for what is ignored: none is the same as
+// nothing.
+fn is_alike<F: PacketFeed>(ignored: Ignored, first: &F, one: bool, second: &F, other: bool) -> bool
     requires first { one ≡ is_some (known_packet (F.feed first.now).known) }
     requires second { other ≡ is_some (known_packet (F.feed second.now).known) }
-    ensures { result ≡ are_alike (compared_of (known_packet (F.feed first.now).known) (F.feed first.now).frame)
+    ensures { result ≡ are_alike ignored (compared_of (known_packet (F.feed first.now).known) (F.feed first.now).frame)
         (compared_of (known_packet (F.feed second.now).known) (F.feed second.now).frame) }
 {
     if one {
         if other {
             let (a, b) = (first.packet(), second.packet());
-            return !do_differ(differences_of(a, first.frame(), b, second.frame()));
+            return !do_differ(differences_of(ignored, a, first.frame(), b, second.frame()));
         }
     }
     false
 }
 
-// Passes the packets that are the same, up to the first that isn't, or to the end of both.
-fn part<F: PacketFeed>(first: &mut F, second: &mut F) -> Result<Divergence, Fault>
+// Passes the packets that are the same but for what is ignored, up to the first that isn't, or to the end of both.
+fn part<F: PacketFeed>(ignored: Ignored, first: &mut F, second: &mut F) -> Result<Divergence, Fault>
     requires left { (F.feed first.old).left ≤ 2 ^ 40 }
     ensures parts { IsTrue (F.feed first.old).told → IsTrue (F.feed second.old).told
-        → Parts (compared 0 (F.feed first.old).items (F.feed second.old).items) result (F.feed first.new).frame
+        → Parts (compared ignored 0 (F.feed first.old).items (F.feed second.old).items) result (F.feed first.new).frame
         (F.feed second.new).frame }
     ensures known { IfOk result (λ p. KnowsPackets p (F.feed first.new) (F.feed second.new)) }
     ensures few { IfOk result (λ p. p.passed ≤ 2 ^ 40) }
@@ -150,7 +175,7 @@ fn part<F: PacketFeed>(first: &mut F, second: &mut F) -> Result<Divergence, Faul
     loop {
         let one = look(first)?;
         let other = look(second)?;
-        if !is_alike(first, one, second, other) {
+        if !is_alike(ignored, first, one, second, other) {
             return Ok(Divergence {
                 passed,
                 first: packet_of(first, one),
@@ -329,6 +354,7 @@ fn row_of(place: Option<usize>) -> usize
 
 // The first line of a difference in a form, with where the captured bytes differ.
 fn head_line<F: PacketFeed>(
+    ignored: Ignored,
     form: Form,
     n: u64,
     place: Option<usize>,
@@ -340,7 +366,7 @@ fn head_line<F: PacketFeed>(
     requires place { place ≡ data_place (compared_of divergence.now.first (F.feed first.now).frame)
         (compared_of divergence.now.second (F.feed second.now).frame) }
     ensures { text_in result ≡ difference_line form n
-        (difference_words (compared_of divergence.now.first (F.feed first.now).frame)
+        (difference_words ignored (compared_of divergence.now.first (F.feed first.now).frame)
         (compared_of divergence.now.second (F.feed second.now).frame)) place }
 {
     match divergence.first {
@@ -348,7 +374,7 @@ fn head_line<F: PacketFeed>(
         Some(one) => match divergence.second {
             None => end_line(form, n),
             Some(other) => {
-                let it = differences_of(&one, first.frame(), &other, second.frame());
+                let it = differences_of(ignored, &one, first.frame(), &other, second.frame());
                 differ_line(form, n, it, place)
             }
         },
@@ -358,8 +384,7 @@ fn head_line<F: PacketFeed>(
 // Writes what is printed in a form of two packets that aren't the same, or of one whose counterpart is missing.
 fn put_difference<F: PacketFeed, W: Sink>(
     writer: &mut W,
-    form: Form,
-    most: u32,
+    options: DiffOptions,
     n: u64,
     divergence: &Divergence,
     first: &F,
@@ -367,20 +392,28 @@ fn put_difference<F: PacketFeed, W: Sink>(
 ) -> Result<(), Fault>
     requires known { KnowsPackets divergence.now (F.feed first.now) (F.feed second.now) }
     ensures text { IsTrue (W.tells_held writer.old)
-        → Prints (diff_text_in form most (other_packet n (compared_of divergence.now.first (F.feed first.now).frame)
+        → Prints (diff_text_in options (other_packet n (compared_of divergence.now.first (F.feed first.now).frame)
         (compared_of divergence.now.second (F.feed second.now).frame))) None (W.held writer.old) result
         (W.held writer.new) }
     ensures writer { WriterKeeps (writer_of W.Sink writer.old) (is_write result) (writer_of W.Sink writer.new) }
     ensures fault { IsOkUnless result Fault.Write }
 {
     let place = data_place(divergence, first, second);
-    let line = head_line(form, n, place, divergence, first, second);
+    let line = head_line(
+        options.ignored,
+        options.form,
+        n,
+        place,
+        divergence,
+        first,
+        second,
+    );
     put_all(writer, line.as_slice())?;
     let shown = Shown {
         from: row_of(place),
-        most,
+        most: options.most,
     };
-    put_sides(writer, form, n, shown, divergence, first, second)
+    put_sides(writer, options.form, n, shown, divergence, first, second)
 }
 
 // Whether both have ended.
@@ -393,8 +426,7 @@ fn is_end(divergence: &Divergence) -> bool
 // Writes what is printed in a form where two feeds part, and returns whether they are the same.
 fn put_divergence<F: PacketFeed, W: Sink>(
     writer: &mut W,
-    form: Form,
-    most: u32,
+    options: DiffOptions,
     divergence: &Divergence,
     first: &F,
     second: &F,
@@ -402,20 +434,19 @@ fn put_divergence<F: PacketFeed, W: Sink>(
     requires known { KnowsPackets divergence.now (F.feed first.now) (F.feed second.now) }
     requires few { divergence.now.passed ≤ 2 ^ 40 }
     ensures text { IsTrue (W.tells_held writer.old)
-        → TellsDiff form most (parted divergence.now.passed (compared_of divergence.now.first (F.feed first.now).frame)
+        → TellsDiff options (parted divergence.now.passed (compared_of divergence.now.first (F.feed first.now).frame)
         (compared_of divergence.now.second (F.feed second.now).frame)) (W.held writer.old) result (W.held writer.new) }
     ensures same { IfOk result (λ so. so ≡ (is_none divergence.now.first && is_none divergence.now.second)) }
     ensures writer { WriterKeeps (writer_of W.Sink writer.old) (is_write result) (writer_of W.Sink writer.new) }
     ensures fault { IsOkUnless result Fault.Write }
 {
     if is_end(divergence) {
-        put_line(writer, &same_line(form, divergence.passed))?;
+        put_line(writer, &same_line(options.form, divergence.passed))?;
         return Ok(true);
     }
     put_difference(
         writer,
-        form,
-        most,
+        options,
         divergence.passed + 1,
         divergence,
         first,
@@ -424,10 +455,10 @@ fn put_divergence<F: PacketFeed, W: Sink>(
     Ok(false)
 }
 
-/// Prints in a form whether two capture files, each of either format, have the same packets, in link type, exact time,
-/// captured and original length and captured bytes: `same packets N`, and returns `true`; or the number and the
-/// differences of the first packet that isn't the same in both, and its line in each, as `list_to` prints it, and
-/// returns `false`. In JSON these are three objects, of which the second and the third hold the object that
+/// Prints whether two capture files, each of either format, have the same packets, in link type, exact time, captured
+/// and original length and captured bytes, but for what is ignored: `same packets N`, and returns `true`; or the number
+/// and the differences of the first packet that isn't the same in both, and its line in each, as `list_to` prints it,
+/// and returns `false`. In JSON these are three objects, of which the second and the third hold the object that
 /// `list_json_to` prints, or `null`. Each line or object has at most `most` bytes of its packet. If the captured bytes
 /// differ, the place of the first byte that differs is printed, and these are the bytes from the row of 16 bytes on in
 /// which that byte is. If a file is refused before that, the refusal is returned. It returns `Read` if a read fails and
@@ -438,25 +469,33 @@ pub fn diff_in<R: Source, W: Sink>(
     first: R,
     second: R,
     tail: Tail,
-    form: Form,
-    most: u32,
+    options: DiffOptions,
     writer: &mut W,
 ) -> Result<bool, Fault>
     ensures text { IsTrue (R.tells_coming first) → IsTrue (R.tells_coming second) → IsTrue (W.tells_held writer.old)
-        → TellsDiff form most (comparison_of tail (R.coming first) (R.coming second)) (W.held writer.old) result
-        (W.held writer.new) }
+        → TellsDiff options (comparison_of options.ignored tail (R.coming first) (R.coming second))
+        (W.held writer.old) result (W.held writer.new) }
     ensures same { IsTrue (R.tells_coming first) → IsTrue (R.tells_coming second)
-        → IfOk result (λ so. so ≡ is_same (comparison_of tail (R.coming first) (R.coming second))) }
+        → IfOk result (λ so.
+        so ≡ is_same (comparison_of options.ignored tail (R.coming first) (R.coming second))) }
     ensures writer { WriterKeeps (writer_of W.Sink writer.old) (is_write result) (writer_of W.Sink writer.new) }
     ensures read { FailsOf (R.can_fail first ∷ R.can_fail second ∷ []) result }
 {
     let mut first = Capture::new(alloc, first, 1, tail);
     let mut second = Capture::new(alloc, second, 2, tail);
-    let divergence = part(&mut first, &mut second)?;
-    put_divergence(writer, form, most, &divergence, &first, &second)
+    let divergence = part(options.ignored, &mut first, &mut second)?;
+    put_divergence(writer, options, &divergence, &first, &second)
 }
 
-/// Does what `diff_in` does, in text and with at most 16 bytes of each packet.
+/// The options of `capt diff` without any: nothing is ignored, and text is printed, with at most 16 bytes of each
+/// packet.
+pub const DEFAULT_OPTIONS: DiffOptions = DiffOptions {
+    ignored: NOTHING_IGNORED,
+    form: Form::Text,
+    most: 16,
+};
+
+/// Does what `diff_in` does with `DEFAULT_OPTIONS`.
 pub fn diff_to<R: Source, W: Sink>(
     alloc: Global,
     first: R,
@@ -465,12 +504,12 @@ pub fn diff_to<R: Source, W: Sink>(
     writer: &mut W,
 ) -> Result<bool, Fault>
     ensures text { IsTrue (R.tells_coming first) → IsTrue (R.tells_coming second) → IsTrue (W.tells_held writer.old)
-        → TellsDiff Text 16 (comparison_of tail (R.coming first) (R.coming second)) (W.held writer.old) result
-        (W.held writer.new) }
+        → TellsDiff default_options (comparison_of nothing_ignored tail (R.coming first) (R.coming second))
+        (W.held writer.old) result (W.held writer.new) }
     ensures same { IsTrue (R.tells_coming first) → IsTrue (R.tells_coming second)
-        → IfOk result (λ so. so ≡ is_same (comparison_of tail (R.coming first) (R.coming second))) }
+        → IfOk result (λ so. so ≡ is_same (comparison_of nothing_ignored tail (R.coming first) (R.coming second))) }
     ensures writer { WriterKeeps (writer_of W.Sink writer.old) (is_write result) (writer_of W.Sink writer.new) }
     ensures read { FailsOf (R.can_fail first ∷ R.can_fail second ∷ []) result }
 {
-    diff_in(alloc, first, second, tail, Form::Text, 16, writer)
+    diff_in(alloc, first, second, tail, DEFAULT_OPTIONS, writer)
 }

@@ -6,8 +6,8 @@ ghost use Rattle.cap_line.specs.Jobs.{IsWholeJob};
 ghost use Rattle.cap_talks.specs.talks.Telling.{Tells};
 ghost use Rattle.cap_commands.specs.DiffText.{comparison_of, diff_refusal, diff_text_in, is_same};
 ghost use Rattle.cap_commands.specs.Jobs.{Does, Finds, done_of, finding_by, form_by, format_in, found_in};
-ghost use Rattle.cap_commands.specs.Jobs.{finding_in, found_by, opened_files, printed_by, shown_by, tail_of};
-ghost use Rattle.cap_commands.specs.Jobs.{whole_by, whole_finding, written_by};
+ghost use Rattle.cap_commands.specs.Jobs.{finding_in, found_by, opened_files, printed_by, shown_by};
+ghost use Rattle.cap_commands.specs.Jobs.{tail_of, whole_by, whole_finding, written_by};
 ghost use Rattle.cap_commands.specs.JobLeft.{JobLeaves};
 ghost use Rattle.cap_commands.specs.ListText.{list_refusal};
 ghost use Rattle.cap_bytes.specs.Device.{WriterKeeps, writer_of};
@@ -16,7 +16,7 @@ ghost use Rattle.cap_source.specs.ReadFaults.{FailsOf};
 
 use crate::blocks::blocks_in;
 use crate::counting::{convert_and_count, join_and_count, merge_and_count};
-use crate::diff::diff_in;
+use crate::diff::{DiffOptions, diff_in};
 use crate::digests::digests_to;
 use crate::left::{DroppedInfo, NOTHING_LEFT};
 use crate::list::list_in;
@@ -105,27 +105,28 @@ fn finding_of(is_same: bool) -> Finding
     }
 }
 
-// `diff` in a form, and what it finds.
+// `diff` with these options, and what it finds.
 fn compare<R: Source, W: Sink>(
     alloc: Global,
     sources: (R, R),
     tail: Tail,
-    form: Form,
-    most: u32,
+    options: DiffOptions,
     writer: &mut W,
 ) -> Result<Finding, Fault>
     ensures text { IsTrue (R.tells_coming sources.0) → IsTrue (R.tells_coming sources.1)
         → IsTrue (W.tells_held writer.old)
-        → Tells (diff_text_in form most (comparison_of tail (R.coming sources.0) (R.coming sources.1)))
-        (diff_refusal (comparison_of tail (R.coming sources.0) (R.coming sources.1))) (W.held writer.old)
+        → Tells (diff_text_in options (comparison_of options.ignored tail (R.coming sources.0) (R.coming sources.1)))
+        (diff_refusal (comparison_of options.ignored tail (R.coming sources.0) (R.coming sources.1)))
+        (W.held writer.old)
         (done_of result) (W.held writer.new) }
     ensures finding { IfOk result (λ finding. IsTrue (R.tells_coming sources.0) → IsTrue (R.tells_coming sources.1)
-        → finding ≡ finding_by (is_same (comparison_of tail (R.coming sources.0) (R.coming sources.1)))) }
+        → finding ≡ finding_by
+        (is_same (comparison_of options.ignored tail (R.coming sources.0) (R.coming sources.1)))) }
     ensures writer { WriterKeeps (writer_of W.Sink writer.old) (is_write result) (writer_of W.Sink writer.new) }
     ensures read { FailsOf (R.can_fail sources.0 ∷ R.can_fail sources.1 ∷ []) result }
 {
     let (first, second) = sources;
-    let is_same = diff_in(alloc, first, second, tail, form, most, writer)?;
+    let is_same = diff_in(alloc, first, second, tail, options, writer)?;
     Ok(finding_of(is_same))
 }
 
@@ -243,8 +244,12 @@ pub fn job_to<R: Source, W: Sink>(
         }
         Task::Blocks => printed(blocks_in(alloc, only(sources), tail, form, writer)),
         Task::Diff => {
-            let shown = shown_of(form, job.data);
-            found(compare(alloc, pair(sources), tail, form, shown, writer))
+            let options = DiffOptions {
+                ignored: job.ignored,
+                form,
+                most: shown_of(form, job.data),
+            };
+            found(compare(alloc, pair(sources), tail, options, writer))
         }
         Task::Digest => printed(digests_to(alloc, sources, tail, form, writer)),
         Task::Check => found(check(alloc, sources, tail, form, writer)),

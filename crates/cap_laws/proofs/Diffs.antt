@@ -16,7 +16,7 @@ use Rattle.cap_time.specs.Clock.{clock_cmp}
 use Rattle.cap_time.specs.Stamp.{stamp_cmp}
 use Rattle.cap_time.specs.declared.stamps.Stamp.{Stamp}
 use Rattle.cap_commands.specs.DiffText.{Comparison, compared, differences_of, do_differ, is_same, is_same_time}
-use Rattle.cap_commands.specs.DiffText.{other_packet, same_packets}
+use Rattle.cap_commands.specs.DiffText.{nothing_ignored, other_packet, same_packets}
 use Rattle.cap_source.specs.Items.{file_first, file_items}
 use Rattle.cap_bytes.specs.declared.formats.Format.TheVariants.{Pcap, Pcapng}
 use Rattle.cap_merge.specs.inner.Clocks.{clock_total}
@@ -50,7 +50,8 @@ passed a b c d e h = grind arith
 
 -- two packets do not differ if they are the same
 pub unlike : (m o : Meta) (f g : List ℕ) → IsSamePacket m o f g
-    → do_differ (differences_of (record { meta = m; frame = f }) (record { meta = o; frame = g })) ≡ false
+    → do_differ (differences_of nothing_ignored (record { meta = m; frame = f }) (record { meta = o; frame = g }))
+    ≡ false
 unlike m o f g same =
     let link = (Decides-eqb m.interface.link o.interface.link).1 same.link in
     let time = (time-law (meta_time m) (meta_time o)).1 same.time in
@@ -61,7 +62,8 @@ unlike m o f g same =
 
 -- and are the same if they do not differ
 pub like : (m o : Meta) (f g : List ℕ)
-    → do_differ (differences_of (record { meta = m; frame = f }) (record { meta = o; frame = g })) ≡ false
+    → do_differ (differences_of nothing_ignored (record { meta = m; frame = f }) (record { meta = o; frame = g }))
+    ≡ false
     → IsSamePacket m o f g
 like m o f g h =
     let p = passed (m.interface.link == o.interface.link) (is_same_time (meta_time m) (meta_time o))
@@ -79,30 +81,32 @@ chosen_by b c d e = rw e refl
 
 -- lists of packets that are the same, one by one, are as many packets that are the same
 compared-same : (n : ℕ) (xs ys : List Item) → AllZip SamePackets xs ys
-    → compared n xs ys ≡ same_packets (n + length xs)
+    → compared nothing_ignored n xs ys ≡ same_packets (n + length xs)
 unfolding compared
 compared-same n [] [] all = ap same_packets (omega arith)
 compared-same n (packet m f ∷ xs) (packet o g ∷ ys) all =
-    chosen_by _ _ (compared (n + 1) xs ys) (unlike m o f g all.0)
+    chosen_by _ _ (compared nothing_ignored (n + 1) xs ys) (unlike m o f g all.0)
     ∙ (compared-same (n + 1) xs ys all.1 ∙ ap same_packets (omega arith))
 compared-same n xs ys all = grind arith
 
-as-many : (xs ys : List Item) → AllZip SamePackets xs ys → compared 0 xs ys ≡ same_packets (length xs)
+as-many : (xs ys : List Item) → AllZip SamePackets xs ys → compared nothing_ignored 0 xs ys ≡ same_packets (length xs)
 as-many xs ys all = compared-same 0 xs ys all ∙ ap same_packets (omega arith)
 
-same_by : (b : Bool) (c d : Comparison) → is_same c ≡ false → is_same (if b then c else d) ≡ true
+pub same_by : (b : Bool) (c d : Comparison) → is_same c ≡ false → is_same (if b then c else d) ≡ true
     → (b ≡ false) × (is_same d ≡ true)
 same_by true c d other is = absurd (false≢true (sym other ∙ is))
 same_by false c d other is = (refl, is)
 
 -- lists that are the same are of packets that are the same, one by one
-same-compared : (n : ℕ) (xs ys : List Item) → is_same (compared n xs ys) ≡ true → AllZip SamePackets xs ys
+same-compared : (n : ℕ) (xs ys : List Item) → is_same (compared nothing_ignored n xs ys) ≡ true
+    → AllZip SamePackets xs ys
 unfolding compared
 same-compared n [] [] is = tt
 same-compared n (packet m f ∷ xs) (packet o g ∷ ys) is =
-    let split = same_by (do_differ (differences_of (record { meta = m; frame = f }) (record { meta = o; frame = g })))
+    let split = same_by
+    (do_differ (differences_of nothing_ignored (record { meta = m; frame = f }) (record { meta = o; frame = g })))
     (other_packet (n + 1) (Some (record { meta = m; frame = f })) (Some (record { meta = o; frame = g })))
-    (compared (n + 1) xs ys) refl is in
+    (compared nothing_ignored (n + 1) xs ys) refl is in
     (like m o f g split.0, same-compared (n + 1) xs ys split.1)
 same-compared n xs ys is = grind arith
 

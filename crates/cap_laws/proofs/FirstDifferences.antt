@@ -12,25 +12,26 @@ use Rattle.cap_source.specs.Items.{file_items}
 use Rattle.cap_source.specs.Times.{meta_time}
 use Rattle.cap_source.specs.declared.packets.Meta.{Meta}
 use Rattle.cap_commands.specs.DiffText.{Compared, Comparison, compared, differences_of, do_differ}
-use Rattle.cap_commands.specs.DiffText.{other_packet, same_packets, stopped_by}
+use Rattle.cap_commands.specs.DiffText.{nothing_ignored, other_packet, same_packets, stopped_by}
 use Rattle.cap_laws.proofs.Diffs.{chosen_by, like, time-law, unlike}
 use Rattle.cap_laws.specs.again.Laws.{IsSamePacket, SamePackets}
 use Rattle.cap_laws.specs.FirstDifferences.{DifferencesNamed, FirstDifference, IsComparison, IsSaid}
 
 -- packets that are the same are passed, and counted
 past-front : (n : ℕ) (front front_too rest others : List Item) → AllZip SamePackets front front_too
-    → compared n (front ++ rest) (front_too ++ others) ≡ compared (n + length front) rest others
+    → compared nothing_ignored n (front ++ rest) (front_too ++ others)
+    ≡ compared nothing_ignored (n + length front) rest others
 unfolding compared
-past-front n [] [] rest others all = ap (λ k. compared k rest others) (omega arith)
+past-front n [] [] rest others all = ap (λ k. compared nothing_ignored k rest others) (omega arith)
 past-front n (packet m f ∷ xs) (packet o g ∷ ys) rest others all =
-    chosen_by _ _ (compared (n + 1) (xs ++ rest) (ys ++ others)) (unlike m o f g all.0)
-    ∙ (past-front (n + 1) xs ys rest others all.1 ∙ ap (λ k. compared k rest others) (omega arith))
+    chosen_by _ _ (compared nothing_ignored (n + 1) (xs ++ rest) (ys ++ others)) (unlike m o f g all.0)
+    ∙ (past-front (n + 1) xs ys rest others all.1 ∙ ap (λ k. compared nothing_ignored k rest others) (omega arith))
 past-front n xs ys rest others all = grind arith
 
 -- where the comparison stops: the next two items aren't packets that are the same
 Stops : List Item → List Item → Type 0
 Stops (packet m f ∷ xs) (packet o g ∷ ys) =
-    do_differ (differences_of (record { meta = m; frame = f }) (record { meta = o; frame = g })) ≡ true
+    do_differ (differences_of nothing_ignored (record { meta = m; frame = f }) (record { meta = o; frame = g })) ≡ true
 Stops (packet m f ∷ xs) ys = ⊤
 Stops (refused r ∷ xs) ys = ⊤
 Stops [] ys = ⊤
@@ -59,7 +60,7 @@ at-once xs ys stops = record {
 }
 
 later : (m o : Meta) (f g : List ℕ) (xs ys : List Item) (b : Bool)
-    → do_differ (differences_of (record { meta = m; frame = f }) (record { meta = o; frame = g })) ≡ b
+    → do_differ (differences_of nothing_ignored (record { meta = m; frame = f }) (record { meta = o; frame = g })) ≡ b
     → Stopped xs ys → Stopped (packet m f ∷ xs) (packet o g ∷ ys)
 unfolding Stops
 later m o f g xs ys true e found = at-once (packet m f ∷ xs) (packet o g ∷ ys) e
@@ -86,7 +87,8 @@ taken_by : (b : Bool) (c d : Comparison) → b ≡ true → (if b then c else d)
 taken_by b c d e = rw e refl
 
 -- what is said there is what comes next
-said-there : (n : ℕ) (rest others : List Item) → Stops rest others → IsSaid n rest others (compared n rest others)
+said-there : (n : ℕ) (rest others : List Item) → Stops rest others
+    → IsSaid n rest others (compared nothing_ignored n rest others)
 unfolding compared Stops
 said-there n [] [] stops = (refl, refl, refl)
 said-there n [] (packet o g ∷ ys) stops = (refl, refl, (ys, refl), tt)
@@ -99,23 +101,24 @@ said-there n (packet m f ∷ xs) (packet o g ∷ ys) stops =
     let b : Compared = record { meta = o; frame = g } in
     let differ = other_packet (n + 1) (Some a) (Some b) in
     subst (λ (c : Comparison). IsSaid n (packet m f ∷ xs) (packet o g ∷ ys) c)
-    (sym (taken_by (do_differ (differences_of a b)) differ (compared (n + 1) xs ys) stops))
+    (sym
+    (taken_by (do_differ (differences_of nothing_ignored a b)) differ (compared nothing_ignored (n + 1) xs ys) stops))
     (refl, (xs, refl), (ys, refl), λ same. false≢true (sym (unlike m o f g same) ∙ stops))
 
 -- two packets that aren't the same differ
-differ-by : (a b : Compared) (x : Bool) → do_differ (differences_of a b) ≡ x
-    → (IsSamePacket a.meta b.meta a.frame b.frame → ⊥) → do_differ (differences_of a b) ≡ true
+differ-by : (a b : Compared) (x : Bool) → do_differ (differences_of nothing_ignored a b) ≡ x
+    → (IsSamePacket a.meta b.meta a.frame b.frame → ⊥) → do_differ (differences_of nothing_ignored a b) ≡ true
 differ-by a b true e other = e
 differ-by a b false e other = absurd (other (like a.meta b.meta a.frame b.frame e))
 
 -- and nothing else is said there
 only-said : (n : ℕ) (rest others : List Item) (said : Comparison) → IsSaid n rest others said
-    → compared n rest others ≡ said
+    → compared nothing_ignored n rest others ≡ said
 unfolding compared
 only-said n rest others (same_packets count) is =
     rw (is.0, is.1) (ap same_packets (sym is.2))
 only-said n rest others (other_packet number (Some a) (Some b)) is =
-    rw (is.1.1, is.2.1) (taken_by _ _ (compared (n + 1) is.1.0 is.2.0) (differ-by a b _ refl is.3)
+    rw (is.1.1, is.2.1) (taken_by _ _ (compared nothing_ignored (n + 1) is.1.0 is.2.0) (differ-by a b _ refl is.3)
     ∙ ap (λ k. other_packet k (Some a) (Some b)) (sym is.0))
 only-said n rest others (other_packet number (Some a) None) is =
     rw (is.1.1, is.2) (ap (λ k. other_packet k (Some a) None) (sym is.0))
@@ -129,12 +132,12 @@ only-said n (refused q ∷ xs) others (stopped_by r) (inr next) = absurd next.0
 
 compared-there : (first second front front_too rest others : List Item) → first ≡ front ++ rest
     → second ≡ front_too ++ others → AllZip SamePackets front front_too
-    → compared 0 first second ≡ compared (length front) rest others
+    → compared nothing_ignored 0 first second ≡ compared nothing_ignored (length front) rest others
 compared-there first second front front_too rest others first_is second_is same =
     rw (first_is, second_is) (past-front 0 front front_too rest others same
-    ∙ ap (λ k. compared k rest others) (omega arith))
+    ∙ ap (λ k. compared nothing_ignored k rest others) (omega arith))
 
-said-of : (first second : List Item) → IsComparison first second (compared 0 first second)
+said-of : (first second : List Item) → IsComparison first second (compared nothing_ignored 0 first second)
 said-of first second =
     let it = where-stopped first second in
     let there = compared-there first second it.front it.front_too it.rest it.others it.first_is it.second_is it.same in

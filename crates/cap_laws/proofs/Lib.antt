@@ -5,6 +5,7 @@ mod DigestLaws
 mod FileNumbers
 mod FirstDifferences
 mod DataPlaces
+mod DiffsBut
 mod InOrder
 mod JoinedByPlaces
 mod JoinedUnits

@@ -13,7 +13,7 @@ use Rattle.cap_source.specs.Items.{file_items}
 use Rattle.cap_source.specs.inner.Fields.{ItemFits}
 use Rattle.cap_bytes.specs.declared.formats.Format.{Format}
 use Rattle.cap_commands.specs.Converted.{convert_refusal, convert_text}
-use Rattle.cap_commands.specs.DiffText.{comparison_of, is_same}
+use Rattle.cap_commands.specs.DiffText.{comparison_of, is_same, nothing_ignored}
 
 -- Two lists of packets, the fields of which fit in their widths, have the same canonical text exactly if their packets
 -- have, one by one, the same link types, exact times, lengths and bytes.
@@ -38,7 +38,7 @@ SameAsDiff =
     (tail : Tail) (first second : List ℕ) → AreBytes first → AreBytes second
     → refusal_of (file_items tail 1 first) ≡ None → refusal_of (file_items tail 2 second) ≡ None
     → (canonical_text (file_items tail 1 first) ≡ canonical_text (file_items tail 2 second))
-    ↔ IsTrue (is_same (comparison_of tail first second))
+    ↔ IsTrue (is_same (comparison_of nothing_ignored tail first second))
 
 -- What `convert` writes of any file, in either format and byte order, is a capture that isn't refused, and has the
 -- digest line of the file, under every number and in either form, but for whether a cut end was dropped; if nothing is

@@ -10,7 +10,7 @@ use Rattle.cap_source.specs.Items.{file_items}
 use Rattle.cap_source.specs.Times.{meta_time}
 use Rattle.cap_time.specs.Clock.{clock_cmp}
 use Rattle.cap_commands.specs.DiffText.{Compared, Comparison, comparison_of, data_place, differences_of}
-use Rattle.cap_commands.specs.DiffText.{other_packet, same_packets, stopped_by}
+use Rattle.cap_commands.specs.DiffText.{nothing_ignored, other_packet, same_packets, stopped_by}
 use Rattle.cap_commands.specs.declared.diff.Differences.{Differences}
 use Rattle.cap_laws.specs.again.Laws.{IsSamePacket, SamePackets}
 
@@ -60,7 +60,7 @@ pub record IsComparison (first second : List Item) (said : Comparison) : Type 0 
 abbrev pub FirstDifference : Type 0
 FirstDifference =
     (tail : Tail) (first second : List ℕ) (said : Comparison)
-    → (comparison_of tail first second ≡ said)
+    → (comparison_of nothing_ignored tail first second ≡ said)
     ↔ IsComparison (file_items tail 1 first) (file_items tail 2 second) said
 
 -- A field is named exactly if the two packets differ in it.
@@ -72,7 +72,7 @@ pub record Names (a b : Compared) (it : Differences) : Type 0 where
   pub bytes : IsTrue it.bytes ↔ (a.frame ≢ b.frame)
 
 abbrev pub DifferencesNamed : Type 0
-DifferencesNamed = (a b : Compared) → Names a b (differences_of a b)
+DifferencesNamed = (a b : Compared) → Names a b (differences_of nothing_ignored a b)
 
 -- Two lists of bytes differ first at a place, counted from 0: the bytes before it are the same in both, and the bytes
 -- at it aren't, or only one of the lists has a byte there.

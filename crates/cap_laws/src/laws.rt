@@ -1,7 +1,7 @@
 //! Laws, each the contract of a function that does nothing.
 ghost use Rattle.std.specs.Prelude.{List};
 ghost use Rattle.cap_laws.specs.CheckedPackets.{CheckedByPlaces};
-ghost use Rattle.cap_laws.specs.Diffs.{SameAsConverted, SameExactly};
+ghost use Rattle.cap_laws.specs.Diffs.{SameAsConverted, SameButIgnored, SameExactly};
 ghost use Rattle.cap_laws.specs.FirstDifferences.{DifferencePlaced, DifferencesNamed, FirstDifference};
 ghost use Rattle.cap_laws.specs.Forms.{BodyParts, PcapReport};
 ghost use Rattle.cap_laws.specs.InOrder.{ByPlaces, ReportByPlaces};
@@ -101,6 +101,13 @@ pub fn pcapng_run()
 /// which those of one place have the same link type, exact time, captured and original length and captured bytes.
 pub fn diff_same()
     ensures { SameExactly }
+{}
+
+/// If times, link types or original lengths are ignored, `diff` says that two captures have the same packets exactly if
+/// neither is refused and they have as many packets, of which those of one place are the same but for that. So captures
+/// whose packets are the same but for their times have the same packets if times are ignored.
+pub fn diff_ignoring()
+    ensures { SameButIgnored }
 {}
 
 /// What `diff` says of two captures, by places. Both begin with n packets that are the same, one by one. If both end

@@ -12,7 +12,8 @@ use Rattle.std.proofs.lemmas.Result.{IfOk-weaker}
 use Rattle.clap.specs.declared.builder.arg.Arg.{Arg}
 use Rattle.clap.specs.declared.builder.command.Command.{Command}
 use Rattle.clap.specs.declared.builder.command.Command.TheViews.{out-Command}
-use Rattle.cap_line.specs.Command.{AddsMade, AddsRule, IsCapt, IsConvert, IsJoin, IsMerge, printing_app}
+use Rattle.cap_line.specs.Command.{AddsMade, AddsRule, IsCapt, IsConvert, IsDiff, IsJoin, IsMerge, IsPrinting}
+use Rattle.cap_line.specs.Command.{printing_app}
 use Rattle.cap_line.specs.CommandLine.{Parses, IsJobOf, IsNoJob, IsRefused, fault_by}
 use Rattle.cap_line.specs.Jobs.{IsWholeJob}
 use Rattle.cap_line.specs.declared.jobs.Job.{Job}
@@ -146,31 +147,34 @@ AddsMade-is made sub all before known is sub_is =
 
 -- what prints with `convert` added, and with `merge` too
 abbrev HasConvert : App → Type 0
-HasConvert app = (convert : App) × IsConvert convert × (app ≡ with_subcommand printing_app convert.top)
+HasConvert app = (diff : App) × (convert : App) × IsDiff diff × IsConvert convert
+    × (app ≡ with_subcommand (printing_app diff) convert.top)
 
 abbrev HasMerge : App → Type 0
 HasMerge app = (old : App) × (merge : App) × HasConvert old × IsMerge merge × (app ≡ with_subcommand old merge.top)
 
 -- capt is what prints, with `convert`, `merge` and `join` added
 pub IsCapt-added : (printing convert merge join mid most all : Result Command AllocError)
-    → IfOk printing (λ c. app_of c ≡ printing_app) → IfOk convert (λ c. IsConvert (app_of c))
+    → IfOk printing (λ c. IsPrinting (app_of c)) → IfOk convert (λ c. IsConvert (app_of c))
     → IfOk merge (λ c. IsMerge (app_of c)) → IfOk join (λ c. IsJoin (app_of c))
     → IfOk mid (λ c. AddsMade printing convert (app_of c)) → IfOk most (λ c. AddsMade mid merge (app_of c))
     → IfOk all (λ c. AddsMade most join (app_of c)) → IfOk all (λ c. IsCapt (app_of c))
 IsCapt-added printing convert merge join mid most all is is_convert is_merge is_join mid_is most_is all_is =
-    let first = AddsMade-weaker (λ app. app ≡ printing_app) IsConvert HasConvert printing convert mid is is_convert
-    (λ app s e s_is. (s, s_is, rw e refl)) mid_is in
+    let first = AddsMade-weaker IsPrinting IsConvert HasConvert printing convert mid is is_convert
+    (λ app s e s_is. (e.0, s, e.1, s_is, rw e.2 refl)) mid_is in
     let second = AddsMade-weaker HasConvert IsMerge HasMerge mid merge most first is_merge
     (λ app s e s_is. (app, s, e, s_is, refl)) most_is in
     AddsMade-weaker HasMerge IsJoin IsCapt most join all second is_join
     (λ app s e s_is. record {
-      convert = e.2.0;
+      diff = e.2.0;
+      convert = e.2.1;
       merge = e.1;
       join = s;
-      is_convert = e.2.1;
+      is_diff = e.2.2;
+      is_convert = e.2.3;
       is_merge = e.3;
       is_join = s_is;
-      app_is = rw (e.4, e.2.2) refl;
+      app_is = rw (e.4, e.2.4) refl;
     })
     all_is
 

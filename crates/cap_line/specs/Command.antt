@@ -6,7 +6,7 @@ use Rattle.clap.specs.Words.{App, Rule, Text, app_of, new_app, new_rule, with_ru
 use Rattle.std.specs.declared.alloc.AllocError.{AllocError}
 use Rattle.clap.specs.declared.builder.command.Command.{Command}
 use Rattle.clap.specs.Simple.{on_top}
-use Rattle.clap.specs.declared.builder.action.ArgAction.TheVariants.{SetTrue}
+use Rattle.clap.specs.declared.builder.action.ArgAction.TheVariants.{Append, SetTrue}
 use Rattle.clap.specs.declared.builder.value_parser.ValueParser.TheVariants as parser
 
 -- the names that an argument takes, as clap keeps them
@@ -51,6 +51,15 @@ required_to_rule names = record (to_rule names) { required = true }
 abbrev pub IsRequiredToRule : Rule → Type 0
 IsRequiredToRule rule = (names : ArgumentNames) × AreNames names (codes "pcap" ∷ codes "pcapng" ∷ [])
     × (rule ≡ required_to_rule names)
+
+-- the option `--ignore`, which may be given more than once
+abbrev pub ignore_rule : ArgumentNames → Rule
+ignore_rule names = record (choice_rule (codes "ignore") names) { action = Some Append }
+
+abbrev pub IsIgnoreRule : Rule → Type 0
+IsIgnoreRule rule = (names : ArgumentNames)
+    × AreNames names (codes "time" ∷ codes "link" ∷ codes "original" ∷ [])
+    × (rule ≡ ignore_rule names)
 
 -- the option `-o` or `--output`, the letter's code being 111, which is required
 abbrev pub out_rule : Rule
@@ -102,10 +111,15 @@ list_app = with_rule (with_rule (showing_app (codes "list")) data_rule) file_rul
 abbrev pub blocks_app : App
 blocks_app = with_rule (showing_app (codes "blocks")) file_rule
 
--- `diff [--data N] A B`
-abbrev pub diff_app : App
-diff_app = with_rule (with_rule (with_rule (showing_app (codes "diff")) data_rule) (required_rule (codes "A")))
-    (required_rule (codes "B"))
+-- `diff [--data N] [--ignore KIND].. A B`
+abbrev pub diff_app : ArgumentNames → App
+diff_app kinds = with_rule (with_rule (with_rule (with_rule (showing_app (codes "diff")) data_rule) (ignore_rule kinds))
+    (required_rule (codes "A"))) (required_rule (codes "B"))
+
+pub record IsDiff (app : App) : Type 0 where
+  pub kinds : ArgumentNames
+  pub kinds_are : AreNames kinds (codes "time" ∷ codes "link" ∷ codes "original" ∷ [])
+  pub app_is : app ≡ diff_app kinds
 
 -- `digest FILE..`
 abbrev pub digest_app : App
@@ -181,23 +195,31 @@ capt_alone = on_top (λ s. record s { has_version = true; subcommand_required = 
 abbrev pub listing_app : App
 listing_app = with_subcommand (with_subcommand capt_alone list_app.top) blocks_app.top
 
-abbrev pub comparing_app : App
-comparing_app =
-    with_subcommand (with_subcommand (with_subcommand listing_app diff_app.top) digest_app.top) check_app.top
+abbrev pub comparing_app : App → App
+comparing_app diff =
+    with_subcommand (with_subcommand (with_subcommand listing_app diff.top) digest_app.top) check_app.top
 
-abbrev pub printing_app : App
-printing_app = with_subcommand (with_subcommand comparing_app info_app.top) report_app.top
+abbrev pub IsComparing : App → Type 0
+IsComparing app = (diff : App) × IsDiff diff × (app ≡ comparing_app diff)
 
-abbrev pub capt_app : App → App → App → App
-capt_app convert merge join =
-    with_subcommand (with_subcommand (with_subcommand printing_app convert.top) merge.top) join.top
+abbrev pub printing_app : App → App
+printing_app diff = with_subcommand (with_subcommand (comparing_app diff) info_app.top) report_app.top
+
+abbrev pub IsPrinting : App → Type 0
+IsPrinting app = (diff : App) × IsDiff diff × (app ≡ printing_app diff)
+
+abbrev pub capt_app : App → App → App → App → App
+capt_app diff convert merge join =
+    with_subcommand (with_subcommand (with_subcommand (printing_app diff) convert.top) merge.top) join.top
 
 -- The application is capt's: `capt` and its subcommands.
 pub record IsCapt (app : App) : Type 0 where
+  pub diff : App
   pub convert : App
   pub merge : App
   pub join : App
+  pub is_diff : IsDiff diff
   pub is_convert : IsConvert convert
   pub is_merge : IsMerge merge
   pub is_join : IsJoin join
-  pub app_is : app ≡ capt_app convert merge join
+  pub app_is : app ≡ capt_app diff convert merge join

@@ -7,7 +7,7 @@ use Rattle.clap.specs.declared.error.kind.ErrorKind.TheVariants as kind
 use Rattle.cap_line.specs.Command.{IsCapt}
 use Rattle.cap_bytes.specs.declared.formats.Format.{Format}
 use Rattle.cap_line.specs.Jobs.{IsShownJob, IsWholeJob, can_replace, can_show, data_by, files_fault, format_by}
-use Rattle.cap_line.specs.Jobs.{is_whole_task, order_by, task_by}
+use Rattle.cap_line.specs.Jobs.{ignored_by, is_whole_task, order_by, task_by}
 use Rattle.cap_line.specs.declared.jobs.Job.{Job}
 use Rattle.cap_line.specs.declared.jobs.Task.{Task}
 use Rattle.cap_line.specs.declared.faults.LineFault.{LineFault}
@@ -20,7 +20,7 @@ fault_by kind.DisplayVersion = Help
 fault_by kind.OutOfMemory = Memory
 fault_by _ = Line
 
--- the files that the argument of that name names
+-- the values of the argument of that name
 abbrev pub names_in : Text → List Row → List Text
 names_in name rows = unwrap_or (all_of name rows) []
 
@@ -76,6 +76,7 @@ pub record HasRows (task : Task) (rows : List Row) (job : Job) : Type 0 where
   pub whole : Flags job.whole (codes "whole") rows
   pub json : Flags job.json (codes "json") rows
   pub count : data_in rows ≡ Ok job.data
+  pub ignored : job.ignored ≡ ignored_by (names_in (codes "ignore") rows)
 
 -- What a subcommand of that name with those rows gives: a whole job, or the first fault. A name that is no task's, a
 -- task that lacks what it takes, standard output that is to take a name, and what can't be shown, are refused as the

@@ -10,6 +10,7 @@ use Rattle.cap_bytes.specs.declared.numbers.Order.{Order}
 use Rattle.cap_bytes.specs.declared.numbers.Order.TheVariants.{Big, Little}
 use Rattle.cap_bytes.specs.declared.formats.Format.{Format}
 use Rattle.cap_bytes.specs.declared.formats.Format.TheVariants.{Pcap, Pcapng}
+use Rattle.cap_line.specs.declared.jobs.Ignored.{Ignored}
 use Rattle.cap_line.specs.declared.jobs.Job.{Job}
 use Rattle.cap_line.specs.declared.jobs.Task.{Task}
 use Rattle.cap_line.specs.declared.jobs.Task.TheVariants as tasks
@@ -99,6 +100,15 @@ count_in text = if is_digits text && nat_le (digits_value 10 text) 262144 then S
 abbrev pub data_by : Option (List ℕ) → Result (Option ℕ) LineFault
 data_by None = Ok None
 data_by (Some text) = if is_some (count_in text) then Ok (count_in text) else Err Line
+
+-- what is ignored of packets that are compared, by the words that name it
+abbrev pub ignored_by : List (List ℕ) → Ignored
+ignored_by words =
+    record {
+      time = list_any (λ w. bytes_eq w (codes "time")) words;
+      link = list_any (λ w. bytes_eq w (codes "link")) words;
+      original = list_any (λ w. bytes_eq w (codes "original")) words;
+    }
 
 -- whether a task prints
 abbrev pub is_printing : Task → Bool

@@ -2,12 +2,12 @@
 ghost use Rattle.std.specs.Prelude.{◌≡◌, codes, false, IfOk, IsOkAnd};
 ghost use Rattle.clap.specs.Words.{app_of, rule_of};
 ghost use Rattle.clap.specs.declared.builder.command.Command.TheViews.{out-Command as fields_of};
-ghost use Rattle.cap_line.specs.Command.{AddsMade, AddsRule, IsCapt, IsConvert, IsGathering, IsJoin, IsMerge};
-ghost use Rattle.cap_line.specs.Command.{IsOrderRule, IsRequiredToRule, IsToRule, IsWriting, blocks_app, capt_alone};
-ghost use Rattle.cap_line.specs.Command.{check_app, choice_rule, cutting_app, file_rule, files_rule, flag_rule};
-ghost use Rattle.cap_line.specs.Command.{comparing_app, data_rule, diff_app, digest_app, info_app, list_app};
-ghost use Rattle.cap_line.specs.Command.{listing_app, out_rule, printing_app, reading_app, report_app, required_rule};
-ghost use Rattle.cap_line.specs.Command.{showing_app};
+ghost use Rattle.cap_line.specs.Command.{AddsMade, AddsRule, IsCapt, IsComparing, IsConvert, IsDiff, IsGathering};
+ghost use Rattle.cap_line.specs.Command.{IsIgnoreRule, IsJoin, IsMerge, IsOrderRule, IsPrinting, IsRequiredToRule};
+ghost use Rattle.cap_line.specs.Command.{IsToRule, IsWriting, blocks_app, capt_alone, check_app, choice_rule};
+ghost use Rattle.cap_line.specs.Command.{cutting_app, data_rule, digest_app, file_rule, files_rule, flag_rule};
+ghost use Rattle.cap_line.specs.Command.{info_app, list_app, listing_app, out_rule, reading_app, report_app};
+ghost use Rattle.cap_line.specs.Command.{required_rule, showing_app};
 
 use crate::texts;
 use crate::usage::USAGE;
@@ -18,6 +18,9 @@ use std::alloc::{AllocError, Global};
 static ORDERS: [&str; 2] = ["big", "little"];
 
 static FORMATS: [&str; 2] = ["pcap", "pcapng"];
+
+// The names of what can be ignored.
+static KINDS: [&str; 3] = ["time", "link", "original"];
 
 // The flag of that name
 fn flag<'a>(alloc: Global, name: &'a str, help: &'a str) -> Arg<'a>
@@ -135,6 +138,21 @@ fn order<'a>(alloc: Global) -> Arg<'a>
         "ORDER",
         texts::ORDER_HELP,
     )
+}
+
+// `--ignore`, which may be given more than once
+fn ignore<'a>(alloc: Global) -> Arg<'a>
+    ensures rule { IsIgnoreRule (rule_of result) }
+    ensures local { result.global ≡ false }
+{
+    choice(
+        alloc,
+        "ignore",
+        KINDS.as_slice(),
+        "KIND",
+        texts::IGNORE_HELP,
+    )
+    .action(ArgAction::Append)
 }
 
 // `--to`
@@ -282,14 +300,15 @@ fn blocks<'a>(alloc: Global) -> Result<Command<'a>, AllocError>
 
 // `diff`
 fn diff<'a>(alloc: Global) -> Result<Command<'a>, AllocError>
-    ensures app { IfOk result (λ c. app_of c ≡ diff_app) }
+    ensures app { IfOk result (λ c. IsDiff (app_of c)) }
     ensures local { IfOk result (λ c. (fields_of c).has_globals ≡ false) }
 {
     let before = showing(alloc, "diff", texts::DIFF_ABOUT, texts::DIFF_HELP);
     let shown = with_argument(before, data(alloc));
+    let ignoring = with_argument(shown, ignore(alloc));
     let first = required(alloc, "A", texts::A_HELP);
     with_argument(
-        with_argument(shown, first),
+        with_argument(ignoring, first),
         required(alloc, "B", texts::B_HELP),
     )
 }
@@ -398,7 +417,7 @@ fn listing<'a>(alloc: Global) -> Result<Command<'a>, AllocError>
 
 // `capt` with these, `diff`, `digest` and `check`
 fn comparing<'a>(alloc: Global) -> Result<Command<'a>, AllocError>
-    ensures { IfOk result (λ c. app_of c ≡ comparing_app) }
+    ensures { IfOk result (λ c. IsComparing (app_of c)) }
 {
     let capt = with_subcommand(listing(alloc), diff(alloc));
     let capt = with_subcommand(capt, digest(alloc));
@@ -407,7 +426,7 @@ fn comparing<'a>(alloc: Global) -> Result<Command<'a>, AllocError>
 
 // `capt` with the subcommands that print
 fn printing<'a>(alloc: Global) -> Result<Command<'a>, AllocError>
-    ensures { IfOk result (λ c. app_of c ≡ printing_app) }
+    ensures { IfOk result (λ c. IsPrinting (app_of c)) }
 {
     let capt = with_subcommand(comparing(alloc), info(alloc));
     with_subcommand(capt, report(alloc))

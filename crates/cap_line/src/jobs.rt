@@ -4,7 +4,8 @@ ghost use Rattle.std.specs.Char.{is_ascii_digit};
 ghost use Rattle.std.specs.List.{list_all, list_any};
 ghost use Rattle.std.specs.Str.{bytes_eq};
 ghost use Rattle.cap_line.specs.Jobs.{can_replace, can_show, count_in, data_by, files_fault, format_by};
-ghost use Rattle.cap_line.specs.Jobs.{is_also_file, is_digits, is_whole_task, most_files, order_by, task_by};
+ghost use Rattle.cap_line.specs.Jobs.{ignored_by, is_also_file, is_digits, is_whole_task, most_files, order_by};
+ghost use Rattle.cap_line.specs.Jobs.{task_by};
 
 use crate::faults::LineFault;
 use cap_bytes::{Format, Order};
@@ -43,6 +44,24 @@ pub enum Task {
     Join,
 }
 
+/// In what two packets may differ and still count as the same.
+#[derive(Clone, Copy, Debug, PartialEq, Eq)]
+pub struct Ignored {
+    /// Their times.
+    pub time: bool,
+    /// Their link types.
+    pub link: bool,
+    /// Their original lengths.
+    pub original: bool,
+}
+
+/// Nothing: packets that differ in anything aren't the same.
+pub const NOTHING_IGNORED: Ignored = Ignored {
+    time: false,
+    link: false,
+    original: false,
+};
+
 /// What the command line asks for.
 #[derive(Drop)]
 pub struct Job<'a> {
@@ -66,6 +85,8 @@ pub struct Job<'a> {
     pub json: bool,
     /// How many bytes of each packet are shown at most, if that was asked for: from 0 to 262,144.
     pub data: Option<u32>,
+    /// In what packets that are compared may differ.
+    pub ignored: Ignored,
 }
 
 /// The task of that name, if it is one's: `list`, `blocks`, `diff`, `digest`, `check`, `info`, `report`,
@@ -198,6 +219,17 @@ fn is_named(name: &str, files: &[&str]) -> bool
     ensures { result ≡ list_any (λ f. bytes_eq f.now name.now) files.now }
 {
     files.iter().any(|file| *file == name)
+}
+
+/// What is ignored, by the words that name it: `time`, `link` and `original`.
+pub fn ignored_of(words: &[&str]) -> Ignored
+    ensures { result ≡ ignored_by (map (λ w. w.now) words.now) }
+{
+    Ignored {
+        time: is_named("time", words),
+        link: is_named("link", words),
+        original: is_named("original", words),
+    }
 }
 
 // Whether the output is one of the files, and not standard output.

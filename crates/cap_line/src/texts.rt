@@ -76,9 +76,10 @@ captured byte that differs or that only one packet has. LINE then shows the 16
 bytes of its row: bytes 48 to 63 if P is 60. Times are compared exactly.
 Formats, byte orders, time units, interfaces and offsets may differ. If a
 capture is refused before that, nothing is printed. The status is 3 if the
-packets differ.
+packets differ. --ignore KIND, which may be repeated, lets packets differ in it.
 
 Examples: capt diff trace.pcap trace.pcapng
+          capt diff --ignore time --ignore link sent.pcap received.pcap
           set -o pipefail; zcat old.pcap.gz | capt diff - new.pcap";
 
 pub(crate) const DIGEST_ABOUT: &str = "Prints the SHA-256 of the packets of each capture";
@@ -174,6 +175,8 @@ pub(crate) const JSON_HELP: &str = "Print JSON Lines: the same facts, an object 
 
 pub(crate) const DATA_HELP: &str = "With --json, show at most N bytes of a packet, from
 0 to 262144, default 16";
+
+pub(crate) const IGNORE_HELP: &str = "What may differ";
 
 pub(crate) const WHOLE_HELP: &str = "Write OUT beside itself and rename it once all is
 done: a fault or a refusal leaves it as it was. If

@@ -8,7 +8,7 @@ Usage: capt report [--allow-cut] [--json] FILE...
        capt info [--allow-cut] [--json] FILE...
        capt list [--allow-cut] [--json [--data N]] FILE
        capt blocks [--allow-cut] [--json] FILE
-       capt diff [--allow-cut] [--json [--data N]] A B
+       capt diff [--allow-cut] [--ignore KIND]... [--json [--data N]] A B
        capt digest [--allow-cut] [--json] FILE...
        capt check [--allow-cut] [--json] FILE...
        capt convert [--allow-cut] [--order ORDER] --to FORMAT -o OUT FILE
@@ -40,6 +40,9 @@ Options:
                  JSON Lines
       --data N   Of list and diff with --json: show N bytes of each packet,
                  default 16
+      --ignore KIND
+                 Of diff: let packets differ in KIND, which is time, link or
+                 original
       --whole    Of convert, merge and join: leave OUT as it was until all is
                  done
 

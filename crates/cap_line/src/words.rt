@@ -3,7 +3,7 @@ ghost use Rattle.std.specs.Prelude.{◌≡◌, ◌≢◌, ◌⊎◌, ◌++◌, A
 ghost use Rattle.std.specs.Prelude.{option_map, IsTrue, IfOk, OnOk, Some};
 ghost use Rattle.clap.specs.Values.{kind_of};
 ghost use Rattle.clap.specs.Words.{first_of, rows_of, found_of, subcommand_rows_of};
-ghost use Rattle.cap_line.specs.Jobs.{IsShownJob, IsWholeJob};
+ghost use Rattle.cap_line.specs.Jobs.{IsShownJob, IsWholeJob, ignored_by};
 ghost use Rattle.cap_line.specs.CommandLine.{fault_by, files_in, names_in, IsJobBy, IsJobOf, IsNoJob, IsRefused};
 ghost use Rattle.cap_line.specs.CommandLine.{Parses};
 ghost use Rattle.cap_line.specs.Shown.{IsSeenOrLine};
@@ -11,7 +11,8 @@ ghost use Rattle.cap_line.specs.Shown.{IsSeenOrLine};
 use crate::command::capt;
 use crate::faults::LineFault;
 use crate::jobs::{
-    Job, can_replace, can_show, check_files, data_of, format_of, is_whole, order_of, task_of,
+    Ignored, Job, NOTHING_IGNORED, can_replace, can_show, check_files, data_of, format_of,
+    ignored_of, is_whole, order_of, task_of,
 };
 use crate::shown::{escape, escape_lines};
 use crate::usage::{DATA_ALONE, DATA_NUMBER, TALKS_TIP, WHOLE_DASH, WRITE_TIP};
@@ -158,6 +159,16 @@ fn text_of<'a>(matches: &ArgMatches<'a>, id: &str) -> Option<&'a str>
     matches.get_str(id)
 }
 
+// What is ignored of packets that are compared.
+fn ignored_in(matches: &ArgMatches<'_>) -> Ignored
+    ensures { result ≡ ignored_by (names_in (codes "ignore") (rows_of (found_of matches.now))) }
+{
+    match matches.get_strs("ignore") {
+        Some(words) => ignored_of(words),
+        None => NOTHING_IGNORED,
+    }
+}
+
 // Whether a flag was given.
 fn is_set(flag: Option<&str>) -> bool
     ensures { IsTrue result ↔ (option_map (λ s. s.now) flag.entry ≡ Some (codes "true")) }
@@ -198,6 +209,7 @@ fn job_of<'a>(alloc: Global, name: &str, matches: &ArgMatches<'a>) -> Result<Job
         whole,
         json,
         data,
+        ignored: ignored_in(matches),
     })
 }
 

@@ -2,8 +2,8 @@
 use crate::checks::same;
 use cap_bytes::Order;
 use cap_line::{
-    LineFault, Task, can_replace, can_show, check_files, data_of, format_of, is_whole, order_of,
-    task_of,
+    Ignored, LineFault, Task, can_replace, can_show, check_files, data_of, format_of, ignored_of,
+    is_whole, order_of, task_of,
 };
 use cap_source::Format;
 
@@ -124,6 +124,27 @@ const COUNTS: [(Option<&str>, Result<Option<u32>, LineFault>); 12] = [
 fn bytes_shown_are_a_number(rt: HostRuntime) {
     for (text, count) in &COUNTS {
         same!(&rt; data_of(*text), *count, *text);
+    }
+}
+
+// Words that name what is ignored: times, link types and original lengths.
+static IGNORED: [(&[&str], bool, bool, bool); 5] = [
+    (&[], false, false, false),
+    (&["time"], true, false, false),
+    (&["original", "link"], false, true, true),
+    (&["time", "time", "link", "original"], true, true, true),
+    (&["times", "Link", ""], false, false, false),
+];
+
+#[test]
+fn what_is_ignored_is_named(rt: HostRuntime) {
+    for (words, time, link, original) in &IGNORED {
+        let ignored = Ignored {
+            time: *time,
+            link: *link,
+            original: *original,
+        };
+        same!(&rt; ignored_of(words), ignored, *words);
     }
 }
 

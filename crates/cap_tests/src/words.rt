@@ -1,7 +1,7 @@
 //! The words of a command line, as they are parsed and what is said of them.
 use crate::checks::{holds, same};
 use cap_bytes::Order;
-use cap_line::{Job, LineFault, Task, USAGE, message, parse};
+use cap_line::{Ignored, Job, LineFault, Task, USAGE, message, parse};
 use cap_source::Format;
 use std::process::Abort;
 
@@ -46,6 +46,31 @@ fn always_memory_two_captures_are_compared(rt: HostRuntime) {
     same!(&rt; parse(rt.alloc(), three.as_slice()).err(), Some(LineFault::Line));
     let standard = ["capt", "diff", "-", "-"];
     same!(&rt; parse(rt.alloc(), standard.as_slice()).err(), Some(LineFault::Input));
+}
+
+// What is ignored is named word by word, by no other word.
+#[test]
+fn always_memory_differences_are_ignored(rt: HostRuntime) {
+    let words = [
+        "capt",
+        "diff",
+        "--ignore",
+        "time",
+        "a.pcap",
+        "--ignore=link",
+        "b.pcap",
+    ];
+    let ignored = Ignored {
+        time: true,
+        link: true,
+        original: false,
+    };
+    match parse(rt.alloc(), words.as_slice()) {
+        Ok(job) => same!(&rt; job.ignored, ignored),
+        Err(fault) => panic!(&rt; "{fault}"),
+    }
+    let other = ["capt", "diff", "--ignore=data", "a.pcap", "b.pcap"];
+    same!(&rt; parse(rt.alloc(), other.as_slice()).err(), Some(LineFault::Line));
 }
 
 #[test]

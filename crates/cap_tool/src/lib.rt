@@ -48,8 +48,9 @@ pub use crate::streams::{
 pub use crate::systems::System;
 pub use crate::whole::{AtomicOutput, create_beside};
 pub use cap_commands::{
-    Differences, Done, DroppedInfo, Finding, blocks_json_to, blocks_to, convert_and_count,
-    convert_to, diff_in, diff_to, digests_to, fault_line, job_to, join_and_count, join_to,
-    join_to_pcap, list_json_to, list_to, merge_and_count, merge_to, merge_to_pcap,
+    DEFAULT_OPTIONS, DiffOptions, Differences, Done, DroppedInfo, Finding, blocks_json_to,
+    blocks_to, convert_and_count, convert_to, diff_in, diff_to, digests_to, fault_line, job_to,
+    join_and_count, join_to, join_to_pcap, list_json_to, list_to, merge_and_count, merge_to,
+    merge_to_pcap,
 };
 pub use cap_line::{Job, LineFault, parse};

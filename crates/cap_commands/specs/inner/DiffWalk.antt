@@ -4,6 +4,7 @@ use Rattle.std.specs.Prelude.{⊤}
 use Rattle.std.specs.Prelude.{◌⊎◌}
 use Rattle.cap_bytes.specs.declared.faults.Fault.{Fault}
 use Rattle.cap_bytes.specs.declared.faults.Fault.TheVariants.{Refused, Read, Write, Memory}
+use Rattle.cap_line.specs.declared.jobs.Ignored.{Ignored}
 use Rattle.cap_source.specs.Feed.{Feed, HasFile, IsPacket}
 use Rattle.cap_source.specs.declared.feeds.Head.{Head}
 use Rattle.cap_source.specs.declared.feeds.Head.TheVariants as heads
@@ -29,11 +30,11 @@ abbrev pub given : Result Bool Fault → Option Head → Result (Option Meta) Fa
 given (Ok found) known = Ok (known_packet known)
 given (Err fault) known = Err fault
 
--- two packets are the same; none is the same as nothing
-abbrev pub are_alike : Option Compared → Option Compared → Bool
-are_alike None other = false
-are_alike (Some a) None = false
-are_alike (Some a) (Some b) = not (do_differ (differences_of a b))
+-- two packets are the same but for what is ignored; none is the same as nothing
+abbrev pub are_alike : Ignored → Option Compared → Option Compared → Bool
+are_alike ignored None other = false
+are_alike ignored (Some a) None = false
+are_alike ignored (Some a) (Some b) = not (do_differ (differences_of ignored a b))
 
 -- the comparison, if those come after so many packets that are the same, and aren't the same
 abbrev pub parted : ℕ → Option Compared → Option Compared → Comparison

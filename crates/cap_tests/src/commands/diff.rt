@@ -3,9 +3,10 @@ ghost use Rattle.std.specs.Prelude.{◌≤◌};
 
 use crate::checks::same;
 use crate::files::{reader_of, room_of};
-use crate::hex_vectors::{CARRY_PCAP, CARRY_PCAPNG, CUT_PCAP, ETHERNET, File};
+use crate::hex_vectors::{CARRY_PCAP, CARRY_PCAPNG, CUT_PCAP, ETHERNET, File, RAW};
 use cap_bytes::{Fault, Refusal, Rule, Tail};
-use cap_commands::{diff_in, diff_to};
+use cap_commands::{DiffOptions, diff_in, diff_to};
+use cap_line::{Ignored, NOTHING_IGNORED};
 use cap_print::Form;
 use std::alloc::Global;
 use std::process::Abort;
@@ -208,15 +209,12 @@ fn is_object(rt: &impl Abort, alloc: Global, row: &(File, File, u32, &str, bool)
     let mut writer = room_of(rt, alloc, 1024);
     let one = reader_of(rt, alloc, first, 4096);
     let other = reader_of(rt, alloc, second, 4096);
-    let answer = diff_in(
-        alloc,
-        one,
-        other,
-        Tail::Refuse,
-        Form::Json,
+    let options = DiffOptions {
+        ignored: NOTHING_IGNORED,
+        form: Form::Json,
         most,
-        &mut writer,
-    );
+    };
+    let answer = diff_in(alloc, one, other, Tail::Refuse, options, &mut writer);
     same!(rt; (answer, writer.bytes()), (Ok(is_same), text.as_bytes()));
 }
 
@@ -224,6 +222,86 @@ fn is_object(rt: &impl Abort, alloc: Global, row: &(File, File, u32, &str, bool)
 fn always_memory_captures_are_compared_in_json(rt: HostRuntime) {
     for row in &OBJECTS {
         is_object(&rt, rt.alloc(), row);
+    }
+}
+
+// The packet of CARRY_PCAP in another link type, and with another original length.
+const OF_RAW: File = &[RAW, "0100000060e316000400000004000000", "01020304"];
+
+const LARGER: File = &[ETHERNET, "0100000060e316000400000005000000", "01020304"];
+
+const TIME: Ignored = Ignored {
+    time: true,
+    link: false,
+    original: false,
+};
+
+const LINK: Ignored = Ignored {
+    time: false,
+    link: true,
+    original: false,
+};
+
+const ORIGINAL: Ignored = Ignored {
+    time: false,
+    link: false,
+    original: true,
+};
+
+// Two files, what is ignored, and what is printed of them then.
+const IGNORING: [(File, File, Ignored, &str, bool); 6] = [
+    (CARRY_PCAP, LATER, TIME, "same packets 1\n", true),
+    (OF_RAW, CARRY_PCAPNG, LINK, "same packets 1\n", true),
+    (CARRY_PCAP, LARGER, ORIGINAL, "same packets 1\n", true),
+    (
+        OF_RAW,
+        LARGER,
+        LINK,
+        "differ packet 1 original\n\
+        - packet 1 offset 24 time 2+500000/1000000 captured 4 original 4 link 101 data 01020304\n\
+        + packet 1 offset 24 time 2+500000/1000000 captured 4 original 5 link 1 data 01020304\n",
+        false,
+    ),
+    (
+        LATER,
+        LARGER,
+        ORIGINAL,
+        "differ packet 1 time\n\
+        - packet 1 offset 24 time 2+500001/1000000 captured 4 original 4 link 1 data 01020304\n\
+        + packet 1 offset 24 time 2+500000/1000000 captured 4 original 5 link 1 data 01020304\n",
+        false,
+    ),
+    // captured lengths and bytes always count
+    (
+        LONGER,
+        LATER,
+        TIME,
+        "differ packet 1 captured original data at 4\n\
+        - packet 1 offset 24 time 2+500000/1000000 captured 5 original 6 link 1 data 0102030405\n\
+        + packet 1 offset 24 time 2+500001/1000000 captured 4 original 4 link 1 data 01020304\n",
+        false,
+    ),
+];
+
+// What is printed and returned of two files if something is ignored.
+fn ignores(rt: &impl Abort, alloc: Global, row: &(File, File, Ignored, &str, bool)) {
+    let (first, second, ignored, text, is_same) = *row;
+    let mut writer = room_of(rt, alloc, 1024);
+    let one = reader_of(rt, alloc, first, 4096);
+    let other = reader_of(rt, alloc, second, 4096);
+    let options = DiffOptions {
+        ignored,
+        form: Form::Text,
+        most: 16,
+    };
+    let answer = diff_in(alloc, one, other, Tail::Refuse, options, &mut writer);
+    same!(rt; (answer, writer.bytes()), (Ok(is_same), text.as_bytes()));
+}
+
+#[test]
+fn always_memory_differences_are_ignored(rt: HostRuntime) {
+    for row in &IGNORING {
+        ignores(&rt, rt.alloc(), row);
     }
 }
 

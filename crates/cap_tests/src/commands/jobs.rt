@@ -6,7 +6,7 @@ use crate::commands::captures::{
 use crate::files::{ask_written, readers_of, room_of};
 use cap_bytes::{Fault, Order, Sink};
 use cap_commands::{Done, DroppedInfo, Finding, job_to};
-use cap_line::{Job, Task, can_replace, is_whole};
+use cap_line::{Job, NOTHING_IGNORED, Task, can_replace, is_whole};
 use cap_source::Format;
 use std::alloc::Global;
 use std::process::Abort;
@@ -153,6 +153,7 @@ fn printing(rt: &impl Abort, alloc: Global, task: Task, allow_cut: bool) -> Job<
         whole: false,
         json: false,
         data: None,
+        ignored: NOTHING_IGNORED,
     }
 }
 
@@ -237,6 +238,7 @@ fn writes(rt: &impl Abort, alloc: Global, row: &Written) {
         whole: false,
         json: false,
         data: None,
+        ignored: NOTHING_IGNORED,
     };
     let mut writer = room_of(rt, alloc, 1024);
     let answer = does(rt, alloc, &job, captures, &mut writer);

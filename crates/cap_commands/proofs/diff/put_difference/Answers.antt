@@ -12,10 +12,10 @@ returns-in_err-put_all-clause-text g c = λ w.
     let a = compared_of c.args.divergence.now.first (g.F.PacketFeed.feed c.args.first.now).frame in
     let b = compared_of c.args.divergence.now.second (g.F.PacketFeed.feed c.args.second.now).frame in
     let place = data_place a b in
-    let line = difference_line c.args.form c.args.n (difference_words a b) in
+    let line = difference_line c.args.options.form c.args.n (difference_words c.args.options.ignored a b) in
     rw (p.1, p.2)
     (Prints-head None (g.W.Sink.held c.args.writer.now) (g.W.Sink.held c.put_all.new.writer) (line place)
-    (sides_in c.args.form c.args.most c.args.n (row_of place) a b) c.in_err-put_all.field-0.0
+    (sides_in c.args.options.form c.args.options.most c.args.n (row_of place) a b) c.in_err-put_all.field-0.0
     c.in_err-put_all.ensures.fault
     (rw (c.as_slice.ensures.value ∙ (c.head_line-line.ensures ∙ ap line c.data_place-place.ensures)) at
     (c.in_err-put_all.ensures.bytes w)))
@@ -25,11 +25,11 @@ returns-clause-text g c = λ w.
     let a = compared_of c.args.divergence.now.first (g.F.PacketFeed.feed c.args.first.now).frame in
     let b = compared_of c.args.divergence.now.second (g.F.PacketFeed.feed c.args.second.now).frame in
     let place = data_place a b in
-    let line = difference_line c.args.form c.args.n (difference_words a b) in
+    let line = difference_line c.args.options.form c.args.n (difference_words c.args.options.ignored a b) in
     let mid = g.W.Sink.held c.put_all.new.writer in
     let new = g.W.Sink.held c.put_sides.new.writer in
     let from_is : c.row_of.result ≡ row_of place = c.row_of.ensures ∙ ap row_of c.data_place-place.ensures in
-    let sides = λ (from : ℕ). sides_in c.args.form c.args.most c.args.n from a b in
+    let sides = λ (from : ℕ). sides_in c.args.options.form c.args.options.most c.args.n from a b in
     Prints-behind None (g.W.Sink.held c.args.writer.now) mid new (line place) (sides (row_of place)) c.put_sides.result
     (rw (c.as_slice.ensures.value ∙ (c.head_line-line.ensures ∙ ap line c.data_place-place.ensures)) at
     (c.in_ok-put_all.ensures.bytes w))

@@ -1,13 +1,25 @@
-use Rattle.cap_line.specs.Command.{check_app, diff_app, digest_app, listing_app}
-use Rattle.cap_line.proofs.Parsing.{AddsMade-is}
+use Rattle.std.proofs.Common.{◌≡◌, refl}
+use Rattle.clap.specs.Words.{App, with_subcommand}
+use Rattle.cap_line.specs.Command.{IsComparing, IsDiff, check_app, digest_app, listing_app}
+use Rattle.cap_line.proofs.Parsing.{AddsMade-weaker}
 use Rattle.cap_line.proofs.command.comparing.Goals as goal
+
+-- what prints one capture, with `diff`, and with `digest` too
+abbrev HasDiff : App → Type 0
+HasDiff app = (diff : App) × IsDiff diff × (app ≡ with_subcommand listing_app diff.top)
+
+abbrev HasDigest : App → Type 0
+HasDigest app = (diff : App) × IsDiff diff
+    × (app ≡ with_subcommand (with_subcommand listing_app diff.top) digest_app.top)
 
 pub returns : goal.returns
 returns c =
-    let first = AddsMade-is c.listing.result c.diff.result c.with_subcommand-capt.result listing_app diff_app
-    c.listing.ensures c.diff.ensures.app
+    let first = AddsMade-weaker (λ app. app ≡ listing_app) IsDiff HasDiff c.listing.result c.diff.result
+    c.with_subcommand-capt.result c.listing.ensures c.diff.ensures.app (λ app s e is. (s, is, rw e refl))
     c.with_subcommand-capt.ensures in
-    let second = AddsMade-is c.with_subcommand-capt.result c.digest.result c.with_subcommand-capt-2.result _ digest_app
-    first c.digest.ensures.app c.with_subcommand-capt-2.ensures in
-    AddsMade-is c.with_subcommand-capt-2.result c.check.result c.with_subcommand.result _ check_app second
-    c.check.ensures.app c.with_subcommand.ensures
+    let second = AddsMade-weaker HasDiff (λ s. s ≡ digest_app) HasDigest c.with_subcommand-capt.result c.digest.result
+    c.with_subcommand-capt-2.result first c.digest.ensures.app (λ app s is e. (is.0, is.1, rw (is.2, e) refl))
+    c.with_subcommand-capt-2.ensures in
+    AddsMade-weaker HasDigest (λ s. s ≡ check_app) IsComparing c.with_subcommand-capt-2.result c.check.result
+    c.with_subcommand.result second c.check.ensures.app (λ app s is e. (is.0, is.1, rw (is.2, e) refl))
+    c.with_subcommand.ensures
