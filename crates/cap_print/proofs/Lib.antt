@@ -1,2 +1,3 @@
 pub mod Denominators
+pub mod HexPairs
 pub mod Words

@@ -1,6 +1,7 @@
 //! Printed lines, of at most 512 bytes each, written from their end. They take no memory.
 #![tactic(auto)]
 
+mod digits;
 mod fields;
 mod forms;
 mod lines;

@@ -5,6 +5,7 @@ ghost use Rattle.cap_print.specs.Times.{time_json, time_text};
 ghost use Rattle.cap_time.specs.Stamp.{printed_of};
 ghost use Rattle.hex.specs.Hex.{encode_lower};
 
+use crate::digits::write_pairs;
 use cap_time::Stamp;
 use itoa::{Buffer, Integer, write_digits};
 
@@ -35,8 +36,7 @@ fn write_hex(bytes: &[u8], room: &mut [u8], end: usize) -> usize
     let start = end - 2 * bytes.len();
     let (before, _) = room.split_at_mut(end);
     let (_, place) = before.split_at_mut(start);
-    // the place has two digits for each byte, so this can't fail
-    let _ = hex::encode_to_slice(bytes, place);
+    write_pairs(bytes, place);
     start
 }
 
