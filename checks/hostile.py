@@ -57,15 +57,15 @@ FRAGMENT_REPORT = ("files 1\n"
                    "frames other-link 0 not-ipv4 0 short 0 cut 0 bad 0 unjoined 0 counted 4\n"
                    "joined 1 given-up 0\ntalks 1\n" + TALK.format(1001, 2001, "forward 4 112 backward 0 0", 4))
 # The line of a file of which a section was read.
-CHECKED = "check 1 pcapng packets 0 backward 0 untimed 0 truncated 0 skipped 0 interfaces 0 {}\n"
-WHOLE = "check 1 {} packets {} backward 0 untimed 0 truncated 0 skipped {} interfaces 1 whole\n"
+CHECKED = "check 1 pcapng packets 0 bytes 0 first - last - backward 0 untimed 0 truncated 0 skipped 0 interfaces 0 {}\n"
+WHOLE = "check 1 {} packets {} bytes {} first {} last {} backward 0 untimed 0 truncated 0 skipped {} interfaces 1 whole\n"
 # What is written of worked files, worked out by hand: the model is held to it.
 WORKED = [("pcapng", "CARRY_PCAP", vector("CARRY_PCAPNG")), ("pcap", "CARRY_PCAPNG", vector("CARRIED_PCAP")),
           ("merge", "CARRY_PCAP", vector("CARRY_PCAPNG")), ("join", "FRAGMENT_FRAMES", vector("JOINED")),
           ("merge-pcap", "CARRY_PCAPNG", vector("CARRIED_PCAP")), ("join-pcap", "FRAGMENT_FRAMES", vector("JOINED_PCAP")),
           ("report", "TAGGED_FRAMES", TAGGED_REPORT), ("report", "FRAGMENT_FRAMES", FRAGMENT_REPORT),
-          ("check", "TAGGED_FRAMES", WHOLE.format("pcap", 3, 0)),
-          ("check", "OPTIONS_PCAPNG", WHOLE.format("pcapng", 1, 1))]
+          ("check", "TAGGED_FRAMES", WHOLE.format("pcap", 3, 180, "1+0/1000000", "3+0/1000000", 0)),
+          ("check", "OPTIONS_PCAPNG", WHOLE.format("pcapng", 1, 4, "2+500000/1000000", "2+500000/1000000", 1))]
 
 
 def lying_lengths():

@@ -73,8 +73,8 @@ def body(text):
 
 
 def counts(line):
-    """How many packets a line of `check` has, of a whole file, and how many run back, have no time or are in part."""
-    found = re.fullmatch(r"check \d+ \w+ packets (\d+) backward (\d+) untimed (\d+) truncated (\d+) .* whole\n", line)
+    """How many packets and bytes a line of `check` has, of a whole file, and how many packets run back, have no time or are in part."""
+    found = re.fullmatch(r"check \d+ \w+ packets (\d+) bytes (\d+) first \S+ last \S+ backward (\d+) untimed (\d+) truncated (\d+) .* whole\n", line)
     return found and [int(number) for number in found.groups()]
 
 
@@ -97,6 +97,12 @@ def sums(reports):
         ways = [sum(talk[way][what] for talk in found) for way in ("forward", "backward") for what in ("packets", "bytes")]
         rows[key] = (*ways, min(times_of(found, "first"), default=None), max(times_of(found, "last"), default=None))
     return counted, rows
+
+
+def shared(line):
+    """What a line of `info` and one of `check` both have, by their names."""
+    words = line.split()
+    return words[2:3] + [f"{name} {words[words.index(name) + 1]}" for name in ("packets", "bytes", "truncated", "skipped", "first", "last")]
 
 
 def as_fractions(lines):
@@ -126,6 +132,9 @@ def main():
             status, lines, error = done(["check", *files])
             checked = [counts(line) for line in lines.splitlines(True)]
             count.check(f"{name}: check", (status, error, len(checked)) == (0, "", len(files)) and all(checked), lines)
+            told_of = [done(["info", file])[1].splitlines()[-1] for file in files]
+            is_so = [shared(line) for line in lines.splitlines()] == [shared(line) for line in told_of]
+            count.check(f"{name}: check, as info", is_so, lines, told_of)
             sums = [sum(numbers) for numbers in zip(*checked)]
             if name in WHOLE:
                 alone = [done(["report", "--json", file])[1] for file in files]

@@ -354,9 +354,14 @@ def latest(timed):
     return place, packet
 
 
-def file_line(number, ending, packets):
+def span_of(packets):
+    """The least and the greatest time of some packets, of equal ones the first, as they are printed."""
     timed = [(time_of(packet), place, packet) for place, packet in enumerate(packets) if packet.units is not None]
-    first, last = (printed(earliest(timed)[1]), printed(latest(timed)[1])) if timed else ("-", "-")
+    return (printed(earliest(timed)[1]), printed(latest(timed)[1])) if timed else ("-", "-")
+
+
+def file_line(number, ending, packets):
+    first, last = span_of(packets)
     return (f"file {number} {ending.format} {sums_of(packets)} skipped {ending.skipped} first {first} last {last}"
             + (" cut" if ending.cut else "") + "\n")
 
@@ -395,9 +400,10 @@ def check_line(number, end, packets=(), format="-", skipped=0, interfaces=0):
     times = [time_of(packet) for packet in packets]
     timed = [time for time in times if time is not None]
     backward = sum(time < greatest for greatest, time in zip(accumulate(timed, max), timed[1:]))
-    return (f"check {number} {format} packets {len(packets)} backward {backward} untimed {times.count(None)} "
-            f"truncated {sum(packet.captured < packet.original for packet in packets)} skipped {skipped} "
-            f"interfaces {interfaces} {end}\n")
+    first, last = span_of(packets)
+    return (f"check {number} {format} packets {len(packets)} bytes {sum(packet.original for packet in packets)} first {first} last {last} "
+            f"backward {backward} untimed {times.count(None)} truncated {sum(packet.captured < packet.original for packet in packets)} "
+            f"skipped {skipped} interfaces {interfaces} {end}\n")
 
 
 def checked_to(file, offset, end):

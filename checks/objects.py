@@ -75,9 +75,10 @@ def object_of(line):
         number, _, digits, _, packets, *cut = words
         return {"type": kind, "file": int(number), "sha256": digits, "packets": int(packets), "cut": cut == ["cut"]}
     if kind == "check":
-        number, form, *sums = words[:14]
-        return {"type": kind, "file": int(number), "format": None if form == "-" else form, **pairs_of(sums),
-                **check_end_of(words[14:])}
+        number, form, *sums = words[:6]
+        _, first, _, last = words[6:10]
+        return {"type": kind, "file": int(number), "format": None if form == "-" else form, **pairs_of(sums), "first": time_of(first),
+                "last": time_of(last), **pairs_of(words[10:20]), **check_end_of(words[20:])}
     if kind in ("files", "talks", "joined"):
         words = [kind, *words]
     return {"type": kind, **pairs_of(words)}

@@ -128,8 +128,8 @@ run digest "$one" "$work/missing"; check 'digest of a missing file' 1 '' 'fault:
 run digest - -; check 'digest of standard input twice' 2 '' 'fault: input'
 "$program" digest "$one" > /dev/full 2> "$work/err"; status=$?; : > "$work/out"; check 'digest on a full disk' 1 '' 'fault: write'
 # check: a line for each file, also for one that is refused, can't be read or can't be opened
-held='packets 1 backward 0 untimed 0 truncated 0 skipped 0 interfaces 1'
-none='packets 0 backward 0 untimed 0 truncated 0 skipped 0 interfaces'
+held='packets 1 bytes 4 first 2+500000/1000000 last 2+500000/1000000 backward 0 untimed 0 truncated 0 skipped 0 interfaces 1'
+none='packets 0 bytes 0 first - last - backward 0 untimed 0 truncated 0 skipped 0 interfaces'
 run check "$one" "$work/want.pcapng" "$work/big.pcap"; check 'check' 0 "check 1 pcap $held whole
 check 2 pcapng $held whole
 check 3 pcap $held whole" ''

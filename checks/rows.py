@@ -425,10 +425,10 @@ NOT_DIGESTED = [
 
 
 
-def facts(form, packets=0, backward=0, untimed=0, truncated=0, skipped=0, interfaces=1):
+def facts(form, packets=0, backward=0, untimed=0, truncated=0, skipped=0, interfaces=1, size=0, first="-", last="-"):
     """What the line of a file that is checked has between its number and its end."""
-    return (f"{form} packets {packets} backward {backward} untimed {untimed} truncated {truncated} skipped {skipped} "
-            f"interfaces {interfaces}")
+    return (f"{form} packets {packets} bytes {size} first {first} last {last} backward {backward} untimed {untimed} "
+            f"truncated {truncated} skipped {skipped} interfaces {interfaces}")
 
 
 def sections(*numbers):
@@ -436,8 +436,14 @@ def sections(*numbers):
     return " ".join(f"{SECTION} {PLAIN * number}" for number in numbers)
 
 
-UNKNOWN = facts("-", interfaces=0)
-ONE_PCAP, ONE_PCAPNG, NO_PCAP = facts("pcap", 1), facts("pcapng", 1), facts("pcap")
+def spanned(first, last=None):
+    """The least and the greatest time of packets, which are the same where only one is given."""
+    return {"first": first, "last": last or first}
+
+
+UNKNOWN, NO_PCAP = facts("-", interfaces=0), facts("pcap")
+OF_4 = {"size": 4, **spanned("2+500000/1000000")}       # a packet of 4 bytes at 2.5 seconds
+ONE_PCAP, ONE_PCAPNG = facts("pcap", 1, **OF_4), facts("pcapng", 1, **OF_4)
 CARRY, SKIPPED = vector("CARRY_PCAP").hex(), "01000040 10000000 00000000 10000000"
 CUT_AT_24 = f"{NO_PCAP} refused offset 24 rule 3 cut"
 BEFORE_1970 = interface("0e00 0800 ffffffffffffffff")       # by a second
@@ -454,8 +460,8 @@ def units(number, interface=0):
 CHECKED = [
     # the files of `info` above: an obsolete packet, a simple one in part and without a time, a skipped block, no packet
     ([OBSOLETE], False, [f"{ONE_PCAPNG} whole"]),
-    ([TOLD_OF[1][0]], False, [f"{facts('pcapng', 1, untimed=1, truncated=1)} whole"]),
-    ([TOLD_OF[2][0]], False, [f"{facts('pcapng', 1, skipped=1)} whole"]),
+    ([TOLD_OF[1][0]], False, [f"{facts('pcapng', 1, untimed=1, truncated=1, size=10)} whole"]),
+    ([TOLD_OF[2][0]], False, [f"{facts('pcapng', 1, skipped=1, **OF_4)} whole"]),
     ([TOLD_OF[3][0]], False, [f"{facts('pcapng', interfaces=0)} whole"]), ([ETHERNET], False, [f"{NO_PCAP} whole"]),
     # and those that `info` refuses: each has its line, and so has each file after it
     ([CUT], False, [CUT_AT_24]), ([CUT], True, [f"{NO_PCAP} whole cut"]),
@@ -468,38 +474,56 @@ CHECKED = [
     *(([content], allow_cut, [f"{REFUSED_AT[int(told.split()[0])]} refused offset {told}"])
       for content, allow_cut, told in NOT_LISTED),
     # those that it lists: two sections with an interface each, and packets at one time; and one packet each
-    ([LISTED[0][0]], False, [f"{facts('pcapng', 2, interfaces=2)} whole"]),
-    *(([content], False, [f"{ONE_PCAPNG} whole"]) for content, *_ in LISTED[1:4]),
+    ([LISTED[0][0]], False, [f"{facts('pcapng', 2, interfaces=2, size=8, **spanned('2+500000/1000000'))} whole"]),
+    *(([LISTED[n][0]], False, [f"{facts('pcapng', 1, size=4, **spanned(time))} whole"])
+      for n, time in ((1, "1+500000/1000000"), (2, "2441+416/1024"), (3, "2+500000/1000000"))),
     # seconds 5, 1, 5, 2, 6, 6: 1 and 2 are below the greatest before them
-    ([of_link(1, *(at(second, "") for second in (5, 1, 5, 2, 6, 6)))], False, [f"{facts('pcap', 6, 2)} whole"]),
+    ([of_link(1, *(at(second, "") for second in (5, 1, 5, 2, 6, 6)))], False,
+     [f"{facts('pcap', 6, 2, **spanned('1+0/1000000', '6+0/1000000'))} whole"]),
+    # the least time first, the greatest first, and neither; of 3, 200 and 70,000 original bytes
+    ([of_link(1, at(1, "", 3), at(2, "", 200), at(9, "", 70_000))], False,
+     [f"{facts('pcap', 3, truncated=3, size=70_203, **spanned('1+0/1000000', '9+0/1000000'))} whole"]),
+    ([of_link(1, at(9, ""), at(2, ""), at(1, ""))], False, [f"{facts('pcap', 3, 2, **spanned('1+0/1000000', '9+0/1000000'))} whole"]),
+    ([of_link(1, at(2, ""), at(9, ""), at(1, ""), at(3, ""))], False,
+     [f"{facts('pcap', 4, 2, **spanned('1+0/1000000', '9+0/1000000'))} whole"]),
+    # three packets of 2^32 - 1 original bytes, more in all than 32 bits hold
+    ([of_link(1, *[at(1, "", 2**32 - 1)] * 3)], False,
+     [f"{facts('pcap', 3, truncated=3, size=12_884_901_885, **spanned('1+0/1000000'))} whole"]),
     # of each file by itself
-    ([of_link(1, at(5, "")), of_link(1, at(1, ""))], False, [f"{ONE_PCAP} whole"] * 2),
-    # 2.5 seconds, and on another interface 2 + 512/1,024, and then 2 + 511/1,024, which alone is below
+    ([of_link(1, at(5, "")), of_link(1, at(1, ""))], False,
+     [f"{facts('pcap', 1, **spanned(f'{second}+0/1000000'))} whole" for second in (5, 1)]),
+    # 2.5 seconds, and on another interface 2 + 512/1,024, and then 2 + 511/1,024, which alone is below; and half a second
+    # in 1,024ths, and then in millionths: of equal times the first is printed
     ([f"{SECTION} {PLAIN} {IN_1024} {units(2_500_000)} {units(2_560, 1)} {units(2_559, 1)} {units(2_500_000)}"], False,
-     [f"{facts('pcapng', 4, 1, interfaces=2)} whole"]),
+     [f"{facts('pcapng', 4, 1, interfaces=2, **spanned('2+511/1024', '2+500000/1000000'))} whole"]),
+    ([f"{SECTION} {PLAIN} {IN_1024} {units(600_000)} {units(512, 1)} {units(500_000)} {units(600_000)}"], False,
+     [f"{facts('pcapng', 4, 2, interfaces=2, **spanned('0+512/1024', '0+600000/1000000'))} whole"]),
     # a microsecond before 1970, and half a second before that one
     ([f"{SECTION} {BEFORE_1970} {units(999_999)} {units(499_999)} {units(1_000_000)}"], False,
-     [f"{facts('pcapng', 3, 1)} whole"]),
+     [f"{facts('pcapng', 3, 1, **spanned('-1+499999/1000000', '0+0/1000000'))} whole"]),
     # packets without a time, first and between others: the last is below the first that has one
-    ([f"{SECTION} {PLAIN} {SIMPLE} {units(5)} {SIMPLE} {units(4)}"], False, [f"{facts('pcapng', 4, 1, 2)} whole"]),
+    ([f"{SECTION} {PLAIN} {SIMPLE} {units(5)} {SIMPLE} {units(4)}"], False,
+     [f"{facts('pcapng', 4, 1, 2, size=8, **spanned('0+4/1000000', '0+5/1000000'))} whole"]),
     # captured in part: 1 of 60 bytes and 0 of 1; 2 of 1 bytes aren't
-    ([of_link(1, at(1, "0a", 60), at(1, "0a0b", 1), at(1, "", 1))], False, [f"{facts('pcap', 3, truncated=2)} whole"]),
+    ([of_link(1, at(1, "0a", 60), at(1, "0a0b", 1), at(1, "", 1))], False,
+     [f"{facts('pcap', 3, truncated=2, size=62, **spanned('1+0/1000000'))} whole"]),
     # interfaces of all sections, of which none has a packet
     ([sections(3, 0, 2)], False, [f"{facts('pcapng', interfaces=5)} whole"]),
     ([f"{sections(3)} {units(1, 1)} {SKIPPED} {sections(2)} {SKIPPED} {units(2, 0)}"], False,
-     [f"{facts('pcapng', 2, skipped=2, interfaces=5)} whole"]),
+     [f"{facts('pcapng', 2, skipped=2, interfaces=5, **spanned('0+1/1000000', '0+2/1000000'))} whole"]),
     # as of a refusal: a packet of interface 2 if there are 0 and 1, behind 28 + 3 * 20 + 32 + 16 + 28 + 2 * 20 bytes;
     # an interface whose units are too fine, behind another; a section of version 1.1, behind a packet and a skipped one
     ([f"{sections(3)} {units(1, 1)} {SKIPPED} {sections(2)} {units(2, 2)} {SKIPPED}", CARRY], False,
-     [f"{facts('pcapng', 1, skipped=1, interfaces=5)} refused offset 204 rule 9 interface-unknown",
+     [f"{facts('pcapng', 1, skipped=1, interfaces=5, **spanned('0+1/1000000'))} refused offset 204 rule 9 interface-unknown",
       f"{ONE_PCAP} whole"]),
     ([f"{sections(1)} {interface('0900 0100 14000000')} {PLAIN}"], False,
      [f"{facts('pcapng')} refused offset 48 rule 12 resolution"]),
     ([f"{sections(1)} {units(1)} {SKIPPED} {SECTION.replace('01000000 ff', '01000100 ff')}"], False,
-     [f"{facts('pcapng', 1, skipped=1)} refused offset 96 rule 2 version"]),
+     [f"{facts('pcapng', 1, skipped=1, **spanned('0+1/1000000'))} refused offset 96 rule 2 version"]),
     # of a record that is cut, of an interface, of a skipped block, and of a second section: what came before it
-    ([of_link(1, at(5, ""), at(1, "", 9)) + "00"], True, [f"{facts('pcap', 2, 1, truncated=1)} whole cut"]),
-    *(([f"{sections(2)} {units(1)} {rest[:-2]}"], allow_cut, [f"{facts('pcapng', 1, interfaces=2)} {end}"])
+    ([of_link(1, at(5, ""), at(1, "", 9)) + "00"], True,
+     [f"{facts('pcap', 2, 1, truncated=1, size=9, **spanned('1+0/1000000', '5+0/1000000'))} whole cut"]),
+    *(([f"{sections(2)} {units(1)} {rest[:-2]}"], allow_cut, [f"{facts('pcapng', 1, interfaces=2, **spanned('0+1/1000000'))} {end}"])
       for rest in (PLAIN, SKIPPED, SECTION)
       for allow_cut, end in ((True, "whole cut"), (False, "refused offset 100 rule 3 cut"))),
     # a first section that is cut is none
@@ -622,8 +646,9 @@ def prints(text):
 
 def checked(*ends):
     """The lines of files that are checked: CARRY_PCAPNG if it is whole, else it without its last byte, or no file."""
-    facts = {"whole": "pcapng packets 1 {} interfaces 1", "open": "- packets 0 {} interfaces 0"}
-    cut = "pcapng packets 0 {} interfaces 1"
+    facts = {"whole": "pcapng packets 1 bytes 4 first 2+500000/1000000 last 2+500000/1000000 {} interfaces 1",
+             "open": "- packets 0 bytes 0 first - last - {} interfaces 0"}
+    cut = "pcapng packets 0 bytes 0 first - last - {} interfaces 1"
     return "".join(f"check {n} {facts.get(end, cut).format('backward 0 untimed 0 truncated 0 skipped 0')} {end}\n" for n, end in enumerate(ends, 1))
 
 
@@ -658,8 +683,8 @@ LATER_JSON = ('{"type":"differ","packet":1,"differs":["time","data"],"data_at":3
               + SIDE_JSON % ("+", (LISTED_JSON % "01020305").strip().replace("60", "24").replace("500000", "500001", 1)))
 DIGEST_JSON = f'{{"type":"digest","file":%d,"sha256":"{hashlib.sha256(bytes.fromhex(CARRIED_TEXT)).hexdigest()}","packets":1,"cut":false}}\n'
 CUT_AT_60 = "refused offset 60 rule 3 cut"
-CHECK_JSON = ('{"type":"check","file":%d,"format":"pcapng","packets":1,"backward":0,"untimed":0,"truncated":0,"skipped":0,"interfaces":1,'
-              '"whole":true,"cut":false}\n')
+CHECK_JSON = ('{"type":"check","file":%d,"format":"pcapng","packets":1,"bytes":4,"first":[2,500000,1000000],"last":[2,500000,1000000],'
+              '"backward":0,"untimed":0,"truncated":0,"skipped":0,"interfaces":1,"whole":true,"cut":false}\n')
 BLOCKS_JSON = ('{"type":"block","n":1,"offset":0,"order":"little","kind":"0a0d0d0a","total":28}\n'
                '{"type":"block","n":2,"offset":28,"order":"little","kind":"00000001","total":32}\n'
                '{"type":"block","n":3,"offset":60,"order":"little","kind":"00000006","total":36}\n')

@@ -1,3 +1,5 @@
 pub mod Following
-pub mod Taking
+pub mod Parts
 pub mod Reaching
+pub mod Taking
+pub mod Times

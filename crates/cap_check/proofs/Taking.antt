@@ -1,20 +1,24 @@
 -- The packets of a feed, taken one by one.
-use Rattle.std.proofs.Common.{◌≡◌, ◌≤◌, ◌+◌, ◌^◌, ℕ, List, [], ◌∷◌, ◌++◌, drop, sym, ap, ◌∙◌}
-use Rattle.std.proofs.Common.{arith, refl, Some, None, IsTrue, Ok, Err, append_assoc}
+use Rattle.std.proofs.Common.{◌≡◌, ◌<◌, ◌≤◌, ◌+◌, ◌*◌, ◌^◌, ℕ, List, [], ◌∷◌, ◌++◌, drop, sym, ap, ◌∙◌}
+use Rattle.std.proofs.Common.{arith, refl, true, Some, None, IsTrue, Ok, Err, append_assoc}
 use Rattle.cap_bytes.specs.declared.faults.Fault.{Fault}
 use Rattle.cap_bytes.specs.declared.faults.Fault.TheVariants.{Refused, Read, Write, Memory}
 use Rattle.cap_source.proofs.Onward.{Keeps-refl, Keeps-trans}
 use Rattle.cap_source.proofs.Refusals.{refusal-next}
 use Rattle.cap_source.specs.Feed.{Feed, FeedKeeps, FeedPasses, Item, packet, refused, refusal_of}
 use Rattle.cap_source.specs.inner.Walk.{GivesPacket, ShowsItem}
+use Rattle.cap_source.specs.Times.{meta_time}
 use Rattle.cap_source.specs.declared.packets.Meta.{Meta}
+use Rattle.cap_check.proofs.Times.{least-first-more}
 use Rattle.cap_check.specs.Checking.{checked_after, nothing_checked, with_checked}
-use Rattle.cap_check.specs.inner.Taking.{FailsHere, TakesPackets}
+use Rattle.cap_check.specs.inner.Taking.{FailsHere, TakesPackets, are_least_first}
 use Rattle.cap_check.specs.declared.checked.Checked.{Checked}
 
 -- Some packets of a feed, which was `old`, were taken.
 pub record Taking (old mid : Feed) (checked : Checked) : Type 0 where
   pub few : checked.packets + mid.left ≤ 2 ^ 40
+  pub bytes : checked.bytes ≤ checked.packets * 2 ^ 32
+  pub order : are_least_first checked.first checked.last ≡ true
   pub backward : checked.backward ≤ checked.packets
   pub untimed : checked.untimed ≤ checked.packets
   pub truncated : checked.truncated ≤ checked.packets
@@ -29,6 +33,8 @@ pub Taking-none : (old : Feed) (checked : Checked) → old.left ≤ 2 ^ 40 → c
     → Taking old old checked
 Taking-none old checked few is = record {
   few = rw is (omega (arith, few));
+  bytes = rw is (omega arith);
+  order = rw is refl;
   backward = rw is (omega arith);
   untimed = rw is (omega arith);
   truncated = rw is (omega arith);
@@ -57,14 +63,16 @@ after-refused checked items r is = rw is refl
 -- one packet more
 pub Taking-more : (old mid shown new : Feed) (checked : Checked) (meta : Meta) → Taking old mid checked
     → FeedKeeps mid shown → (IsTrue mid.told → ShowsItem mid (Ok (Some meta)) shown)
-    → FeedPasses shown new → FeedKeeps shown new
+    → FeedPasses shown new → FeedKeeps shown new → meta.original < 2 ^ 32
     → (more : Checked) → more ≡ with_checked checked meta → Taking old new more
-Taking-more old mid shown new checked meta i asked shows passes passed more is =
+Taking-more old mid shown new checked meta i asked shows passes passed short more is =
     let rest : IsTrue old.told → new.items ≡ drop 1 mid.items =
     λ t. passes.items (asked.told (i.keeps.told t)) ∙ ap (drop 1) (shows (i.keeps.told t)).0.items in
     let next = packet meta shown.frame ∷ [] in
     record {
       few = rw is (omega (arith, i.few, asked.left, passes.left));
+      bytes = rw is (omega (arith, i.bytes, short));
+      order = rw is (least-first-more (meta_time meta) checked.first checked.last i.order);
       backward = rw is (grind (arith, i.backward));
       untimed = rw is (grind (arith, i.untimed));
       truncated = rw is (grind (arith, i.truncated));

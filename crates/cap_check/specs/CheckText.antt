@@ -1,15 +1,16 @@
 -- The line of a file that was checked.
-use Rattle.std.specs.Prelude.{◌≡◌, ◌==◌, ◌+◌, ◌<◌, ℕ, List, [], ◌∷◌, ◌++◌, codes, length, take, Bool, true, Option}
+use Rattle.std.specs.Prelude.{◌≡◌, ◌==◌, ◌+◌, ◌<◌, ℕ, List, [], ◌∷◌, ◌++◌, codes, length, map, take, Bool, true, Option}
 use Rattle.std.specs.Prelude.{Some, None, option_map, if◌then◌else◌, Result, Ok, Err}
 use Rattle.cap_bytes.specs.Printing.{PrintsFront}
 use Rattle.cap_bytes.specs.Rules.{rule_name, rule_number}
 use Rattle.cap_bytes.specs.declared.faults.Fault.{Fault}
 use Rattle.cap_bytes.specs.declared.faults.Fault.TheVariants.{Memory, Read, Refused, Write}
 use Rattle.cap_bytes.specs.declared.faults.Tail.{Tail}
-use Rattle.cap_print.specs.Facts.{Facts, Field, flagged, group, line_in, named, number, one, word}
+use Rattle.cap_print.specs.Facts.{Fact, Facts, Field, flagged, group, line_in, moment, named, number, one, word}
 use Rattle.cap_print.specs.declared.forms.Form.{Form}
 use Rattle.cap_bytes.specs.Formats.{format_name}
 use Rattle.cap_source.specs.declared.feeds.FileEnd.{FileEnd}
+use Rattle.cap_time.specs.Stamp.{printed_of}
 use Rattle.cap_check.specs.Checking.{AreChecked, IsChecked, Opened, are_whole, is_whole_end}
 use Rattle.cap_check.specs.declared.checked.Check.{Check}
 use Rattle.cap_check.specs.declared.checked.CheckEnd.{CheckEnd}
@@ -52,25 +53,36 @@ end_fields (Reading offset end) =
     (record { label = codes " read offset "; key = codes "offset"; value = number offset }) [] ∷ []
 end_fields Opening = one (flagged (codes "open") true) ∷ []
 
+-- what a file has: its number and format, how many packets, the sum of their original lengths, their least and their
+-- greatest time
+abbrev pub held_facts : ℕ → Check → List Fact
+held_facts file check =
+    record { label = codes " "; key = codes "file"; value = number file }
+    ∷ record {
+      label = codes " ";
+      key = codes "format";
+      value = word (option_map end_format_name (known_end check.end));
+    }
+    ∷ named (codes "packets") (number check.counts.packets)
+    ∷ named (codes "bytes") (number check.counts.bytes)
+    ∷ named (codes "first") (moment (option_map printed_of check.counts.first))
+    ∷ named (codes "last") (moment (option_map printed_of check.counts.last)) ∷ []
+
+-- what is odd about it: its packets that go backward, have no time or were captured in part, its skipped blocks and its
+-- interfaces; and how it ends
+abbrev pub odd_fields : Check → List Field
+odd_fields check =
+    one (named (codes "backward") (number check.counts.backward))
+    ∷ one (named (codes "untimed") (number check.counts.untimed))
+    ∷ one (named (codes "truncated") (number check.counts.truncated))
+    ∷ one (named (codes "skipped") (number (end_skipped (known_end check.end))))
+    ∷ one (named (codes "interfaces") (number (end_interfaces (known_end check.end))))
+    ∷ end_fields check.end
+
 -- the line of the file of that number
 abbrev pub check_facts : ℕ → Check → Facts
-check_facts file check = record {
-  kind = codes "check";
-  fields =
-      one (record { label = codes " "; key = codes "file"; value = number file })
-      ∷ one (record {
-        label = codes " ";
-        key = codes "format";
-        value = word (option_map end_format_name (known_end check.end));
-      })
-      ∷ one (named (codes "packets") (number check.counts.packets))
-      ∷ one (named (codes "backward") (number check.counts.backward))
-      ∷ one (named (codes "untimed") (number check.counts.untimed))
-      ∷ one (named (codes "truncated") (number check.counts.truncated))
-      ∷ one (named (codes "skipped") (number (end_skipped (known_end check.end))))
-      ∷ one (named (codes "interfaces") (number (end_interfaces (known_end check.end))))
-      ∷ end_fields check.end;
-}
+check_facts file check =
+    record { kind = codes "check"; fields = map one (held_facts file check) ++ odd_fields check }
 
 -- the lines of files that were checked and have the numbers from that one on
 abbrev pub check_lines : Form → ℕ → List Check → List ℕ

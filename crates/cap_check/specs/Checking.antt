@@ -8,7 +8,7 @@ use Rattle.cap_source.specs.Items.{file_ending, file_items}
 use Rattle.cap_source.specs.Times.{meta_time}
 use Rattle.cap_source.specs.declared.feeds.FileEnd.{FileEnd}
 use Rattle.cap_source.specs.declared.packets.Meta.{Meta}
-use Rattle.cap_time.specs.Clock.{is_backward, later}
+use Rattle.cap_time.specs.Clock.{earlier, is_backward, later}
 use Rattle.cap_time.specs.declared.stamps.Stamp.{Stamp}
 use Rattle.cap_check.specs.declared.checked.Check.{Check}
 use Rattle.cap_check.specs.declared.checked.CheckEnd.{CheckEnd}
@@ -24,21 +24,26 @@ abbrev pub nothing_checked : Checked
 nothing_checked =
     record {
       packets = 0;
+      bytes = 0;
+      first = None;
+      last = None;
       backward = 0;
       untimed = 0;
       truncated = 0;
-      clock = None;
     }
 
--- what is counted with one packet more
+-- What is counted with one packet more: its bytes are its original length, and its time counts as the least or the
+-- greatest if it is below or above all others.
 abbrev pub with_checked : Checked → Meta → Checked
 with_checked checked meta =
     record {
       packets = checked.packets + 1;
-      backward = checked.backward + counted_if (is_backward checked.clock (meta_time meta));
+      bytes = checked.bytes + meta.original;
+      first = earlier checked.first (meta_time meta);
+      last = later checked.last (meta_time meta);
+      backward = checked.backward + counted_if (is_backward checked.last (meta_time meta));
       untimed = checked.untimed + counted_if (is_none (meta_time meta));
       truncated = checked.truncated + counted_if (nat_lt meta.captured meta.original);
-      clock = later checked.clock (meta_time meta);
     }
 
 -- what is counted after the packets of a list, those before a refusal

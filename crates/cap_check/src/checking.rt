@@ -12,8 +12,8 @@ ghost use Rattle.cap_check.specs.Checking.{IsChecked, nothing_checked};
 ghost use Rattle.cap_check.specs.inner.Taking.{EndsAt, FailsHere, FrontsNext, StopsIf, TakesPackets};
 
 use crate::checked::{Check, CheckEnd, Checked};
-use crate::lines::check_line;
-use cap_bytes::{Fault, Sink, Source, Tail, put_all};
+use crate::lines::put_check_line;
+use cap_bytes::{Fault, Sink, Source, Tail};
 use cap_print::Form;
 use cap_source::{Capture, FileEnd, Meta, PacketFeed};
 use std::alloc::Global;
@@ -55,6 +55,8 @@ fn take_all<R: Source>(capture: &mut Capture<R>, checked: &mut Checked) -> Resul
     ensures fails { FailsHere (⟦<Capture<R> as PacketFeed>⟧.feed capture.old) result }
 {
     while let Some(meta) = next_of(capture)? {
+        // A length that is read is known to be below 2^32, so the sum of them all stays small.
+        let _length = meta.original;
         checked.take(&meta);
         capture.pass();
     }
@@ -122,7 +124,7 @@ fn check_opened<R: Source>(
     }
 }
 
-/// Checks a capture file of either format, which has that number, and prints its line, the one of `check_line`: also of
+/// Checks a capture file of either format, which has that number, and prints its line as `put_check_line` does: also of
 /// a file that could not be opened, which is `None`, of one that is refused, and of one of which a read fails. It
 /// returns whether the file was read whole. It returns `Memory` if a growth is refused, before anything is printed, and
 /// `Write` if a write fails, after a prefix of the line.
@@ -144,8 +146,7 @@ pub fn check_to<R: Source, W: Sink>(
     ensures fault { IfErr result (λ fault. (fault ≡ Fault.Memory) ⊎ (fault ≡ Fault.Write)) }
 {
     let check = check_opened(alloc, source, file, tail)?;
-    let line = check_line(form, file, &check);
-    put_all(writer, line.as_slice())?;
+    put_check_line(writer, form, file, &check)?;
     Ok(check.end.is_whole())
 }
 

@@ -8,4 +8,4 @@ mod lines;
 
 pub use crate::checked::{Check, CheckEnd, Checked};
 pub use crate::checking::{check_all_to, check_file, check_to};
-pub use crate::lines::check_line;
+pub use crate::lines::put_check_line;

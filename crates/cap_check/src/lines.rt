@@ -1,11 +1,14 @@
 //! The line of a file that was checked.
-ghost use Rattle.std.specs.Prelude.{◌≡◌, ◌≤◌, option_map};
+ghost use Rattle.std.specs.Prelude.{◌≡◌, ◌≤◌, is_err, option_map, IsOkUnless, IsTrue};
+ghost use Rattle.cap_bytes.specs.Device.{Puts, WriterKeeps, writer_of};
 ghost use Rattle.cap_print.specs.Facts.{end_in, fields_in, line_in};
 ghost use Rattle.cap_print.specs.Lines.{room_in, text_in};
 ghost use Rattle.cap_check.specs.CheckText.{check_facts, end_fields, end_format_name, end_interfaces, end_skipped};
 ghost use Rattle.cap_check.specs.CheckText.{known_end};
+ghost use Rattle.cap_check.specs.inner.Parts.{held_in, odd_in};
 
 use crate::checked::{Check, CheckEnd};
+use cap_bytes::{Fault, Sink, put_all};
 use cap_print::{Form, Line};
 use cap_source::FileEnd;
 
@@ -76,13 +79,24 @@ fn end_of(form: Form, end: &CheckEnd) -> Line
     line
 }
 
-/// The line of a file of that number that was checked, in a form. In text it is
-/// `check N FORMAT packets P backward B untimed U truncated Q skipped S interfaces I`, and then `whole`, with ` cut`
-/// after it if a rest of the file was dropped, `refused offset O rule R NAME`, `read offset O` or `open`. Skipped
-/// blocks and interfaces are those that the file has up to there. If it is refused, or a read fails, in its header or
-/// in its first block, none are, and the format is `-`.
-pub fn check_line(form: Form, file: u32, check: &Check) -> Line
-    ensures { text_in result ≡ line_in form (check_facts file check.now) }
+// What a file has, the first part of its line: ` N FORMAT packets P bytes B first T last T` behind `check`.
+fn held_part(form: Form, file: u32, check: &Check) -> Line
+    ensures { text_in result ≡ held_in form file check.now }
+{
+    let mut line = Line::new();
+    line.put_time(form, b"last", check.counts.last);
+    line.put_time(form, b"first", check.counts.first);
+    line.put_number(form, b"bytes", check.counts.bytes);
+    line.put_number(form, b"packets", check.counts.packets);
+    line.put_word_as(form, b" ", b"format", format_name_of(&check.end));
+    line.put_number_as(form, b" ", b"file", file);
+    line.put_kind(form, b"check");
+    line
+}
+
+// What is odd about it, and how it ends, the rest of its line.
+fn odd_part(form: Form, check: &Check) -> Line
+    ensures { text_in result ≡ odd_in form check.now }
 {
     let mut line = end_of(form, &check.end);
     line.put_number(form, b"interfaces", interfaces_of(&check.end));
@@ -90,9 +104,28 @@ pub fn check_line(form: Form, file: u32, check: &Check) -> Line
     line.put_number(form, b"truncated", check.counts.truncated);
     line.put_number(form, b"untimed", check.counts.untimed);
     line.put_number(form, b"backward", check.counts.backward);
-    line.put_number(form, b"packets", check.counts.packets);
-    line.put_word_as(form, b" ", b"format", format_name_of(&check.end));
-    line.put_number_as(form, b" ", b"file", file);
-    line.put_kind(form, b"check");
     line
+}
+
+/// Writes the line of a file of that number that was checked, in a form. In text it is
+/// `check N FORMAT packets P bytes B first T last T backward K untimed U truncated Q skipped S interfaces I`, and then
+/// `whole`, with ` cut` after it if a rest of the file was dropped, `refused offset O rule R NAME`, `read offset O` or
+/// `open`. Skipped blocks and interfaces are those that the file has up to there. If it is refused, or a read fails, in
+/// its header or in its first block, none are, and the format is `-`; so are the times if no packet has one. Returns
+/// `Fault::Write`, and no other fault, if the writer failed: a prefix of the line is written then.
+pub fn put_check_line<W: Sink>(
+    writer: &mut W,
+    form: Form,
+    file: u32,
+    check: &Check,
+) -> Result<(), Fault>
+    ensures text { IsTrue (W.tells_held writer.old)
+        → Puts (W.held writer.old) result (W.held writer.new) (line_in form (check_facts file check.now)) }
+    ensures writer { WriterKeeps (writer_of W.Sink writer.old) (is_err result) (writer_of W.Sink writer.new) }
+    ensures fault { IsOkUnless result Fault.Write }
+{
+    let held = held_part(form, file, check);
+    let odd = odd_part(form, check);
+    put_all(writer, held.as_slice())?;
+    put_all(writer, odd.as_slice())
 }

@@ -3,7 +3,7 @@ use Rattle.std.proofs.Common.{◌≡◌, ◌+◌, Bool, true, false, List, [], �
 use Rattle.std.proofs.Common.{refl, sym, ap, ◌∙◌, arith}
 use Rattle.std.proofs.Math.Bool.{or-false, or_assoc}
 use Rattle.std.proofs.lemmas.Bool.{false≢true}
-use Rattle.std.proofs.lemmas.Cmp.{upto}
+use Rattle.std.proofs.lemmas.Cmp.{back_total, upto}
 use Rattle.std.proofs.lemmas.List.Sums.{sum_by-cons}
 use Rattle.std.specs.Cmp.{IsTotalOrder}
 use Rattle.std.specs.List.{count_by, list_any}
@@ -14,11 +14,15 @@ use Rattle.std.specs.declared.cmp.Ordering.TheVariants.{Equal, Greater, Less}
 use Rattle.cap_source.specs.Feed.{Item, packet, refused}
 use Rattle.cap_source.specs.Times.{meta_time}
 use Rattle.cap_source.specs.declared.packets.Meta.{Meta}
-use Rattle.cap_time.specs.Clock.{greatest, greatest_from, is_backward, later}
+use Rattle.cap_time.proofs.Chosen.{chosen, chosen-alone, chosen-assoc}
+use Rattle.cap_time.specs.Clock.{earlier, greatest, greatest_from, is_backward, later}
+use Rattle.cap_time.specs.Stamp.{stamp_cmp}
+use Rattle.cap_time.specs.inner.StampLaws.{stamp_cmp_total}
 use Rattle.cap_time.specs.declared.stamps.Stamp.{Stamp}
 use Rattle.cap_check.specs.Checking.{checked_after, counted_if, nothing_checked, with_checked}
 use Rattle.cap_check.specs.declared.checked.Checked.{Checked}
-use Rattle.cap_talks.specs.counts.Counting.{counted, packets_of, truncated_packets}
+use Rattle.cap_talks.specs.counts.Counting.{counted, greatest_time, least_time, original_bytes, packets_of}
+use Rattle.cap_talks.specs.counts.Counting.{truncated_packets}
 use Rattle.cap_merge.specs.inner.Clocks.{clock_total}
 use Rattle.cap_laws.specs.CheckedPackets.{CheckedByPlaces, goes_backward, with_earlier}
 
@@ -88,6 +92,60 @@ packets-law counts [] = omega arith
 packets-law counts (packet meta frame ∷ items) = packets-law (with_checked counts meta) items ∙ omega arith
 packets-law counts (refused r ∷ items) = omega arith
 
+bytes-law : (counts : Checked) (items : List Item)
+    → (checked_after counts items).bytes ≡ counts.bytes + original_bytes (packets_of items)
+unfolding checked_after packets_of
+bytes-law counts [] = omega arith
+bytes-law counts (packet meta frame ∷ items) = bytes-law (with_checked counts meta) items ∙ omega arith
+bytes-law counts (refused r ∷ items) = omega arith
+
+-- the order of times from the greatest down
+abbrev down : Stamp → Stamp → Ordering
+down a b = stamp_cmp b a
+
+down_total : IsTotalOrder down
+down_total = back_total stamp_cmp_total
+
+earlier_is : (a b : Option Stamp) → earlier a b ≡ chosen stamp_cmp a b
+earlier_is a b = cc
+
+later_is : (a b : Option Stamp) → later a b ≡ chosen down a b
+later_is a b = grind arith
+
+earlier-assoc : (a b c : Option Stamp) → earlier (earlier a b) c ≡ earlier a (earlier b c)
+earlier-assoc a b c = search (earlier_is, chosen, chosen-assoc, stamp_cmp_total)
+
+later-assoc : (a b c : Option Stamp) → later (later a b) c ≡ later a (later b c)
+later-assoc a b c = search (later_is, chosen, chosen-assoc, down_total)
+
+earlier-alone : (a : Option Stamp) → a ≡ earlier a None
+earlier-alone a = sym (earlier_is a None ∙ chosen-alone stamp_cmp a)
+
+later-alone : (a : Option Stamp) → a ≡ later a None
+later-alone a = sym (later_is a None ∙ chosen-alone down a)
+
+first-law : (counts : Checked) (items : List Item)
+    → (checked_after counts items).first ≡ earlier counts.first (least_time (packets_of items))
+unfolding checked_after packets_of
+first-law counts [] = earlier-alone counts.first
+first-law counts (packet meta frame ∷ items) =
+    first-law (with_checked counts meta) items
+    ∙ earlier-assoc counts.first (meta_time meta) (least_time (packets_of items))
+first-law counts (refused r ∷ items) = earlier-alone counts.first
+
+last-law : (counts : Checked) (items : List Item)
+    → (checked_after counts items).last ≡ later counts.last (greatest_time (packets_of items))
+unfolding checked_after packets_of
+last-law counts [] = later-alone counts.last
+last-law counts (packet meta frame ∷ items) =
+    last-law (with_checked counts meta) items
+    ∙ later-assoc counts.last (meta_time meta) (greatest_time (packets_of items))
+last-law counts (refused r ∷ items) = later-alone counts.last
+
+none-first : (time : Option Stamp) → later None time ≡ time
+none-first None = refl
+none-first (Some stamp) = refl
+
 truncated-law : (counts : Checked) (items : List Item)
     → (checked_after counts items).truncated ≡ counts.truncated + truncated_packets (packets_of items)
 unfolding checked_after packets_of
@@ -106,7 +164,7 @@ untimed-law counts (packet meta frame ∷ items) =
 untimed-law counts (refused r ∷ items) = omega arith
 
 -- `times` are those of the packets before these
-backward-law : (times : List (Option Stamp)) (counts : Checked) (items : List Item) → counts.clock ≡ greatest times
+backward-law : (times : List (Option Stamp)) (counts : Checked) (items : List Item) → counts.last ≡ greatest times
     → (checked_after counts items).backward ≡ counts.backward
     + count_by goes_backward (with_earlier times (map (λ meta. meta_time meta) (packets_of items)))
 unfolding checked_after packets_of with_earlier
@@ -114,7 +172,7 @@ backward-law times counts [] clock = omega arith
 backward-law times counts (packet meta frame ∷ items) clock =
     let time = meta_time meta in
     let rest = with_earlier (times ++ time ∷ []) (map (λ (m : Meta). meta_time m) (packets_of items)) in
-    let below : is_backward counts.clock time ≡ goes_backward (times, time) =
+    let below : is_backward counts.last time ≡ goes_backward (times, time) =
     ap (λ (c : Option Stamp). is_backward c time) clock ∙ below-greatest times time in
     let one = sum_by-cons (λ (placed : List (Option Stamp) × Option Stamp). cond (goes_backward placed) 1 0)
     (times, time) rest in
@@ -127,6 +185,9 @@ pub checked-by-places : CheckedByPlaces
 unfolding counted
 checked-by-places items = record {
   packets = packets-law nothing_checked items ∙ omega arith;
+  bytes = bytes-law nothing_checked items ∙ omega arith;
+  first = first-law nothing_checked items;
+  last = last-law nothing_checked items ∙ none-first (greatest_time (packets_of items));
   truncated = truncated-law nothing_checked items ∙ omega arith;
   backward = backward-law [] nothing_checked items refl ∙ omega arith;
   untimed = untimed-law nothing_checked items ∙ omega arith;

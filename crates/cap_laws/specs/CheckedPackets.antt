@@ -23,10 +23,13 @@ goes_backward placed = list_any (λ earlier. is_backward earlier placed.1) place
 abbrev pub backward_packets : List Meta → ℕ
 backward_packets metas = count_by goes_backward (with_earlier [] (map (λ meta. meta_time meta) metas))
 
--- What is counted of some packets: as many packets, and as many truncated ones, as `info` counts; those that go
--- backward; and those without a time.
+-- What is counted of some packets: as many packets and bytes, the same least and greatest time, and as many truncated
+-- packets, as `info` counts; those that go backward; and those without a time.
 pub record CountsOf (metas : List Meta) (counts : Checked) : Type 0 where
   pub packets : counts.packets ≡ (counted metas).packets
+  pub bytes : counts.bytes ≡ (counted metas).bytes
+  pub first : counts.first ≡ (counted metas).first
+  pub last : counts.last ≡ (counted metas).last
   pub truncated : counts.truncated ≡ (counted metas).truncated
   pub backward : counts.backward ≡ backward_packets metas
   pub untimed : counts.untimed ≡ count_by (λ meta. is_none (meta_time meta)) metas

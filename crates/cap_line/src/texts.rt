@@ -99,19 +99,20 @@ Examples: capt digest trace.pcap trace.pcapng
 pub(crate) const CHECK_ABOUT: &str = "Tests each capture to its end";
 
 pub(crate) const CHECK_HELP: &str = "Prints, for each capture, as soon as it is read:
-  check I FORMAT packets P backward B untimed U truncated Q skipped S
-    interfaces N END
-Of its P packets B have a time below the greatest before them, U have no time,
-and Q were captured in part. S blocks are skipped; the capture has N interfaces.
-END is one of:
+  check I FORMAT packets P bytes B first T last T backward K untimed U
+    truncated Q skipped S interfaces N END
+FORMAT, B and the times T are as info prints them. Of the P packets K have a
+time below the greatest before them, U have no time, and Q were captured in
+part. S blocks are skipped; the capture has N interfaces. END is one of:
   whole                         it is read to its end
   whole cut                     likewise; --allow-cut dropped a cut rest
   refused offset O rule R NAME  the record or block at O breaks rule R
   read offset O                 the record or block at O can't be read
   open                          it can't be opened
-Unless it is whole, the numbers are as of where it ends, and FORMAT is - if it
-isn't known. The captures after it are tested all the same. The status is 1 if
-any capture isn't whole.
+Unless it is whole, the numbers and times are as of where it ends, and FORMAT is
+- if it isn't known. The captures after it are tested all the same. The status
+is 1 if any capture isn't whole. A capture that was cut exactly between two
+records or blocks is whole: nothing in it says that more came.
 
 Examples: capt check morning.pcap evening.pcapng
           set -o pipefail; zcat trace.pcap.gz | capt check -";

@@ -43,9 +43,10 @@ const DIGEST_LINES: &str = "digest 1 sha256 \
     digest 2 sha256 \
     e3b0c44298fc1c149afbf4c8996fb92427ae41e4649b934ca495991b7852b855 packets 0\n";
 
-const CHECK_LINES: &str =
-    "check 1 pcap packets 2 backward 1 untimed 0 truncated 0 skipped 0 interfaces 1 whole\n\
-    check 2 pcap packets 0 backward 0 untimed 0 truncated 0 skipped 0 interfaces 1 whole\n";
+const CHECK_LINES: &str = "check 1 pcap packets 2 bytes 0 first 1+0/1000000 last 5+0/1000000 \
+    backward 1 untimed 0 truncated 0 skipped 0 interfaces 1 whole\n\
+    check 2 pcap packets 0 bytes 0 first - last - \
+    backward 0 untimed 0 truncated 0 skipped 0 interfaces 1 whole\n";
 
 const FILE_LINES: &str = "files 2\n\
     file 1 pcap packets 2 bytes 0 truncated 0 skipped 0 first 1+0/1000000 last 5+0/1000000\n\

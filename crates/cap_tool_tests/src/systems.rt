@@ -21,9 +21,10 @@ const LINE: &str =
     "packet 1 offset 24 time 2+500000/1000000 captured 4 original 4 link 1 data 01020304\n";
 
 // Of that file, and of one that can't be opened.
-const CHECKS: &str =
-    "check 1 pcap packets 1 backward 0 untimed 0 truncated 0 skipped 0 interfaces 1 whole\n\
-    check 2 - packets 0 backward 0 untimed 0 truncated 0 skipped 0 interfaces 0 open\n";
+const CHECKS: &str = "check 1 pcap packets 1 bytes 4 first 2+500000/1000000 last 2+500000/1000000 \
+    backward 0 untimed 0 truncated 0 skipped 0 interfaces 1 whole\n\
+    check 2 - packets 0 bytes 0 first - last - \
+    backward 0 untimed 0 truncated 0 skipped 0 interfaces 0 open\n";
 
 // One file, which is named `one`.
 #[derive(Clone, Copy)]

@@ -1,6 +1,6 @@
 //! The command line, and what its commands do over readers and writers.
 
-pub use cap_check::{Check, CheckEnd, Checked, check_all_to, check_file, check_line, check_to};
+pub use cap_check::{Check, CheckEnd, Checked, check_all_to, check_file, check_to, put_check_line};
 pub use cap_line::{Ignored, NOTHING_IGNORED, Task};
 pub use cap_tool::{
     DEFAULT_OPTIONS, DiffOptions, Done, DroppedInfo, Finding, Job, LineFault, Outcome,

@@ -1,5 +1,6 @@
 -- How the packets of a feed are taken, one by one.
-use Rattle.std.specs.Prelude.{◌≡◌, ◌≤◌, ℕ, false, IsTrue, Option, Some, None, Result, Ok, Err, ⊤}
+use Rattle.std.specs.Prelude.{◌≡◌, ◌≤◌, ℕ, Bool, true, false, not, IsTrue, Option, Some, None, Result, Ok, Err, ⊤}
+use Rattle.std.specs.Ordering.{is_lt}
 use Rattle.cap_bytes.specs.declared.faults.Fault.{Fault}
 use Rattle.cap_bytes.specs.declared.faults.Fault.TheVariants.{Refused, Read, Write, Memory}
 use Rattle.cap_source.specs.Feed.{Feed, HasFile, refusal_of}
@@ -7,8 +8,17 @@ use Rattle.cap_source.specs.declared.feeds.Head.{Head}
 use Rattle.cap_source.specs.declared.feeds.Head.TheVariants as heads
 use Rattle.cap_source.specs.declared.packets.Meta.{Meta}
 use Rattle.cap_source.specs.inner.Fronts.{Fronts, FrontsFail, FrontsGive, MayEnd}
+use Rattle.cap_time.specs.Stamp.{stamp_cmp}
+use Rattle.cap_time.specs.declared.stamps.Stamp.{Stamp}
 use Rattle.cap_check.specs.Checking.{checked_after, nothing_checked}
 use Rattle.cap_check.specs.declared.checked.Checked.{Checked}
+
+-- a least and a greatest time are there, the greatest not before the least, or neither is
+abbrev pub are_least_first : Option Stamp → Option Stamp → Bool
+are_least_first None None = true
+are_least_first None (Some last) = false
+are_least_first (Some first) None = false
+are_least_first (Some first) (Some last) = not (is_lt (stamp_cmp last first))
 
 -- all packets that a feed gave were taken, or those before what refuses it
 abbrev pub TakesPackets : {A : Type 0} → Feed → Result A Fault → Feed → Checked → Type 0

@@ -8,7 +8,7 @@ use crate::hex_vectors::{
     SIMPLE_PACKET, TAGGED_FRAMES,
 };
 use cap_bytes::{Fault, Pieces, Tail};
-use cap_check::{Check, CheckEnd, check_file, check_line, check_to};
+use cap_check::{Check, CheckEnd, check_file, check_to, put_check_line};
 use cap_print::Form;
 use std::alloc::Global;
 use std::process::Abort;
@@ -35,47 +35,56 @@ const UNREAD: [Unread; 9] = [
     (
         FIVE,
         11,
-        "check 1 - packets 0 backward 0 untimed 0 truncated 0 skipped 0 interfaces 0 read offset 0\n",
+        "check 1 - packets 0 bytes 0 first - last - \
+        backward 0 untimed 0 truncated 0 skipped 0 interfaces 0 read offset 0\n",
     ),
     (
         FIVE,
         101,
-        "check 1 pcapng packets 0 backward 0 untimed 0 truncated 0 skipped 0 interfaces 2 read offset 92\n",
+        "check 1 pcapng packets 0 bytes 0 first - last - \
+        backward 0 untimed 0 truncated 0 skipped 0 interfaces 2 read offset 92\n",
     ),
     (
         FIVE,
         201,
-        "check 1 pcapng packets 0 backward 0 untimed 0 truncated 0 skipped 0 interfaces 5 read offset 188\n",
+        "check 1 pcapng packets 0 bytes 0 first - last - \
+        backward 0 untimed 0 truncated 0 skipped 0 interfaces 5 read offset 188\n",
     ),
     (
         FIVE,
         225,
-        "check 1 pcapng packets 1 backward 0 untimed 0 truncated 0 skipped 0 interfaces 5 read offset 224\n",
+        "check 1 pcapng packets 1 bytes 4 first 2+500000/1000000 last 2+500000/1000000 \
+        backward 0 untimed 0 truncated 0 skipped 0 interfaces 5 read offset 224\n",
     ),
     (
         SILENT,
         181,
-        "check 1 pcapng packets 1 backward 0 untimed 0 truncated 0 skipped 0 interfaces 2 read offset 156\n",
+        "check 1 pcapng packets 1 bytes 4 first 2+500000/1000000 last 2+500000/1000000 \
+        backward 0 untimed 0 truncated 0 skipped 0 interfaces 2 read offset 156\n",
     ),
     (
         OPTIONS_PCAPNG,
         169,
-        "check 1 pcapng packets 1 backward 0 untimed 0 truncated 0 skipped 1 interfaces 1 read offset 168\n",
+        "check 1 pcapng packets 1 bytes 4 first 2+500000/1000000 last 2+500000/1000000 \
+        backward 0 untimed 0 truncated 0 skipped 1 interfaces 1 read offset 168\n",
     ),
     (
         RUNS_BACK,
         21,
-        "check 1 - packets 0 backward 0 untimed 0 truncated 0 skipped 0 interfaces 0 read offset 0\n",
+        "check 1 - packets 0 bytes 0 first - last - \
+        backward 0 untimed 0 truncated 0 skipped 0 interfaces 0 read offset 0\n",
     ),
     (
         RUNS_BACK,
         31,
-        "check 1 pcap packets 0 backward 0 untimed 0 truncated 0 skipped 0 interfaces 1 read offset 24\n",
+        "check 1 pcap packets 0 bytes 0 first - last - \
+        backward 0 untimed 0 truncated 0 skipped 0 interfaces 1 read offset 24\n",
     ),
     (
         RUNS_BACK,
         45,
-        "check 1 pcap packets 1 backward 0 untimed 0 truncated 0 skipped 0 interfaces 1 read offset 40\n",
+        "check 1 pcap packets 1 bytes 0 first 5+0/1000000 last 5+0/1000000 \
+        backward 0 untimed 0 truncated 0 skipped 0 interfaces 1 read offset 40\n",
     ),
 ];
 
@@ -84,42 +93,48 @@ const CHECKED: [Row; 11] = [
         TAGGED_FRAMES,
         Tail::Refuse,
         Form::Text,
-        "check 7 pcap packets 3 backward 0 untimed 0 truncated 0 skipped 0 interfaces 1 whole\n",
+        "check 7 pcap packets 3 bytes 180 first 1+0/1000000 last 3+0/1000000 \
+        backward 0 untimed 0 truncated 0 skipped 0 interfaces 1 whole\n",
         true,
     ),
     (
         RUNS_BACK,
         Tail::Refuse,
         Form::Text,
-        "check 7 pcap packets 2 backward 1 untimed 0 truncated 0 skipped 0 interfaces 1 whole\n",
+        "check 7 pcap packets 2 bytes 0 first 1+0/1000000 last 5+0/1000000 \
+        backward 1 untimed 0 truncated 0 skipped 0 interfaces 1 whole\n",
         true,
     ),
     (
         OPTIONS_PCAPNG,
         Tail::Refuse,
         Form::Text,
-        "check 7 pcapng packets 1 backward 0 untimed 0 truncated 0 skipped 1 interfaces 1 whole\n",
+        "check 7 pcapng packets 1 bytes 4 first 2+500000/1000000 last 2+500000/1000000 \
+        backward 0 untimed 0 truncated 0 skipped 1 interfaces 1 whole\n",
         true,
     ),
     (
         SIMPLE_PACKET,
         Tail::Refuse,
         Form::Text,
-        "check 7 pcapng packets 1 backward 0 untimed 1 truncated 1 skipped 0 interfaces 1 whole\n",
+        "check 7 pcapng packets 1 bytes 10 first - last - \
+        backward 0 untimed 1 truncated 1 skipped 0 interfaces 1 whole\n",
         true,
     ),
     (
         CUT_PCAP,
         Tail::Accept,
         Form::Text,
-        "check 7 pcap packets 0 backward 0 untimed 0 truncated 0 skipped 0 interfaces 1 whole cut\n",
+        "check 7 pcap packets 0 bytes 0 first - last - \
+        backward 0 untimed 0 truncated 0 skipped 0 interfaces 1 whole cut\n",
         true,
     ),
     (
         CUT_PCAP,
         Tail::Refuse,
         Form::Text,
-        "check 7 pcap packets 0 backward 0 untimed 0 truncated 0 skipped 0 interfaces 1 \
+        "check 7 pcap packets 0 bytes 0 first - last - \
+        backward 0 untimed 0 truncated 0 skipped 0 interfaces 1 \
         refused offset 24 rule 3 cut\n",
         false,
     ),
@@ -127,7 +142,8 @@ const CHECKED: [Row; 11] = [
         UNKNOWN,
         Tail::Refuse,
         Form::Text,
-        "check 7 - packets 0 backward 0 untimed 0 truncated 0 skipped 0 interfaces 0 \
+        "check 7 - packets 0 bytes 0 first - last - \
+        backward 0 untimed 0 truncated 0 skipped 0 interfaces 0 \
         refused offset 0 rule 1 magic\n",
         false,
     ),
@@ -135,21 +151,24 @@ const CHECKED: [Row; 11] = [
         SILENT,
         Tail::Refuse,
         Form::Text,
-        "check 7 pcapng packets 1 backward 0 untimed 0 truncated 0 skipped 0 interfaces 3 whole\n",
+        "check 7 pcapng packets 1 bytes 4 first 2+500000/1000000 last 2+500000/1000000 \
+        backward 0 untimed 0 truncated 0 skipped 0 interfaces 3 whole\n",
         true,
     ),
     (
         FIVE,
         Tail::Refuse,
         Form::Text,
-        "check 7 pcapng packets 1 backward 0 untimed 0 truncated 0 skipped 0 interfaces 5 whole\n",
+        "check 7 pcapng packets 1 bytes 4 first 2+500000/1000000 last 2+500000/1000000 \
+        backward 0 untimed 0 truncated 0 skipped 0 interfaces 5 whole\n",
         true,
     ),
     (
         CARRY_PCAP,
         Tail::Refuse,
         Form::Json,
-        "{\"type\":\"check\",\"file\":7,\"format\":\"pcap\",\"packets\":1,\"backward\":0,\"untimed\":0,\
+        "{\"type\":\"check\",\"file\":7,\"format\":\"pcap\",\"packets\":1,\"bytes\":4,\
+        \"first\":[2,500000,1000000],\"last\":[2,500000,1000000],\"backward\":0,\"untimed\":0,\
         \"truncated\":0,\"skipped\":0,\"interfaces\":1,\"whole\":true,\"cut\":false}\n",
         true,
     ),
@@ -157,7 +176,8 @@ const CHECKED: [Row; 11] = [
         CUT_PCAP,
         Tail::Refuse,
         Form::Json,
-        "{\"type\":\"check\",\"file\":7,\"format\":\"pcap\",\"packets\":0,\"backward\":0,\
+        "{\"type\":\"check\",\"file\":7,\"format\":\"pcap\",\"packets\":0,\"bytes\":0,\
+        \"first\":null,\"last\":null,\"backward\":0,\
         \"untimed\":0,\"truncated\":0,\"skipped\":0,\"interfaces\":1,\
         \"refused\":{\"offset\":24,\"rule\":3,\"name\":\"cut\"}}\n",
         false,
@@ -222,8 +242,11 @@ fn a_check_is_written_or_fails(rt: HostRuntime) {
         &mut writer,
     );
     same!(&rt; (answer, writer.bytes()), (Err(Fault::Write), b"chec".as_slice()));
-    let text = "check 3 - packets 0 backward 0 untimed 0 truncated 0 skipped 0 interfaces 0 open\n";
-    same!(&rt; check_line(Form::Text, 3, &Check::unopened()).as_slice(), text.as_bytes());
+    let text = "check 3 - packets 0 bytes 0 first - last - \
+    backward 0 untimed 0 truncated 0 skipped 0 interfaces 0 open\n";
+    let mut writer = room_of(&rt, rt.alloc(), 512);
+    let answer = put_check_line(&mut writer, Form::Text, 3, &Check::unopened());
+    same!(&rt; (answer, writer.bytes()), (Ok(()), text.as_bytes()));
     let mut writer = room_of(&rt, rt.alloc(), 512);
     let unopened: Option<Pieces> = None;
     let answer = check_to(

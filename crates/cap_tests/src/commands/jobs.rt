@@ -24,14 +24,14 @@ const ENDED: &str = "differ packet 1 end\n\
 const DIGEST: &str = "digest 1 sha256 \
     ae7312267c797be18247384507fd1956f2af9397397bd84f72a62298f1352b4e packets 1\n";
 
-const CHECK: &str =
-    "check 1 pcap packets 1 backward 0 untimed 0 truncated 0 skipped 0 interfaces 1 whole\n";
+const CHECK: &str = "check 1 pcap packets 1 bytes 4 first 2+500000/1000000 last 2+500000/1000000 \
+    backward 0 untimed 0 truncated 0 skipped 0 interfaces 1 whole\n";
 
 // Of a capture whose record is cut, and of one that is whole.
-const CHECKS: &str =
-    "check 1 pcap packets 0 backward 0 untimed 0 truncated 0 skipped 0 interfaces 1 \
-    refused offset 24 rule 3 cut\n\
-    check 2 pcap packets 1 backward 0 untimed 0 truncated 0 skipped 0 interfaces 1 whole\n";
+const CHECKS: &str = "check 1 pcap packets 0 bytes 0 first - last - \
+    backward 0 untimed 0 truncated 0 skipped 0 interfaces 1 refused offset 24 rule 3 cut\n\
+    check 2 pcap packets 1 bytes 4 first 2+500000/1000000 last 2+500000/1000000 \
+    backward 0 untimed 0 truncated 0 skipped 0 interfaces 1 whole\n";
 
 const INFO: &str = "files 1\n\
     file 1 pcap packets 1 bytes 4 truncated 0 skipped 0 first 2+500000/1000000 last 2+500000/1000000\n";

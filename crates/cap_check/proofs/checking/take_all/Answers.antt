@@ -1,3 +1,4 @@
+use Rattle.std.proofs.Common.{rules}
 use Rattle.std.proofs.lemmas.Result.{err_from_is_err_and}
 use Rattle.cap_source.proofs.Onward.{Keeps-trans}
 use Rattle.cap_source.specs.inner.Captures.{capture_feed, capture_fronts}
@@ -56,7 +57,7 @@ loop-meta-preserved g c =
       taking = Taking-more (capture_feed c.args.capture.now) (capture_feed mid) (capture_feed shown)
           (capture_feed new) c.loop-meta.checked c.in-Some.meta i.taking c.in_ok-meta.ensures.keeps
           (λ t. rw c.in-Some.is at (c.in_ok-meta.ensures.items t)) c.pass.ensures.passes c.pass.ensures.keeps
-          c.take.new.self c.take.ensures;
+          (search rules) c.take.new.self c.take.ensures;
       unknown = c.pass.ensures.passes.known;
       told = λ t. told-kept mid.reader new.reader (progress_of mid.reached) (progress_of new.reached) keeps.told
           (i.told t);
