@@ -24,6 +24,7 @@ from concurrent.futures import ThreadPoolExecutor
 import model
 from captures import (PROGRAM, TOP, Bench, Count, block, datagram, make_shim, packet, pcap_header, record, run, udp,
                       vector, wanted_of, words_of)
+from objects import objects_of
 
 SECTION = vector("CARRY_PCAPNG")[:28]
 ALL = 10**9
@@ -143,6 +144,26 @@ def growths_of(bench, shim, out, task, row, width, first):
     return n, "there is no end of growths"
 
 
+def growths_of_names(bench, shim, flag):
+    """Refuses each growth of a `check` of two missing files that prints their names, escaped. The number of runs, and what was
+    wrong. Until its words are read, a fault is told in text."""
+    names = [os.path.join(bench.folder, name) for name in ("none\x1b", "none\u2028\"")]
+    lines = [model.unopened(n) for n in (1, 2)]
+    if flag == "--names":
+        wanted, faults = "".join(model.named(line, name) for line, name in zip(lines, names)), [MEMORY]
+    else:
+        wanted = "".join(f'{objects_of(line)[:-2]},"path":{model.path_of(name)}}}\n' for line, name in zip(lines, names))
+        faults = [MEMORY, b'{"type":"fault","fault":"memory"}\n']
+    ended = (1, wanted.encode(), b"")
+    for n in range(1, 10_000):
+        seen = run(["check", flag, *names], bench.program, (shim, {"GROWTHS": f"{n}-{n + 1}"}))
+        if seen[3] == 0:
+            return n, None if seen[:3] == ended and seen[5] == 0 else f"no growth refused: {seen}"
+        if (seen[:3] != ended or seen[5] != 0) and not any(told_as("check", seen, ended, fault) for fault in faults):
+            return n, f"growth {n}: {seen}"
+    return n, "there is no end of growths"
+
+
 def tests_of(crate, names):
     """A crate's built tests, and those of them whose names match."""
     tests = os.path.join(TOP, "crates", crate, "out", f"{crate}_tests")
@@ -177,6 +198,8 @@ def growths(count, bench, shim, pool):
                 out = os.path.join(bench.folder, f"{task}-{row}-{width}")
                 jobs.append((f"{task} of {row}, {'all' if width == ALL else width} refused",
                              pool.submit(growths_of, bench, shim, out, task, row, width, first)))
+    for flag in ("--names", "--json"):
+        jobs.append((f"check {flag}, 1 refused", pool.submit(growths_of_names, bench, shim, flag)))
     for crate, names, width in TESTS:
         tests, found = tests_of(crate, names)
         count.check(f"tests of {crate}, {names}", found)

@@ -83,7 +83,7 @@ def times_of(talks, name):
     return [talk[name][0] + Fraction(*talk[name][1:]) for talk in talks if talk[name]]
 
 
-def sums(reports):
+def counted_in(reports):
     """What reports in JSON count together: of each line that isn't of files, its counts; of each conversation its counts, and its least and
     greatest time."""
     counted, talks = Counter(), {}
@@ -139,7 +139,7 @@ def main():
             if name in WHOLE:
                 alone = [done(["report", "--json", file])[1] for file in files]
                 together = done(["report", "--json", *files])[1]
-                count.check(f"{name}: the sum of the reports", sums([together]) == sums(alone), together, alone)
+                count.check(f"{name}: the sum of the reports", counted_in([together]) == counted_in(alone), together, alone)
             for order in ("little", "big"):
                 count.check(f"{name}: merge", done(["merge", "--order", order, "-o", out, *files]) == (0, "", ""))
                 count.check(f"{name}: merged, {order}", body(done(["report", out])[1]) == body(told), told)

@@ -391,7 +391,7 @@ def digest(files):
         if file.refusal:
             return "".join(lines), file.refusal
         text = b"".join(canonical(packet) for packet in file.packets)
-        lines.append(f"digest {file.number} sha256 {hashlib.sha256(text).hexdigest()} packets {len(file.packets)}{" cut" * file.ending.cut}\n")
+        lines.append(f"digest {file.number} sha256 {hashlib.sha256(text).hexdigest()} packets {len(file.packets)}{' cut' * file.ending.cut}\n")
     return "".join(lines), None
 
 
@@ -438,6 +438,24 @@ def unopened(number):
 
 def check(files):
     return "".join(checked(file) for file in files), None
+
+
+# The characters that a terminal doesn't show: they control it, separate lines or turn the direction of what follows.
+HIDDEN = ((0, 0x1F), (0x7F, 0x9F), (0x61C, 0x61C), (0x200E, 0x200F), (0x2028, 0x202E), (0x2066, 0x2069))
+
+
+def is_hidden(character):
+    return any(low <= ord(character) <= high for low, high in HIDDEN)
+
+
+def named(line, name):
+    """The line of a file that is checked, with --names: the name as a terminal shows it."""
+    return line[:-1] + " name " + "".join(f"\\u{{{ord(c):x}}}" if is_hidden(c) else c for c in name) + "\n"
+
+
+def path_of(name):
+    """A name as a string of JSON."""
+    return '"' + "".join(f"\\u{ord(c):04x}" if is_hidden(c) else f"\\{c}" if c in '"\\' else c for c in name) + '"'
 
 
 def end_text(protocol, end):

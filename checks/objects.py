@@ -101,6 +101,11 @@ def objects_of(text):
     return "".join(spelled(it) for it in all_objects(text))
 
 
+def named_objects(text, paths):
+    """The objects of files that are checked, each with the file's name."""
+    return "".join(spelled({**object_of(line), "path": path}) for line, path in zip(text.splitlines(), paths))
+
+
 def refused_object(refusal, path):
     """The object of a refusal as the model has it."""
     return spelled({"type": "refused", "file": refusal.file, "offset": refusal.offset, "rule": refusal.rule, "name": model.RULES[refusal.rule],
@@ -111,6 +116,8 @@ def wanted_objects(task, contents, paths, allow_cut, data=None, ignored=()):
     """The status, standard output and standard error with --json."""
     text, refusal = model.answer(task, contents, allow_cut, ignored=ignored)
     objects = all_objects(text)
+    if task == "check":
+        objects = [{**told, "path": name} for told, name in zip(objects, paths)]
     if data is not None:
         files = [model.File(number, content, allow_cut) for number, content in enumerate(contents, 1)]
         found = model.first_difference(files, ignored)[0] if task == "diff" else None
@@ -189,9 +196,10 @@ def main():
         count.check("a file that isn't there", seen == (1, b"", spelled(wanted).encode()), seen)
         checked = [model.unopened(1), model.checked(model.File(2, vector("CARRY_PCAP")[:-1], False))]
         seen = run(["check", "--json", f"{folder}/none", place], program)
-        count.check("a check of both", seen == (1, objects_of("".join(checked)).encode(), b""), seen)
+        wanted = named_objects("".join(checked), [f"{folder}/none", place]).encode()
+        count.check("a check of both", seen == (1, wanted, b""), seen)
         seen = run(["check", "--json", place], program, (shim, {"READ": "3-1"}))[:3]
-        wanted = objects_of(model.unread(1, b"", 0)).encode()
+        wanted = named_objects(model.unread(1, b"", 0), [place]).encode()
         count.check("a check whose read fails", seen == (1, wanted, b""), seen)
         seen = run(["list", "--json", place], program, (shim, {"READ": "3-1"}))[:3]
         wanted = {"type": "fault", "fault": "read", "file": 1, "offset": 0, "path": place}

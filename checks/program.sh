@@ -145,6 +145,13 @@ check 2 pcap $none 1 refused offset 24 rule 3 cut
 check 3 - $none 0 open
 check 4 - $none 0 open" ''
 run check - -; check 'check of standard input twice' 2 '' 'fault: input'
+cp "$one" "$work/a name"; run check --names "$work/a name" "$work/missing"; check 'check, with names' 1 "check 1 pcap $held whole name $work/a name
+check 2 - $none 0 open name $work/missing" ''
+run check --names '' $'\e]0;\xc3\xa4\a"\\' $'\xc2\x9b\xe2\x80\xae\x7f'
+check 'check, with names that a terminal would obey' 1 "check 1 - $none 0 open name "$'\n'"check 2 - $none 0 open name "$'\\u{1b}]0;\xc3\xa4\\u{7}"\\\n'"check 3 - $none 0 open name \\u{9b}\\u{202e}\\u{7f}" ''
+empty='"format":null,"packets":0,"bytes":0,"first":null,"last":null,"backward":0,"untimed":0,"truncated":0,"skipped":0,"interfaces":0,"open":true'
+run check --json '' $'\e]0;\xc3\xa4\a"\\' $'\xc2\x9b\xe2\x80\xae\x7f'
+check 'check of such names, as objects' 1 '{"type":"check","file":1,'"$empty"$',"path":""}\n{"type":"check","file":2,'"$empty"$',"path":"\\u001b]0;\xc3\xa4\\u0007\\"\\\\"}\n{"type":"check","file":3,'"$empty"$',"path":"\\u009b\\u202e\\u007f"}' ''
 for file in "$one" "$work/cut.pcap" "$work/missing"; do
     "$program" check "$file" > /dev/full 2> "$work/err"; status=$?; : > "$work/out"
     check "check of $file on a full disk" 1 '' 'fault: write'
@@ -521,6 +528,8 @@ completed 'diff digest' capt help d
 completed '--json' capt digest --j
 completed check capt help ch
 completed '--json' capt check --j
+completed '--names' capt check --n
+completed '' capt info --n
 completed '--data' capt list --da
 completed '--data' capt diff --da
 completed '--ignore' capt diff --i

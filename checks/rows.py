@@ -644,12 +644,13 @@ def prints(text):
     return 0, text.encode(), b"", None
 
 
-def checked(*ends):
-    """The lines of files that are checked: CARRY_PCAPNG if it is whole, else it without its last byte, or no file."""
+def checked(*ends, names=()):
+    """The lines of files that are checked, which name them or don't: CARRY_PCAPNG if it is whole, else it without its last byte, or no file."""
     facts = {"whole": "pcapng packets 1 bytes 4 first 2+500000/1000000 last 2+500000/1000000 {} interfaces 1",
              "open": "- packets 0 bytes 0 first - last - {} interfaces 0"}
     cut = "pcapng packets 0 bytes 0 first - last - {} interfaces 1"
-    return "".join(f"check {n} {facts.get(end, cut).format('backward 0 untimed 0 truncated 0 skipped 0')} {end}\n" for n, end in enumerate(ends, 1))
+    counts, named = "backward 0 untimed 0 truncated 0 skipped 0", [f" name {name}" for name in names] or [""] * len(ends)
+    return "".join(f"check {n} {facts.get(end, cut).format(counts)} {end}{name}\n" for n, (end, name) in enumerate(zip(ends, named), 1))
 
 
 def differs(text):
@@ -684,7 +685,9 @@ LATER_JSON = ('{"type":"differ","packet":1,"differs":["time","data"],"data_at":3
 DIGEST_JSON = f'{{"type":"digest","file":%d,"sha256":"{hashlib.sha256(bytes.fromhex(CARRIED_TEXT)).hexdigest()}","packets":1,"cut":false}}\n'
 CUT_AT_60 = "refused offset 60 rule 3 cut"
 CHECK_JSON = ('{"type":"check","file":%d,"format":"pcapng","packets":1,"bytes":4,"first":[2,500000,1000000],"last":[2,500000,1000000],'
-              '"backward":0,"untimed":0,"truncated":0,"skipped":0,"interfaces":1,"whole":true,"cut":false}\n')
+              '"backward":0,"untimed":0,"truncated":0,"skipped":0,"interfaces":1,"whole":true,"cut":false,"path":"%s"}\n')
+OPEN_JSON = ('{"type":"check","file":%d,"format":null,"packets":0,"bytes":0,"first":null,"last":null,'
+             '"backward":0,"untimed":0,"truncated":0,"skipped":0,"interfaces":0,"open":true,"path":"%s"}\n')
 BLOCKS_JSON = ('{"type":"block","n":1,"offset":0,"order":"little","kind":"0a0d0d0a","total":28}\n'
                '{"type":"block","n":2,"offset":28,"order":"little","kind":"00000001","total":32}\n'
                '{"type":"block","n":3,"offset":60,"order":"little","kind":"00000006","total":36}\n')
@@ -720,7 +723,13 @@ LINES = [
     ("check a b", prints(checked("whole", "whole"))), ("check -", prints(checked("whole"))), ("check - -", INPUT),
     ("check --allow-cut - < cut", prints(checked("whole cut"))), (f"check {'a ' * 33}", prints(checked(*["whole"] * 33))),
     (f"check {'a ' * 33}- -", INPUT), ("check a cut b", (1, checked("whole", CUT_AT_60, "whole").encode(), b"", None)),
-    ("check none a", (1, checked("open", "whole").encode(), b"", None)), ("check --json a b", prints(CHECK_JSON % 1 + CHECK_JSON % 2)),
+    ("check none a", (1, checked("open", "whole").encode(), b"", None)), ("check --json a b", prints(CHECK_JSON % (1, "a") + CHECK_JSON % (2, "b"))),
+    ("check --names a b", prints(checked("whole", "whole", names=("a", "b")))), ("check - --names", prints(checked("whole", names="-"))),
+    ("check --names -- --allow-cut", prints(checked("whole", names=["--allow-cut"]))),
+    ("check --names --allow-cut cut", prints(checked("whole cut", names=["cut"]))),
+    ("check a --names cut none", (1, checked("whole", CUT_AT_60, "open", names=("a", "cut", "none")).encode(), b"", None)),
+    ("check --names --json a none", (1, (CHECK_JSON % (1, "a") + OPEN_JSON % (2, "none")).encode(), b"", None)),
+    ("check --json --explain -", prints(CHECK_JSON % (1, "-"))),
     ("report a b", prints(f"{TWO}total packets 2 bytes 8 truncated 0\n{frames(short=2)}")), ("report - -", INPUT),
     ("report - --allow-cut < cut", prints(f"{TOLD_CUT}total packets 0 bytes 0 truncated 0\n{frames()}")),
     ("convert --to pcap -o c a", writes(CARRIED)), ("convert --order little --to pcap -o - -", gives(CARRIED)),
@@ -747,7 +756,8 @@ LINES = [
         "diff --ignore a b", "diff --ignore=data a b", "diff --ignore captured a b", "diff --ignore time,link a b", "list --ignore time a",
         "digest --ignore time a", "diff --json --data +4 a b", "diff --json --data 262145 a b", "diff --json --json a b",
         "list --allow-cut=yes a", "list --order big a", "list -x a", "blocks", "blocks a b", "digest", "digest -o c a", "check", "check -o c a",
-        "check --whole a", "check --order big a", "check --data 4 a", "info", "info -o c a",
+        "check --whole a", "check --order big a", "check --data 4 a",
+        "check --names", "check --names=yes a", "check --names --names a", "list --names a", "info --names a", "merge --names -o c a", "info", "info -o c a",
         "report", "report -o c a",
         "convert -o c a", "convert --to pcap a", "convert --to pcap -o c", "convert --to tar -o c a", "convert --to pcap -o c a b",
         "convert --order middle --to pcap -o c a", "convert --to pcap --to pcap -o c a", "merge a b", "merge -o c", "merge --to tar -o c a",
@@ -772,6 +782,8 @@ def is_json(count, bench, contents):
             status, text, error = run([task, *allow_cut, *names], bench.program)
             seen = run([task, "--json", *allow_cut, *names], bench.program)
             wanted = all_objects(text.decode())
+            if task == "check":
+                wanted = [{**told, "path": name} for told, name in zip(wanted, names)]
             found = re.fullmatch(r"refused: file (\d+) offset (\d+) rule (\d+) (\S+)\n", error.decode())
             refused = [{"type": "refused", **dict(zip(("file", "offset", "rule"), map(int, found.groups()[:3]))), "name": found[4],
                         "path": names[int(found[1]) - 1]}] if found else []

@@ -23,6 +23,7 @@ _capt() {
         convert | merge | join) options='--allow-cut --explain --order --output --to --whole -o --help' ;;
         list) options='--allow-cut --explain --json --data --help' ;;
         diff) options='--allow-cut --explain --ignore --json --data --help' ;;
+        check) options='--allow-cut --explain --json --names --help' ;;
         *) options='--allow-cut --explain --json --help' ;;
     esac
     if [[ $word == -* ]]; then

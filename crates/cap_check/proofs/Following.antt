@@ -8,9 +8,8 @@ use Rattle.std.specs.Prelude.{◌&&◌}
 use Rattle.cap_bytes.specs.declared.faults.Fault.{Fault}
 use Rattle.cap_bytes.specs.declared.faults.Fault.TheVariants.{Memory, Read, Refused, Write}
 use Rattle.cap_bytes.specs.declared.faults.Tail.{Tail}
-use Rattle.cap_print.specs.Facts.{line_in}
 use Rattle.cap_print.specs.declared.forms.Form.{Form}
-use Rattle.cap_check.specs.CheckText.{WritesCheck, WritesChecks, check_facts, check_lines}
+use Rattle.cap_check.specs.CheckText.{WritesCheck, WritesChecks, check_line_in, check_lines}
 use Rattle.cap_check.specs.Checking.{AreChecked, IsChecked, Opened, are_whole, is_whole_end}
 use Rattle.cap_check.specs.declared.checked.Check.{Check}
 
@@ -36,16 +35,19 @@ AreChecked-length tail file (o ∷ files) [] are = absurd are
 AreChecked-length tail file (o ∷ files) (c ∷ checks) are =
     ap suc (AreChecked-length tail (file + 1) files checks are.1)
 
-lines-more : (form : Form) (file : ℕ) (checks : List Check) (check : Check)
-    → check_lines form file (checks ++ check ∷ [])
-    ≡ check_lines form file checks ++ line_in form (check_facts (file + length checks) check)
-lines-more form file [] check =
-    append-nil (line_in form (check_facts file check)) ∙ ap (λ n. line_in form (check_facts n check)) (omega arith)
-lines-more form file (c ∷ checks) check =
-    ap (λ l. line_in form (check_facts file c) ++ l) (lines-more form (file + 1) checks check)
-    ∙ (ap (λ n. line_in form (check_facts file c) ++ (check_lines form (file + 1) checks
-    ++ line_in form (check_facts n check))) (omega arith)
-    ∙ sym (append_assoc (line_in form (check_facts file c)) (check_lines form (file + 1) checks) _))
+lines-more : (form : Form) (names : ℕ → List ℕ) (file : ℕ) (checks : List Check) (check : Check)
+    → check_lines form names file (checks ++ check ∷ [])
+    ≡ check_lines form names file checks
+    ++ check_line_in form (file + length checks) (names (file + length checks)) check
+lines-more form names file [] check =
+    append-nil (check_line_in form file (names file) check)
+    ∙ ap (λ n. check_line_in form n (names n) check) (omega arith)
+lines-more form names file (c ∷ checks) check =
+    let line = check_line_in form file (names file) c in
+    ap (λ l. line ++ l) (lines-more form names (file + 1) checks check)
+    ∙ (ap (λ n. line ++ (check_lines form names (file + 1) checks ++ check_line_in form n (names n) check))
+    (omega arith)
+    ∙ sym (append_assoc line (check_lines form names (file + 1) checks) _))
 
 whole-more : (checks : List Check) (check : Check)
     → are_whole (checks ++ check ∷ []) ≡ (are_whole checks && is_whole_end check.end)
@@ -53,16 +55,17 @@ whole-more [] check = grind arith
 whole-more (c ∷ checks) check = grind (arith, whole-more checks check)
 
 -- Those files are checked, that is whether all of them are whole, and their lines are printed.
-pub record ArePrinted (form : Form) (tail : Tail) (files : List (Option Opened)) (whole : Bool) (old held : List ℕ)
-    : Type 0 where
+pub record ArePrinted (form : Form) (tail : Tail) (names : ℕ → List ℕ) (files : List (Option Opened)) (whole : Bool)
+    (old held : List ℕ) : Type 0 where
   pub checks : List Check
   pub checked : AreChecked tail 1 files checks
   pub whole_are : whole ≡ are_whole checks
-  pub written : held ≡ old ++ check_lines form 1 checks
+  pub written : held ≡ old ++ check_lines form names 1 checks
 
 -- none is
-pub printed-none : (form : Form) (tail : Tail) (held : List ℕ) → ArePrinted form tail [] true held held
-printed-none form tail held = record {
+pub printed-none : (form : Form) (tail : Tail) (names : ℕ → List ℕ) (held : List ℕ)
+    → ArePrinted form tail names [] true held held
+printed-none form tail names held = record {
   checks = [];
   checked = tt;
   whole_are = refl;
@@ -70,42 +73,45 @@ printed-none form tail held = record {
 }
 
 -- the line of a file comes after those before it
-next-line : (form : Form) (place : ℕ) (checks : List Check) (check : Check) → length checks ≡ place
-    → check_lines form 1 (checks ++ check ∷ [])
-    ≡ check_lines form 1 checks ++ line_in form (check_facts (1 + place) check)
-next-line form place checks check is =
-    lines-more form 1 checks check
-    ∙ ap (λ n. check_lines form 1 checks ++ line_in form (check_facts (1 + n) check)) is
+next-line : (form : Form) (names : ℕ → List ℕ) (place : ℕ) (checks : List Check) (check : Check)
+    → length checks ≡ place
+    → check_lines form names 1 (checks ++ check ∷ [])
+    ≡ check_lines form names 1 checks ++ check_line_in form (1 + place) (names (1 + place)) check
+next-line form names place checks check is =
+    lines-more form names 1 checks check
+    ∙ ap (λ n. check_lines form names 1 checks ++ check_line_in form (1 + n) (names (1 + n)) check) is
 
 -- one file more is checked
-pub printed-more : (form : Form) (tail : Tail) (files : List (Option Opened)) (opened : Option Opened)
-    (whole one : Bool) (old mid new : List ℕ)
-    → ArePrinted form tail files whole old mid → WritesCheck form tail (1 + length files) opened mid (Ok one) new
-    → ArePrinted form tail (files ++ opened ∷ []) (whole && one) old new
-printed-more form tail files opened whole one old mid new p wrote =
+pub printed-more : (form : Form) (tail : Tail) (names : ℕ → List ℕ) (files : List (Option Opened))
+    (opened : Option Opened) (whole one : Bool) (old mid new : List ℕ)
+    → ArePrinted form tail names files whole old mid
+    → WritesCheck form tail (1 + length files) (names (1 + length files)) opened mid (Ok one) new
+    → ArePrinted form tail names (files ++ opened ∷ []) (whole && one) old new
+printed-more form tail names files opened whole one old mid new p wrote =
     let check = wrote.0 in
-    let line = line_in form (check_facts (1 + length files) check) in
+    let line = check_line_in form (1 + length files) (names (1 + length files)) check in
     record {
       checks = p.checks ++ check ∷ [];
       checked = AreChecked-more tail 1 files p.checks opened check p.checked wrote.1;
       whole_are = rw (p.whole_are, wrote.2) (sym (whole-more p.checks check));
       written = wrote.3 ∙ (ap (λ l. l ++ line) p.written
-          ∙ (append_assoc old (check_lines form 1 p.checks) line
-          ∙ ap (λ l. old ++ l) (sym (next-line form (length files) p.checks check
+          ∙ (append_assoc old (check_lines form names 1 p.checks) line
+          ∙ ap (λ l. old ++ l) (sym (next-line form names (length files) p.checks check
           (AreChecked-length tail 1 files p.checks p.checked)))));
     }
 
 -- its line can't be written whole, or it can't be checked
-pub printed-fault : (form : Form) (tail : Tail) (files later : List (Option Opened)) (opened : Option Opened)
-    (whole : Bool) (fault : Fault) (old mid new : List ℕ)
-    → ArePrinted form tail files whole old mid → WritesCheck form tail (1 + length files) opened mid (Err fault) new
-    → WritesChecks form tail (files ++ opened ∷ later) old (Err fault) new
-printed-fault form tail files later opened whole (Refused refusal) old mid new p wrote = wrote
-printed-fault form tail files later opened whole (Read file offset) old mid new p wrote = wrote
-printed-fault form tail files later opened whole Write old mid new p wrote =
+pub printed-fault : (form : Form) (tail : Tail) (names : ℕ → List ℕ) (files later : List (Option Opened))
+    (opened : Option Opened) (whole : Bool) (fault : Fault) (old mid new : List ℕ)
+    → ArePrinted form tail names files whole old mid
+    → WritesCheck form tail (1 + length files) (names (1 + length files)) opened mid (Err fault) new
+    → WritesChecks form tail names (files ++ opened ∷ later) old (Err fault) new
+printed-fault form tail names files later opened whole (Refused refusal) old mid new p wrote = wrote
+printed-fault form tail names files later opened whole (Read file offset) old mid new p wrote = wrote
+printed-fault form tail names files later opened whole Write old mid new p wrote =
     let check = wrote.0 in
-    let lines = check_lines form 1 p.checks in
-    let line = line_in form (check_facts (1 + length files) check) in
+    let lines = check_lines form names 1 p.checks in
+    let line = check_line_in form (1 + length files) (names (1 + length files)) check in
     let k = wrote.2.0 in (
       length files + 1,
       p.checks ++ check ∷ [],
@@ -115,12 +121,12 @@ printed-fault form tail files later opened whole Write old mid new p wrote =
         length lines + k,
         wrote.2.1 ∙ (ap (λ l. l ++ take k line) p.written
             ∙ (append_assoc old lines (take k line)
-            ∙ ap (λ l. old ++ l) (sym (ap (take (length lines + k)) (next-line form (length files) p.checks check
+            ∙ ap (λ l. old ++ l) (sym (ap (take (length lines + k)) (next-line form names (length files) p.checks check
             (AreChecked-length tail 1 files p.checks p.checked))
             ∙ take-append-add lines line k)))),
       ),
     )
-printed-fault form tail files later opened whole Memory old mid new p wrote = (
+printed-fault form tail names files later opened whole Memory old mid new p wrote = (
   length files,
   p.checks,
   grind (arith, length-append),
@@ -129,9 +135,10 @@ printed-fault form tail files later opened whole Memory old mid new p wrote = (
 )
 
 -- all are
-pub printed-all : (form : Form) (tail : Tail) (files : List (Option Opened)) (whole : Bool) (old new : List ℕ)
-    → ArePrinted form tail files whole old new → WritesChecks form tail files old (Ok whole) new
-printed-all form tail files whole old new p = (p.checks, p.checked, p.whole_are, p.written)
+pub printed-all : (form : Form) (tail : Tail) (names : ℕ → List ℕ) (files : List (Option Opened)) (whole : Bool)
+    (old new : List ℕ) → ArePrinted form tail names files whole old new
+    → WritesChecks form tail names files old (Ok whole) new
+printed-all form tail names files whole old new p = (p.checks, p.checked, p.whole_are, p.written)
 
 -- the first of some files, with the one after them
 taken-behind : {R : Type 0} (opened : R → Option Opened) (all : List R) (place : ℕ) (x : R)

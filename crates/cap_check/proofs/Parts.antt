@@ -1,11 +1,11 @@
--- The two parts of a line are the line.
-use Rattle.std.proofs.Common.{◌≡◌, ℕ, List, [], ◌∷◌, ◌++◌, codes, map, refl, ap, ◌∙◌, arith, append_assoc}
-use Rattle.cap_print.specs.Facts.{Fact, Field, Value, begin_in, end_in, fact_in, facts_in, fields_in, line_in, one}
-use Rattle.cap_print.specs.Facts.{number, coded, word, moment, hex, flag, value_in}
+-- The parts of a line are the line.
+use Rattle.std.proofs.Common.{◌≡◌, ℕ, List, [], ◌∷◌, ◌++◌, codes, drop, map, refl, sym, ap, ◌∙◌, arith, append_assoc}
+use Rattle.cap_print.specs.Facts.{Fact, Field, Value, begin_in, close_in, end_in, fact_in, facts_in, fields_in, open_in}
+use Rattle.cap_print.specs.Facts.{coded, flag, group, hex, moment, number, one, value_in, word}
 use Rattle.cap_print.specs.declared.forms.Form.{Form}
 use Rattle.cap_print.specs.declared.forms.Form.TheVariants.{Text, Json}
-use Rattle.cap_check.specs.CheckText.{check_facts, held_facts, odd_fields}
-use Rattle.cap_check.specs.inner.Parts.{held_in, odd_in}
+use Rattle.cap_check.specs.CheckText.{check_line_in, held_facts, odd_fields}
+use Rattle.cap_check.specs.inner.Parts.{held_in, odd_in, unnamed_in}
 use Rattle.cap_check.specs.declared.checked.Check.{Check}
 
 -- a value, and then two texts
@@ -24,12 +24,51 @@ value-then Json label key (moment at) text rest = grind (arith, append_assoc)
 value-then Json label key (hex shown) text rest = grind (arith, append_assoc)
 value-then Json label key (flag is_so) text rest = grind (arith, append_assoc)
 
--- some facts, and then the rest of the line
-facts-then : (form : Form) (facts : List Fact) (rest : List ℕ) → facts_in form facts rest ≡ facts_in form facts [] ++ rest
-facts-then form [] rest = refl
-facts-then form (fact ∷ facts) rest =
-    ap (fact_in form fact) (facts-then form facts rest)
-    ∙ value-then form fact.label fact.key fact.value (facts_in form facts []) rest
+-- some facts, and then two texts
+facts-then : (form : Form) (facts : List Fact) (text rest : List ℕ)
+    → facts_in form facts (text ++ rest) ≡ facts_in form facts text ++ rest
+facts-then form [] text rest = refl
+facts-then form (fact ∷ facts) text rest =
+    ap (fact_in form fact) (facts-then form facts text rest)
+    ∙ value-then form fact.label fact.key fact.value (facts_in form facts text) rest
+
+-- in JSON a value begins with a comma, which a group takes away
+comma-then : (label key : List ℕ) (value : Value) (text rest : List ℕ)
+    → drop 1 (value_in Json label key value text ++ rest) ≡ drop 1 (value_in Json label key value text) ++ rest
+comma-then label key (number n) text rest = refl
+comma-then label key (coded t n) text rest = refl
+comma-then label key (word known) text rest = refl
+comma-then label key (moment at) text rest = refl
+comma-then label key (hex shown) text rest = refl
+comma-then label key (flag is_so) text rest = refl
+
+open-then : (form : Form) (key : List ℕ) (fact : Fact) (text rest : List ℕ)
+    → open_in form key (fact_in form fact text ++ rest) ≡ open_in form key (fact_in form fact text) ++ rest
+open-then Text key fact text rest = refl
+open-then Json key fact text rest =
+    ap (λ l. codes ",\"" ++ key ++ codes "\":{" ++ l) (comma-then fact.label fact.key fact.value text rest)
+    ∙ grind (arith, append_assoc)
+
+close-then : (form : Form) (text rest : List ℕ) → close_in form (text ++ rest) ≡ close_in form text ++ rest
+close-then Text text rest = refl
+close-then Json text rest = refl
+
+-- some fields, and then the rest of the line
+fields-then : (form : Form) (fields : List Field) (rest : List ℕ)
+    → fields_in form fields rest ≡ fields_in form fields [] ++ rest
+fields-then form [] rest = refl
+fields-then form (one fact ∷ fields) rest =
+    ap (fact_in form fact) (fields-then form fields rest)
+    ∙ value-then form fact.label fact.key fact.value (fields_in form fields []) rest
+fields-then form (group key fact facts ∷ fields) rest =
+    let behind = fields_in form fields [] in
+    let closed = close_in form behind in
+    ap (λ l. open_in form key (fact_in form fact (facts_in form facts (close_in form l))))
+    (fields-then form fields rest)
+    ∙ (ap (λ l. open_in form key (fact_in form fact (facts_in form facts l))) (close-then form behind rest)
+    ∙ (ap (λ l. open_in form key (fact_in form fact l)) (facts-then form facts closed rest)
+    ∙ (ap (open_in form key) (value-then form fact.label fact.key fact.value (facts_in form facts closed) rest)
+    ∙ open-then form key fact (facts_in form facts closed) rest)))
 
 -- as fields they are the same
 facts-fields : (form : Form) (facts : List Fact) (fields : List Field) (rest : List ℕ)
@@ -42,9 +81,13 @@ begin-then : (form : Form) (kind text rest : List ℕ)
 begin-then Text kind text rest = grind (arith, append_assoc)
 begin-then Json kind text rest = grind (arith, append_assoc)
 
-pub line-parts : (form : Form) (file : ℕ) (check : Check)
-    → line_in form (check_facts file check) ≡ held_in form file check ++ odd_in form check
-line-parts form file check =
-    ap (begin_in form (codes "check")) (facts-fields form (held_facts file check) (odd_fields check) (end_in form)
-    ∙ facts-then form (held_facts file check) (odd_in form check))
-    ∙ begin-then form (codes "check") (facts_in form (held_facts file check) []) (odd_in form check)
+pub line-parts : (form : Form) (file : ℕ) (name : List ℕ) (check : Check)
+    → check_line_in form file name check ≡ unnamed_in form file check ++ (name ++ end_in form)
+line-parts form file name check =
+    let facts = held_facts file check in
+    let odd = odd_in form check in
+    let rest = name ++ end_in form in
+    ap (begin_in form (codes "check")) (facts-fields form facts (odd_fields check) rest
+    ∙ (ap (facts_in form facts) (fields-then form (odd_fields check) rest) ∙ facts-then form facts [] (odd ++ rest)))
+    ∙ (begin-then form (codes "check") (facts_in form facts []) (odd ++ rest)
+    ∙ sym (append_assoc (held_in form file check) odd rest))

@@ -6,7 +6,8 @@ use Rattle.cap_bytes.specs.Rules.{rule_name, rule_number}
 use Rattle.cap_bytes.specs.declared.faults.Fault.{Fault}
 use Rattle.cap_bytes.specs.declared.faults.Fault.TheVariants.{Memory, Read, Refused, Write}
 use Rattle.cap_bytes.specs.declared.faults.Tail.{Tail}
-use Rattle.cap_print.specs.Facts.{Fact, Facts, Field, flagged, group, line_in, moment, named, number, one, word}
+use Rattle.cap_print.specs.Facts.{Fact, Facts, Field, begin_in, end_in, fields_in, flagged, group, moment, named}
+use Rattle.cap_print.specs.Facts.{number, one, word}
 use Rattle.cap_print.specs.declared.forms.Form.{Form}
 use Rattle.cap_bytes.specs.Formats.{format_name}
 use Rattle.cap_source.specs.declared.feeds.FileEnd.{FileEnd}
@@ -79,40 +80,51 @@ odd_fields check =
     ∷ one (named (codes "interfaces") (number (end_interfaces (known_end check.end))))
     ∷ end_fields check.end
 
--- the line of the file of that number
+-- the facts of the line of the file of that number
 abbrev pub check_facts : ℕ → Check → Facts
 check_facts file check =
     record { kind = codes "check"; fields = map one (held_facts file check) ++ odd_fields check }
 
+-- its line in a form, with a last field, which names the file, in that form; it is empty if the file isn't named
+abbrev pub check_line_in : Form → ℕ → List ℕ → Check → List ℕ
+check_line_in form file name check =
+    begin_in form (check_facts file check).kind (fields_in form (check_facts file check).fields (name ++ end_in form))
+
+-- The last fields of the lines of files, by the numbers of these: no file is named.
+abbrev pub no_names : ℕ → List ℕ
+no_names file = []
+
 -- the lines of files that were checked and have the numbers from that one on
-abbrev pub check_lines : Form → ℕ → List Check → List ℕ
-check_lines form file [] = []
-check_lines form file (check ∷ checks) = line_in form (check_facts file check) ++ check_lines form (file + 1) checks
+abbrev pub check_lines : Form → (ℕ → List ℕ) → ℕ → List Check → List ℕ
+check_lines form names file [] = []
+check_lines form names file (check ∷ checks) =
+    check_line_in form file (names file) check ++ check_lines form names (file + 1) checks
 
--- The file of that number is checked, and its line is written, whatever it holds; and it is returned whether it is
--- whole. If a growth is refused nothing is written, and if the writer failed a prefix is.
-abbrev pub WritesCheck : Form → Tail → ℕ → Option Opened → List ℕ → Result Bool Fault → List ℕ → Type 0
-WritesCheck form tail file opened old (Ok is_whole) new =
+-- The file of that number is checked, and its line is written, whatever it holds, with a last field; and it is returned
+-- whether it is whole. If a growth is refused nothing is written, and if the writer failed a prefix is.
+abbrev pub WritesCheck : Form → Tail → ℕ → List ℕ → Option Opened → List ℕ → Result Bool Fault → List ℕ → Type 0
+WritesCheck form tail file name opened old (Ok is_whole) new =
     (check : Check) × IsChecked tail file opened check × (is_whole ≡ is_whole_end check.end)
-    × (new ≡ old ++ line_in form (check_facts file check))
-WritesCheck form tail file opened old (Err (Refused refusal)) new = ⊥
-WritesCheck form tail file opened old (Err (Read f offset)) new = ⊥
-WritesCheck form tail file opened old (Err Write) new =
-    (check : Check) × IsChecked tail file opened check × PrintsFront (line_in form (check_facts file check)) old new
-WritesCheck form tail file opened old (Err Memory) new = new ≡ old
+    × (new ≡ old ++ check_line_in form file name check)
+WritesCheck form tail file name opened old (Err (Refused refusal)) new = ⊥
+WritesCheck form tail file name opened old (Err (Read f offset)) new = ⊥
+WritesCheck form tail file name opened old (Err Write) new =
+    (check : Check) × IsChecked tail file opened check × PrintsFront (check_line_in form file name check) old new
+WritesCheck form tail file name opened old (Err Memory) new = new ≡ old
 
--- All files, which have the numbers from 1 on, are checked, and their lines are written; and it is returned whether
--- each is whole. If a growth is refused, the lines of the first of them are written; if the writer failed, a prefix of
--- those is.
-abbrev pub WritesChecks : Form → Tail → List (Option Opened) → List ℕ → Result Bool Fault → List ℕ → Type 0
-WritesChecks form tail files old (Ok is_whole) new =
+-- All files, which have the numbers from 1 on, are checked, and their lines are written, with these last fields; and it
+-- is returned whether each is whole. If a growth is refused, the lines of the first of them are written; if the writer
+-- failed, a prefix of those is.
+abbrev pub WritesChecks : Form → Tail → (ℕ → List ℕ) → List (Option Opened) → List ℕ → Result Bool Fault → List ℕ
+    → Type 0
+WritesChecks form tail names files old (Ok is_whole) new =
     (checks : List Check) × AreChecked tail 1 files checks × (is_whole ≡ are_whole checks)
-    × (new ≡ old ++ check_lines form 1 checks)
-WritesChecks form tail files old (Err (Refused refusal)) new = ⊥
-WritesChecks form tail files old (Err (Read f offset)) new = ⊥
-WritesChecks form tail files old (Err Write) new =
+    × (new ≡ old ++ check_lines form names 1 checks)
+WritesChecks form tail names files old (Err (Refused refusal)) new = ⊥
+WritesChecks form tail names files old (Err (Read f offset)) new = ⊥
+WritesChecks form tail names files old (Err Write) new =
     (n : ℕ) × (checks : List Check) × AreChecked tail 1 (take n files) checks
-    × PrintsFront (check_lines form 1 checks) old new
-WritesChecks form tail files old (Err Memory) new =
+    × PrintsFront (check_lines form names 1 checks) old new
+WritesChecks form tail names files old (Err Memory) new =
     (n : ℕ) × (checks : List Check) × (n < length files) × AreChecked tail 1 (take n files) checks
-    × (new ≡ old ++ check_lines form 1 checks)
+    × (new ≡ old ++ check_lines form names 1 checks)

@@ -1,5 +1,5 @@
 -- What is counted of the packets of a file that is checked, and how the file ends.
-use Rattle.std.specs.Prelude.{◌≡◌, ℕ, ◌+◌, ◌≤◌, ◌&&◌, nat_lt, Bool, true, false, List, [], ◌∷◌, length, take, Option}
+use Rattle.std.specs.Prelude.{◌≡◌, ℕ, ◌+◌, ◌≤◌, nat_lt, Bool, true, false, List, [], ◌∷◌, length, take, Option}
 use Rattle.std.specs.Prelude.{Some, None, is_none, if◌then◌else◌, IsTrue}
 use Rattle.std.specs.List.{list_all}
 use Rattle.cap_bytes.specs.declared.faults.Tail.{Tail}
@@ -9,7 +9,6 @@ use Rattle.cap_source.specs.Times.{meta_time}
 use Rattle.cap_source.specs.declared.feeds.FileEnd.{FileEnd}
 use Rattle.cap_source.specs.declared.packets.Meta.{Meta}
 use Rattle.cap_time.specs.Clock.{earlier, is_backward, later}
-use Rattle.cap_time.specs.declared.stamps.Stamp.{Stamp}
 use Rattle.cap_check.specs.declared.checked.Check.{Check}
 use Rattle.cap_check.specs.declared.checked.CheckEnd.{CheckEnd}
 use Rattle.cap_check.specs.declared.checked.CheckEnd.TheVariants.{Opening, Reading, Refusing, Whole}

@@ -7,7 +7,7 @@ ghost use Rattle.cap_bytes.specs.Printing.{is_write};
 ghost use Rattle.cap_source.specs.Feed.{FeedKeeps};
 ghost use Rattle.cap_source.specs.inner.Captures.{capture_fronts};
 ghost use Rattle.cap_source.specs.inner.Walk.{GivesPacket, ShowsItem};
-ghost use Rattle.cap_check.specs.CheckText.{WritesCheck, WritesChecks};
+ghost use Rattle.cap_check.specs.CheckText.{WritesCheck, WritesChecks, no_names};
 ghost use Rattle.cap_check.specs.Checking.{IsChecked, nothing_checked};
 ghost use Rattle.cap_check.specs.inner.Taking.{EndsAt, FailsHere, FrontsNext, StopsIf, TakesPackets};
 
@@ -124,19 +124,20 @@ fn check_opened<R: Source>(
     }
 }
 
-/// Checks a capture file of either format, which has that number, and prints its line as `put_check_line` does: also of
-/// a file that could not be opened, which is `None`, of one that is refused, and of one of which a read fails. It
-/// returns whether the file was read whole. It returns `Memory` if a growth is refused, before anything is printed, and
-/// `Write` if a write fails, after a prefix of the line.
+/// Checks a capture file of either format, which has that number, and prints its line as `put_check_line` does, with
+/// `name` as its last field: also of a file that could not be opened, which is `None`, of one that is refused, and of
+/// one of which a read fails. It returns whether the file was read whole. It returns `Memory` if a growth is refused,
+/// before anything is printed, and `Write` if a write fails, after a prefix of the line.
 pub fn check_to<R: Source, W: Sink>(
     alloc: Global,
     source: Option<R>,
     file: u32,
     tail: Tail,
     form: Form,
+    name: &[u8],
     writer: &mut W,
 ) -> Result<bool, Fault>
-    ensures text { IsTrue (W.tells_held writer.old) → WritesCheck form tail file (option_map (λ s. record {
+    ensures text { IsTrue (W.tells_held writer.old) → WritesCheck form tail file name.now (option_map (λ s. record {
       told = R.tells_coming s;
       bytes = R.coming s;
       can_fail = R.can_fail s;
@@ -146,13 +147,13 @@ pub fn check_to<R: Source, W: Sink>(
     ensures fault { IfErr result (λ fault. (fault ≡ Fault.Memory) ⊎ (fault ≡ Fault.Write)) }
 {
     let check = check_opened(alloc, source, file, tail)?;
-    put_check_line(writer, form, file, &check)?;
+    put_check_line(writer, form, file, name, &check)?;
     Ok(check.end.is_whole())
 }
 
 /// Checks capture files, which have the numbers from 1 on, one after another, and prints the line of each as soon as it
-/// is read. It returns whether each was read whole. It returns `Memory` if a growth is refused, after the lines of the
-/// files before, and `Write` if a write fails, after a prefix of the lines.
+/// is read. No line names its file. It returns whether each was read whole. It returns `Memory` if a growth is refused,
+/// after the lines of the files before, and `Write` if a write fails, after a prefix of the lines.
 pub fn check_all_to<R: Source, W: Sink>(
     alloc: Global,
     sources: Vec<R>,
@@ -161,7 +162,7 @@ pub fn check_all_to<R: Source, W: Sink>(
     writer: &mut W,
 ) -> Result<bool, Fault>
     requires most { vec_len sources ≤ 4294967295 }
-    ensures text { IsTrue (W.tells_held writer.old) → WritesChecks form tail (map (λ s. Some (record {
+    ensures text { IsTrue (W.tells_held writer.old) → WritesChecks form tail no_names (map (λ s. Some (record {
       told = R.tells_coming s;
       bytes = R.coming s;
       can_fail = R.can_fail s;
@@ -174,7 +175,7 @@ pub fn check_all_to<R: Source, W: Sink>(
     let mut files = 0u32;
     for source in sources {
         files += 1;
-        are_whole &= check_to(alloc, Some(source), files, tail, form, writer)?;
+        are_whole &= check_to(alloc, Some(source), files, tail, form, b"", writer)?;
     }
     Ok(are_whole)
 }

@@ -1,11 +1,11 @@
 //! The line of a file that was checked.
-ghost use Rattle.std.specs.Prelude.{◌≡◌, ◌≤◌, is_err, option_map, IsOkUnless, IsTrue};
+ghost use Rattle.std.specs.Prelude.{◌≡◌, ◌≤◌, ◌++◌, [], is_err, option_map, IsOkUnless, IsTrue};
 ghost use Rattle.cap_bytes.specs.Device.{Puts, WriterKeeps, writer_of};
-ghost use Rattle.cap_print.specs.Facts.{end_in, fields_in, line_in};
+ghost use Rattle.cap_print.specs.Facts.{end_in, fields_in};
 ghost use Rattle.cap_print.specs.Lines.{room_in, text_in};
-ghost use Rattle.cap_check.specs.CheckText.{check_facts, end_fields, end_format_name, end_interfaces, end_skipped};
+ghost use Rattle.cap_check.specs.CheckText.{check_line_in, end_fields, end_format_name, end_interfaces, end_skipped};
 ghost use Rattle.cap_check.specs.CheckText.{known_end};
-ghost use Rattle.cap_check.specs.inner.Parts.{held_in, odd_in};
+ghost use Rattle.cap_check.specs.inner.Parts.{held_in, odd_in, unnamed_in};
 
 use crate::checked::{Check, CheckEnd};
 use cap_bytes::{Fault, Sink, put_all};
@@ -51,12 +51,12 @@ fn interfaces_of(end: &CheckEnd) -> u64
     known_end(end).map_or(0, |end| end.interfaces)
 }
 
-// The end of a line: ` whole`, ` whole cut`, ` refused offset O rule R NAME`, ` read offset O` or ` open`.
+// The last fields of a line: ` whole`, ` whole cut`, ` refused offset O rule R NAME`, ` read offset O` or ` open`.
 fn end_of(form: Form, end: &CheckEnd) -> Line
-    ensures text { text_in result ≡ fields_in form (end_fields end.now) (end_in form) }
+    ensures text { text_in result ≡ fields_in form (end_fields end.now) [] }
     ensures room { 380 ≤ room_in result }
 {
-    let mut line = Line::end(form);
+    let mut line = Line::new();
     match end {
         CheckEnd::Whole(end) => {
             line.put_flag(form, b"cut", end.ending.was_cut);
@@ -94,7 +94,7 @@ fn held_part(form: Form, file: u32, check: &Check) -> Line
     line
 }
 
-// What is odd about it, and how it ends, the rest of its line.
+// What is odd about it, and how it ends, the second part of its line.
 fn odd_part(form: Form, check: &Check) -> Line
     ensures { text_in result ≡ odd_in form check.now }
 {
@@ -107,20 +107,10 @@ fn odd_part(form: Form, check: &Check) -> Line
     line
 }
 
-/// Writes the line of a file of that number that was checked, in a form. In text it is
-/// `check N FORMAT packets P bytes B first T last T backward K untimed U truncated Q skipped S interfaces I`, and then
-/// `whole`, with ` cut` after it if a rest of the file was dropped, `refused offset O rule R NAME`, `read offset O` or
-/// `open`. Skipped blocks and interfaces are those that the file has up to there. If it is refused, or a read fails, in
-/// its header or in its first block, none are, and the format is `-`; so are the times if no packet has one. Returns
-/// `Fault::Write`, and no other fault, if the writer failed: a prefix of the line is written then.
-pub fn put_check_line<W: Sink>(
-    writer: &mut W,
-    form: Form,
-    file: u32,
-    check: &Check,
-) -> Result<(), Fault>
+// Writes the line of a file without its end.
+fn put_fields<W: Sink>(writer: &mut W, form: Form, file: u32, check: &Check) -> Result<(), Fault>
     ensures text { IsTrue (W.tells_held writer.old)
-        → Puts (W.held writer.old) result (W.held writer.new) (line_in form (check_facts file check.now)) }
+        → Puts (W.held writer.old) result (W.held writer.new) (unnamed_in form file check.now) }
     ensures writer { WriterKeeps (writer_of W.Sink writer.old) (is_err result) (writer_of W.Sink writer.new) }
     ensures fault { IsOkUnless result Fault.Write }
 {
@@ -128,4 +118,39 @@ pub fn put_check_line<W: Sink>(
     let odd = odd_part(form, check);
     put_all(writer, held.as_slice())?;
     put_all(writer, odd.as_slice())
+}
+
+// Writes the field of a name, and the end of a line.
+fn put_line_end<W: Sink>(writer: &mut W, form: Form, name: &[u8]) -> Result<(), Fault>
+    ensures text { IsTrue (W.tells_held writer.old)
+        → Puts (W.held writer.old) result (W.held writer.new) (name.now ++ end_in form) }
+    ensures writer { WriterKeeps (writer_of W.Sink writer.old) (is_err result) (writer_of W.Sink writer.new) }
+    ensures fault { IsOkUnless result Fault.Write }
+{
+    let end = Line::end(form);
+    put_all(writer, name)?;
+    put_all(writer, end.as_slice())
+}
+
+/// Writes the line of a file of that number that was checked, in a form. In text it is
+/// `check N FORMAT packets P bytes B first T last T backward K untimed U truncated Q skipped S interfaces I`, and then
+/// `whole`, with ` cut` after it if a rest of the file was dropped, `refused offset O rule R NAME`, `read offset O` or
+/// `open`. Skipped blocks and interfaces are those that the file has up to there. If it is refused, or a read fails, in
+/// its header or in its first block, none are, and the format is `-`; so are the times if no packet has one. The last
+/// field of the line is `name`, as it is: what names the file in that form, or nothing. Returns `Fault::Write`, and no
+/// other fault, if the writer failed: a prefix of the line is written then.
+pub fn put_check_line<W: Sink>(
+    writer: &mut W,
+    form: Form,
+    file: u32,
+    name: &[u8],
+    check: &Check,
+) -> Result<(), Fault>
+    ensures text { IsTrue (W.tells_held writer.old)
+        → Puts (W.held writer.old) result (W.held writer.new) (check_line_in form file name.now check.now) }
+    ensures writer { WriterKeeps (writer_of W.Sink writer.old) (is_err result) (writer_of W.Sink writer.new) }
+    ensures fault { IsOkUnless result Fault.Write }
+{
+    put_fields(writer, form, file, check)?;
+    put_line_end(writer, form, name)
 }

@@ -6,7 +6,7 @@ use Rattle.cap_bytes.specs.declared.faults.Fault.{Fault}
 use Rattle.cap_bytes.specs.declared.faults.Tail.{Tail}
 use Rattle.cap_bytes.specs.declared.faults.Tail.TheVariants.{Accept, Refuse}
 use Rattle.cap_bytes.specs.declared.numbers.Order.{Order}
-use Rattle.cap_check.specs.CheckText.{WritesChecks}
+use Rattle.cap_check.specs.CheckText.{WritesChecks, no_names}
 use Rattle.cap_check.specs.Checking.{Opened}
 use Rattle.cap_line.specs.declared.jobs.Ignored.{Ignored}
 use Rattle.cap_line.specs.declared.jobs.Job.{Job}
@@ -95,7 +95,7 @@ DoesTask tasks.Diff ignored tail form shown order to fails files finding =
 DoesTask tasks.Digest ignored tail form shown order to fails files finding =
     Prints (digests_text form tail files) (first_refusal tail 1 files)
 DoesTask tasks.Check ignored tail form shown order to fails files finding =
-    λ old result new. WritesChecks form tail (opened_files fails files) old (whole_by result finding) new
+    λ old result new. WritesChecks form tail no_names (opened_files fails files) old (whole_by result finding) new
 DoesTask tasks.Info ignored tail form shown order to fails files finding =
     Tells (info_text_in form tail files) (first_refusal tail 1 files)
 DoesTask tasks.Report ignored tail form shown order to fails files finding =

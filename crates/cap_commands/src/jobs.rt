@@ -1,6 +1,6 @@
 //! What the command line asks for, done over readers and a writer.
 ghost use Rattle.std.specs.Prelude.{◌≡◌, ◌≤◌, ◌∷◌, [], Bool, IfOk, IsTrue, map, vec_len};
-ghost use Rattle.cap_check.specs.CheckText.{WritesChecks};
+ghost use Rattle.cap_check.specs.CheckText.{WritesChecks, no_names};
 ghost use Rattle.std.specs.List.{list_all};
 ghost use Rattle.cap_line.specs.Jobs.{IsWholeJob};
 ghost use Rattle.cap_talks.specs.talks.Telling.{Tells};
@@ -151,7 +151,7 @@ fn check<R: Source, W: Sink>(
 ) -> Result<Finding, Fault>
     requires most { vec_len sources ≤ 4294967295 }
     ensures text { IsTrue (list_all R.tells_coming sources.items) → IsTrue (W.tells_held writer.old)
-        → WritesChecks form tail (opened_files (map R.can_fail sources.items) (map R.coming sources.items))
+        → WritesChecks form tail no_names (opened_files (map R.can_fail sources.items) (map R.coming sources.items))
         (W.held writer.old) (whole_by (done_of result) (found_in result)) (W.held writer.new) }
     ensures finding { IfOk result (λ finding. (are_whole : Bool) × (finding ≡ whole_finding are_whole)) }
     ensures writer { WriterKeeps (writer_of W.Sink writer.old) (is_write result) (writer_of W.Sink writer.new) }
@@ -214,7 +214,8 @@ fn written(answer: Result<DroppedInfo, Fault>) -> Result<Done, Fault>
 /// `merge_and_count` and `join_and_count` say: nothing of other tasks. Packets that run backward are counted if
 /// `counts` says so. `info`, `report` and `diff` write all of their text, or nothing if they return `Refused`, `Read`
 /// or `Memory`; the others write up to the first refusal, which they return, and a prefix of their text if they return
-/// another fault. It returns `Read` if a read fails, `Write` if a write does, and `Memory` if a growth is refused.
+/// another fault. It returns `Read` if a read fails, `Write` if a write does, and `Memory` if a growth is refused. The
+/// lines of `check` don't name their files.
 #[inline(never)]
 pub fn job_to<R: Source, W: Sink>(
     alloc: Global,

@@ -113,10 +113,10 @@ later_is : (a b : Option Stamp) → later a b ≡ chosen down a b
 later_is a b = grind arith
 
 earlier-assoc : (a b c : Option Stamp) → earlier (earlier a b) c ≡ earlier a (earlier b c)
-earlier-assoc a b c = search (earlier_is, chosen, chosen-assoc, stamp_cmp_total)
+earlier-assoc a b c = search (earlier_is, chosen-assoc, stamp_cmp_total)
 
 later-assoc : (a b c : Option Stamp) → later (later a b) c ≡ later a (later b c)
-later-assoc a b c = search (later_is, chosen, chosen-assoc, down_total)
+later-assoc a b c = search (later_is, chosen-assoc, down_total)
 
 earlier-alone : (a : Option Stamp) → a ≡ earlier a None
 earlier-alone a = sym (earlier_is a None ∙ chosen-alone stamp_cmp a)

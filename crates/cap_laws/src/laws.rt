@@ -132,8 +132,8 @@ pub fn diff_converted()
 }
 
 /// `check` counts, of the packets of a capture before its end or its refusal, as many packets, bytes and truncated
-/// packets, and the same least and greatest time, as `info`; as going backward each packet whose time is earlier than the
-/// time of a packet before it; and each packet without a time.
+/// packets, and the same least and greatest time, as `info`; as going backward each packet whose time is earlier than
+/// the time of a packet before it; and each packet without a time.
 pub fn check_counts()
     ensures { CheckedByPlaces }
 {}

@@ -125,9 +125,9 @@ pub record IsDiff (app : App) : Type 0 where
 abbrev pub digest_app : App
 digest_app = with_rule (showing_app (codes "digest")) files_rule
 
--- `check FILE..`
+-- `check [--names] FILE..`
 abbrev pub check_app : App
-check_app = with_rule (showing_app (codes "check")) files_rule
+check_app = with_rule (with_rule (showing_app (codes "check")) (flag_rule (codes "names"))) files_rule
 
 -- `info FILE..`
 abbrev pub info_app : App

@@ -75,6 +75,7 @@ pub record HasRows (task : Task) (rows : List Row) (job : Job) : Type 0 where
   pub explain : Flags job.explain (codes "explain") rows
   pub whole : Flags job.whole (codes "whole") rows
   pub json : Flags job.json (codes "json") rows
+  pub names : Flags job.names (codes "names") rows
   pub count : data_in rows ≡ Ok job.data
   pub ignored : job.ignored ≡ ignored_by (names_in (codes "ignore") rows)
 

@@ -57,6 +57,14 @@ fn json<'a>(alloc: Global) -> Arg<'a>
     flag(alloc, "json", texts::JSON_HELP)
 }
 
+// `--names`
+fn names<'a>(alloc: Global) -> Arg<'a>
+    ensures rule { rule_of result ≡ flag_rule (codes "names") }
+    ensures local { result.global ≡ false }
+{
+    flag(alloc, "names", texts::NAMES_HELP)
+}
+
 // `--data`
 fn data<'a>(alloc: Global) -> Arg<'a>
     ensures rule { rule_of result ≡ data_rule }
@@ -329,10 +337,8 @@ fn check<'a>(alloc: Global) -> Result<Command<'a>, AllocError>
     ensures app { IfOk result (λ c. app_of c ≡ check_app) }
     ensures local { IfOk result (λ c. (fields_of c).has_globals ≡ false) }
 {
-    with_argument(
-        showing(alloc, "check", texts::CHECK_ABOUT, texts::CHECK_HELP),
-        checked_files(alloc),
-    )
+    let before = showing(alloc, "check", texts::CHECK_ABOUT, texts::CHECK_HELP);
+    with_argument(with_argument(before, names(alloc)), checked_files(alloc))
 }
 
 // `info`

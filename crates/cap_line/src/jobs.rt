@@ -87,6 +87,8 @@ pub struct Job<'a> {
     pub data: Option<u32>,
     /// In what packets that are compared may differ.
     pub ignored: Ignored,
+    /// Whether each line of `Check` names its file, also in text.
+    pub names: bool,
 }
 
 /// The task of that name, if it is one's: `list`, `blocks`, `diff`, `digest`, `check`, `info`, `report`,

@@ -101,18 +101,19 @@ pub(crate) const CHECK_ABOUT: &str = "Tests each capture to its end";
 pub(crate) const CHECK_HELP: &str = "Prints, for each capture, as soon as it is read:
   check I FORMAT packets P bytes B first T last T backward K untimed U
     truncated Q skipped S interfaces N END
-FORMAT, B and the times T are as info prints them. Of the P packets K have a
-time below the greatest before them, U have no time, and Q were captured in
-part. S blocks are skipped; the capture has N interfaces. END is one of:
+With --names, name and the file's name follow END. FORMAT, B and the times T are
+as info prints them. Of the P packets K have a time below the greatest before
+them, U have no time, and Q were captured in part. S blocks are skipped; the
+capture has N interfaces. END is one of:
   whole                         it is read to its end
   whole cut                     likewise; --allow-cut dropped a cut rest
   refused offset O rule R NAME  the record or block at O breaks rule R
   read offset O                 the record or block at O can't be read
   open                          it can't be opened
-Unless it is whole, the numbers and times are as of where it ends, and FORMAT is
-- if it isn't known. The captures after it are tested all the same. The status
-is 1 if any capture isn't whole. A capture that was cut exactly between two
-records or blocks is whole: nothing in it says that more came.
+Unless it is whole, the line counts what comes before O, and FORMAT is - if it
+isn't known. The captures after it are tested all the same. The status is 1 if
+any capture isn't whole. A capture that was cut exactly between two records or
+blocks is whole: nothing in it says that more came.
 
 Examples: capt check morning.pcap evening.pcapng
           set -o pipefail; zcat trace.pcap.gz | capt check -";
@@ -173,6 +174,8 @@ pub(crate) const ALLOW_CUT_HELP: &str = "Drop a last packet or block that is cut
 pub(crate) const EXPLAIN_HELP: &str = "Name the file of a fault, and why, as at a terminal";
 
 pub(crate) const JSON_HELP: &str = "Print JSON Lines: the same facts, an object a line";
+
+pub(crate) const NAMES_HELP: &str = "Name each file at the end of its line, as JSON Lines do";
 
 pub(crate) const DATA_HELP: &str = "With --json, show at most N bytes of a packet, from
 0 to 262144, default 16";

@@ -210,6 +210,7 @@ fn job_of<'a>(alloc: Global, name: &str, matches: &ArgMatches<'a>) -> Result<Job
         json,
         data,
         ignored: ignored_in(matches),
+        names: is_set(text_of(matches, "names")),
     })
 }
 

@@ -1,5 +1,5 @@
 -- Files that are checked, as they are opened by their names.
-use Rattle.std.proofs.Common.{◌≡◌, ◌<◌, ◌+◌, ℕ, Bool, true, false, List, [], ◌∷◌, ◌++◌, map, length, Option, Some}
+use Rattle.std.proofs.Common.{◌≡◌, ◌<◌, ◌+◌, ◌-◌, ℕ, Bool, true, List, [], ◌∷◌, ◌++◌, map, length, Option, Some}
 use Rattle.std.proofs.Common.{Ok, Err, get_or, refl, sym, ap, subst, ◌∙◌, arith, length-append}
 use Rattle.std.specs.Borrow.{Bor}
 use Rattle.std.proofs.lemmas.List.{get_or-map, length-map, map-append}
@@ -10,7 +10,8 @@ use Rattle.cap_check.proofs.Following.{ArePrinted, printed-all, printed-fault, p
 use Rattle.cap_check.specs.CheckText.{WritesCheck, WritesChecks}
 use Rattle.cap_check.specs.Checking.{Opened}
 use Rattle.cap_print.specs.declared.forms.Form.{Form}
-use Rattle.cap_tool.specs.CheckedNames.{AreGiven, ChecksName, ChecksNames}
+use Rattle.cap_tool.specs.CheckedNames.{AreGiven, ChecksName, ChecksNames, name_fields}
+use Rattle.cap_tool.specs.NameFields.{name_field}
 use Rattle.cap_commands.proofs.CheckedFiles.{whole-is}
 use Rattle.cap_commands.specs.Jobs.{whole_finding}
 
@@ -30,26 +31,31 @@ AreGiven-more gives (n ∷ names) (i ∷ readers) name reader are within is one 
 
 -- The first files of some names were opened or could not be, and were checked, and their lines are printed.
 pub record AreNamed {R : Type 0} (gives : List ℕ → Option R → Type 0) (known : R → Opened) (form : Form) (tail : Tail)
-    (names : List (List ℕ)) (place : ℕ) (whole : Bool) (old held : List ℕ) : Type 0 where
+    (is_shown : Bool) (names : List (List ℕ)) (place : ℕ) (whole : Bool) (old held : List ℕ) : Type 0 where
   pub readers : List (Option R)
   pub opened : AreGiven gives names readers
   pub count : length readers ≡ place
-  pub printed : ArePrinted form tail (map (option_map known) readers) whole old held
+  pub printed : ArePrinted form tail (name_fields form is_shown names) (map (option_map known) readers) whole old held
 
 -- none was
 pub named-none : {R : Type 0} (gives : List ℕ → Option R → Type 0) (known : R → Opened) (form : Form) (tail : Tail)
-    (names : List (List ℕ)) (held : List ℕ)
-    → AreNamed gives known form tail names 0 true held held
-named-none gives known form tail names held =
-    record { readers = []; opened = tt; count = refl; printed = printed-none form tail held }
+    (is_shown : Bool) (names : List (List ℕ)) (held : List ℕ)
+    → AreNamed gives known form tail is_shown names 0 true held held
+named-none gives known form tail is_shown names held =
+    record {
+      readers = [];
+      opened = tt;
+      count = refl;
+      printed = printed-none form tail (name_fields form is_shown names) held;
+    }
 
 -- one file more is
 pub named-more : {R : Type 0} (gives : List ℕ → Option R → Type 0) (known : R → Opened) (form : Form) (tail : Tail)
-    (names : List (List ℕ)) (place : ℕ) (whole one : Bool) (old mid new : List ℕ)
-    → place < length names → AreNamed gives known form tail names place whole old mid
-    → ChecksName gives known form tail names place mid (Ok one) new
-    → AreNamed gives known form tail names (place + 1) (whole && one) old new
-named-more gives known form tail names place whole one old mid new within a next =
+    (is_shown : Bool) (names : List (List ℕ)) (place : ℕ) (whole one : Bool) (old mid new : List ℕ)
+    → place < length names → AreNamed gives known form tail is_shown names place whole old mid
+    → ChecksName gives known form tail is_shown names place mid (Ok one) new
+    → AreNamed gives known form tail is_shown names (place + 1) (whole && one) old new
+named-more gives known form tail is_shown names place whole one old mid new within a next =
     let files = map (option_map known) a.readers in
     let number : place + 1 ≡ 1 + length files =
     omega (arith, a.count, length-map a.readers (option_map known)) in
@@ -58,19 +64,21 @@ named-more gives known form tail names place whole one old mid new within a next
       opened = AreGiven-more gives names a.readers (get_or names place []) next.reader a.opened
           (omega (arith, within, a.count)) (ap (λ n. get_or names n []) (sym a.count)) next.opened;
       count = length-append a.readers (next.reader ∷ []) ∙ ap (λ n. n + 1) a.count;
-      printed = subst (λ l. ArePrinted form tail l (whole && one) old new)
+      printed = subst (λ l. ArePrinted form tail (name_fields form is_shown names) l (whole && one) old new)
           (sym (map-append (option_map known) a.readers (next.reader ∷ [])))
-          (printed-more form tail files (option_map known next.reader) whole one old mid new a.printed
-          (subst (λ n. WritesCheck form tail n (option_map known next.reader) mid (Ok one) new) number next.checks));
+          (printed-more form tail (name_fields form is_shown names) files (option_map known next.reader) whole one old
+          mid new a.printed
+          (subst (λ n. WritesCheck form tail n (name_fields form is_shown names n) (option_map known next.reader) mid
+          (Ok one) new) number next.checks));
     }
 
 -- a growth is refused or a write fails
 pub named-fault : {R : Type 0} (gives : List ℕ → Option R → Type 0) (known : R → Opened) (form : Form) (tail : Tail)
-    (names : List (List ℕ)) (place : ℕ) (whole : Bool) (fault : Fault) (old mid new : List ℕ)
-    → place < length names → AreNamed gives known form tail names place whole old mid
-    → ChecksName gives known form tail names place mid (Err fault) new
-    → ChecksNames gives known form tail names old (Err fault) new
-named-fault gives known form tail names place whole fault old mid new within a next =
+    (is_shown : Bool) (names : List (List ℕ)) (place : ℕ) (whole : Bool) (fault : Fault) (old mid new : List ℕ)
+    → place < length names → AreNamed gives known form tail is_shown names place whole old mid
+    → ChecksName gives known form tail is_shown names place mid (Err fault) new
+    → ChecksNames gives known form tail is_shown names old (Err fault) new
+named-fault gives known form tail is_shown names place whole fault old mid new within a next =
     let files = map (option_map known) a.readers in
     let number : place + 1 ≡ 1 + length files =
     omega (arith, a.count, length-map a.readers (option_map known)) in
@@ -79,25 +87,27 @@ named-fault gives known form tail names place whole fault old mid new within a n
       opened = AreGiven-more gives names a.readers (get_or names place []) next.reader a.opened
           (omega (arith, within, a.count)) (ap (λ n. get_or names n []) (sym a.count)) next.opened;
       all = tt;
-      checks = subst (λ l. WritesChecks form tail l old (Err fault) new)
+      checks = subst (λ l. WritesChecks form tail (name_fields form is_shown names) l old (Err fault) new)
           (sym (map-append (option_map known) a.readers (next.reader ∷ [])))
-          (printed-fault form tail files [] (option_map known next.reader) whole fault old mid new a.printed
-          (subst (λ n. WritesCheck form tail n (option_map known next.reader) mid (Err fault) new) number
-          next.checks));
+          (printed-fault form tail (name_fields form is_shown names) files [] (option_map known next.reader) whole fault
+          old mid new a.printed
+          (subst (λ n. WritesCheck form tail n (name_fields form is_shown names n) (option_map known next.reader) mid
+          (Err fault) new) number next.checks));
     }
 
 -- all are
 pub named-all : {R : Type 0} (gives : List ℕ → Option R → Type 0) (known : R → Opened) (form : Form) (tail : Tail)
-    (names : List (List ℕ)) (place : ℕ) (whole : Bool) (old new : List ℕ)
-    → place ≡ length names → AreNamed gives known form tail names place whole old new
-    → ChecksNames gives known form tail names old (Ok (whole_finding whole)) new
-named-all gives known form tail names place whole old new over a =
+    (is_shown : Bool) (names : List (List ℕ)) (place : ℕ) (whole : Bool) (old new : List ℕ)
+    → place ≡ length names → AreNamed gives known form tail is_shown names place whole old new
+    → ChecksNames gives known form tail is_shown names old (Ok (whole_finding whole)) new
+named-all gives known form tail is_shown names place whole old new over a =
     record {
       readers = a.readers;
       opened = a.opened;
       all = a.count ∙ over;
-      checks = subst (λ r. WritesChecks form tail (map (option_map known) a.readers) old r new)
-          (sym (whole-is whole)) (printed-all form tail _ whole old new a.printed);
+      checks = subst (λ r. WritesChecks form tail (name_fields form is_shown names) (map (option_map known) a.readers)
+          old r new)
+          (sym (whole-is whole)) (printed-all form tail (name_fields form is_shown names) _ whole old new a.printed);
     }
 
 -- what is given for the name at a place of a job's files is what is given for that name among the texts
@@ -109,6 +119,18 @@ given-at gives names items place none found reader same within given is =
     subst (λ r. gives (get_or (map (λ n. n.now) items) place []) r) (sym is)
     (subst (λ name. gives name found) (sym (get_or-map (λ n. n.now) items place none [] within))
     (subst (λ l. gives (get_or l place none).now found) same given))
+
+-- and its last field is that of that name among the texts
+pub named-at : (form : Form) (is_shown : Bool) (names items : List (Bor (List ℕ))) (place : ℕ) (none : Bor (List ℕ))
+    → names ≡ items → place < length items
+    → name_field form is_shown (get_or names place none).now
+    ≡ name_fields form is_shown (map (λ n. n.now) items) (place + 1)
+named-at form is_shown names items place none same within =
+    let before : place ≡ place + 1 - 1 = omega arith in
+    ap (name_field form is_shown)
+    (ap (λ l. (get_or l place none).now) same
+    ∙ (sym (get_or-map (λ n. n.now) items place none [] within)
+    ∙ ap (λ n. get_or (map (λ n. n.now) items) n []) before))
 
 -- one file more of some that were all opened
 pub next-given : {R : Type 0} (gives : List ℕ → Option R → Type 0) (names : List (Bor (List ℕ))) (old new : List R)

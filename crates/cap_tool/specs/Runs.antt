@@ -93,8 +93,8 @@ pub record RunsChecks {R W N : Type 0} (gives : List ℕ → Option R → Type 0
   pub ended : Result DroppedInfo RunStop
   pub made : makes [] (Ok (writer, name))
   pub checks : IsTrue (sent writer).told
-      → ChecksNames gives known (form_by job.json) (tail_of job.allow_cut) (names_of job) (sent writer).held answer
-      (sent written).held
+      → ChecksNames gives known (form_by job.json) (tail_of job.allow_cut) job.names (names_of job)
+      (sent writer).held answer (sent written).held
   pub ends : IsTrue (sent writer).told → EndsBy answer (sent written).waiting ended
   pub committed : commits name ended result
 

@@ -8,6 +8,7 @@ ghost use Rattle.cap_tool.specs.Openers.{reader_of};
 ghost use Rattle.cap_commands.specs.Jobs.{form_by, tail_of};
 
 use crate::causes::Cause;
+use crate::named::name_field;
 use crate::openers::Opener;
 use cap_bytes::{Fault, Sink};
 use cap_check::check_to;
@@ -39,20 +40,23 @@ fn check_next<O: Opener, W: Sink>(
       told = O.Reader.tells_coming s;
       bytes = O.Reader.coming s;
       can_fail = O.Reader.can_fail s;
-    }) (form_by job.now.json) (tail_of job.now.allow_cut) (map (λ n. n.now) job.now.files.items) place
-        (W.held writer.old) result (W.held writer.new) }
+    }) (form_by job.now.json) (tail_of job.now.allow_cut) job.now.names (map (λ n. n.now) job.now.files.items)
+        place (W.held writer.old) result (W.held writer.new) }
     ensures writer { WriterKeeps (writer_of W.Sink writer.old) (is_write result) (writer_of W.Sink writer.new) }
 {
-    let reader = reader_of(opener.open(job.files.as_slice()[place]));
+    let name = job.files.as_slice()[place];
+    let reader = reader_of(opener.open(name));
     let tail = tail_of(job.allow_cut);
     let form = form_of(job.json);
-    check_to(alloc, reader, place as u32 + 1, tail, form, writer)
+    let named = name_field(alloc, form, job.names, name)?;
+    let file = place as u32 + 1;
+    check_to(alloc, reader, file, tail, form, named.as_slice(), writer)
 }
 
-/// Checks the files that a job names, which have the numbers from 1 on, and prints the line of each as `check_to` does:
-/// opens one after another, and closes it before the next. It returns `NotWhole` if one of the files isn't whole, also
-/// if it could not be opened. It returns `Memory` if a growth is refused, after the lines of the files before, and
-/// `Write` if a write fails, after a prefix of the lines.
+/// Checks the files that a job names, which have the numbers from 1 on, and prints the line of each as `check_to` does,
+/// in JSON with the file's name, in text if the job asks for that: opens one after another, and closes it before the
+/// next. It returns `NotWhole` if one of the files isn't whole, also if it could not be opened. It returns `Memory` if
+/// a growth is refused, after the lines of the files before, and `Write` if a write fails, after a prefix of the lines.
 pub fn check_named<O: Opener, W: Sink>(
     opener: &O,
     alloc: Global,
@@ -64,8 +68,8 @@ pub fn check_named<O: Opener, W: Sink>(
       told = O.Reader.tells_coming s;
       bytes = O.Reader.coming s;
       can_fail = O.Reader.can_fail s;
-    }) (form_by job.now.json) (tail_of job.now.allow_cut) (map (λ n. n.now) job.now.files.items) (W.held writer.old)
-        result (W.held writer.new) }
+    }) (form_by job.now.json) (tail_of job.now.allow_cut) job.now.names (map (λ n. n.now) job.now.files.items)
+        (W.held writer.old) result (W.held writer.new) }
     ensures writer { WriterKeeps (writer_of W.Sink writer.old) (is_write result) (writer_of W.Sink writer.new) }
 {
     let mut are_whole = true;

@@ -10,6 +10,7 @@ mod hints;
 mod host;
 mod kinds;
 mod left;
+mod named;
 mod objects;
 mod openers;
 mod outcomes;

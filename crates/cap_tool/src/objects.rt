@@ -60,8 +60,8 @@ fn path_of<'a>(paths: &[&'a str], file: u32) -> Option<&'a str>
     paths.get(place as usize).copied()
 }
 
-// A character of a word as it stands in a string.
-fn escaped(c: char) -> Line
+/// A character of a word as it stands in a string.
+pub(crate) fn escaped(c: char) -> Line
     ensures { text_in result ≡ escaped_character c }
 {
     let mut line = Line::new();

@@ -26,6 +26,20 @@ const CHECKS: &str = "check 1 pcap packets 1 bytes 4 first 2+500000/1000000 last
     check 2 - packets 0 bytes 0 first - last - \
     backward 0 untimed 0 truncated 0 skipped 0 interfaces 0 open\n";
 
+// The same, with their names, and as objects.
+const NAMED: &str = "check 1 pcap packets 1 bytes 4 first 2+500000/1000000 last 2+500000/1000000 \
+    backward 0 untimed 0 truncated 0 skipped 0 interfaces 1 whole name one\n\
+    check 2 - packets 0 bytes 0 first - last - \
+    backward 0 untimed 0 truncated 0 skipped 0 interfaces 0 open name \\u{1b}two\n";
+
+const OBJECTS: &str =
+    "{\"type\":\"check\",\"file\":1,\"format\":\"pcap\",\"packets\":1,\"bytes\":4,\
+    \"first\":[2,500000,1000000],\"last\":[2,500000,1000000],\"backward\":0,\"untimed\":0,\
+    \"truncated\":0,\"skipped\":0,\"interfaces\":1,\"whole\":true,\"cut\":false,\"path\":\"one\"}\n\
+    {\"type\":\"check\",\"file\":2,\"format\":null,\"packets\":0,\"bytes\":0,\"first\":null,\"last\":null,\
+    \"backward\":0,\"untimed\":0,\"truncated\":0,\"skipped\":0,\"interfaces\":0,\"open\":true,\
+    \"path\":\"\\u001btwo\"}\n";
+
 // One file, which is named `one`.
 #[derive(Clone, Copy)]
 struct Shelf<'a> {
@@ -164,7 +178,7 @@ fn runs(rt: &impl Abort, alloc: Global, words: &[&str], ending: Outcome, text: &
 }
 
 // The words, how their run ends, and what it writes.
-const RUNS: [(&[&str], Outcome, &str); 7] = [
+const RUNS: [(&[&str], Outcome, &str); 9] = [
     (&["capt", "list", "one"], Outcome::Done, LINE),
     (&["capt", "list", "two"], Outcome::Open(1), ""),
     (
@@ -173,6 +187,16 @@ const RUNS: [(&[&str], Outcome, &str); 7] = [
         "",
     ),
     (&["capt", "check", "one", "two"], Outcome::NotWhole, CHECKS),
+    (
+        &["capt", "check", "--names", "one", "\u{1b}two"],
+        Outcome::NotWhole,
+        NAMED,
+    ),
+    (
+        &["capt", "check", "--json", "one", "\u{1b}two"],
+        Outcome::NotWhole,
+        OBJECTS,
+    ),
     (&["capt", "info", "one", "two"], Outcome::Open(2), ""),
     (
         &["capt", "merge", "--whole", "-o", "new", "one"],

@@ -191,7 +191,7 @@ fn checks(rt: &impl Abort, alloc: Global, row: &Row, piece: usize)
     let (file, tail, form, text, is_whole) = *row;
     let mut writer = room_of(rt, alloc, 512);
     let source = reader_of(rt, alloc, file, piece);
-    let answer = check_to(alloc, Some(source), 7, tail, form, &mut writer);
+    let answer = check_to(alloc, Some(source), 7, tail, form, b"", &mut writer);
     same!(rt; (answer, writer.bytes()), (Ok(is_whole), text.as_bytes()));
 }
 
@@ -215,6 +215,7 @@ fn checks_unread(rt: &impl Abort, alloc: Global, row: &Unread) {
         1,
         Tail::Refuse,
         Form::Text,
+        b"",
         &mut writer,
     );
     same!(rt; (answer, writer.bytes()), (Ok(false), text.as_bytes()));
@@ -239,14 +240,17 @@ fn a_check_is_written_or_fails(rt: HostRuntime) {
         1,
         Tail::Refuse,
         Form::Text,
+        b"",
         &mut writer,
     );
     same!(&rt; (answer, writer.bytes()), (Err(Fault::Write), b"chec".as_slice()));
     let text = "check 3 - packets 0 bytes 0 first - last - \
     backward 0 untimed 0 truncated 0 skipped 0 interfaces 0 open\n";
+    let named = "check 3 - packets 0 bytes 0 first - last - \
+    backward 0 untimed 0 truncated 0 skipped 0 interfaces 0 open name a\n";
     let mut writer = room_of(&rt, rt.alloc(), 512);
-    let answer = put_check_line(&mut writer, Form::Text, 3, &Check::unopened());
-    same!(&rt; (answer, writer.bytes()), (Ok(()), text.as_bytes()));
+    let answer = put_check_line(&mut writer, Form::Text, 3, b" name a", &Check::unopened());
+    same!(&rt; (answer, writer.bytes()), (Ok(()), named.as_bytes()));
     let mut writer = room_of(&rt, rt.alloc(), 512);
     let unopened: Option<Pieces> = None;
     let answer = check_to(
@@ -255,6 +259,7 @@ fn a_check_is_written_or_fails(rt: HostRuntime) {
         3,
         Tail::Refuse,
         Form::Text,
+        b"",
         &mut writer,
     );
     same!(&rt; (answer, writer.bytes()), (Ok(false), text.as_bytes()));

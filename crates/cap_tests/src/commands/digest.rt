@@ -20,8 +20,8 @@ const CARRIED: &str = "digest 1 sha256 \
 const CARRIED_JSON: &str = "{\"type\":\"digest\",\"file\":3,\"sha256\":\
     \"ae7312267c797be18247384507fd1956f2af9397397bd84f72a62298f1352b4e\",\"packets\":1,\"cut\":false}\n";
 
-// The lines of no packet, of a whole file and of one whose end was dropped; of two without bytes, at 5 seconds and at 1;
-// and of one without a time, of which 4 of 10 bytes were captured.
+// The lines of no packet, of a whole file and of one whose end was dropped; of two without bytes, at 5 seconds and at
+// 1; and of one without a time, of which 4 of 10 bytes were captured.
 const NONE: &str = "digest 1 sha256 \
     e3b0c44298fc1c149afbf4c8996fb92427ae41e4649b934ca495991b7852b855 packets 0\n";
 

@@ -154,6 +154,7 @@ fn printing(rt: &impl Abort, alloc: Global, task: Task, allow_cut: bool) -> Job<
         json: false,
         data: None,
         ignored: NOTHING_IGNORED,
+        names: false,
     }
 }
 
@@ -239,6 +240,7 @@ fn writes(rt: &impl Abort, alloc: Global, row: &Written) {
         json: false,
         data: None,
         ignored: NOTHING_IGNORED,
+        names: false,
     };
     let mut writer = room_of(rt, alloc, 1024);
     let answer = does(rt, alloc, &job, captures, &mut writer);

@@ -1,5 +1,6 @@
 use Rattle.std.proofs.Common.{◌≡◌, length, map, take, IsTrue, Some}
 use Rattle.cap_check.proofs.Following.{ArePrinted}
+use Rattle.cap_check.specs.CheckText.{no_names}
 use Rattle.cap_check.proofs.checking.check_all_to.Given as goal
 
 -- the files so far are checked, and their lines are printed
@@ -9,7 +10,7 @@ invariant-loop-source g l = record {
   failed : g.W.Device.has_failed l.writer ≡ g.W.Device.has_failed l.fn.writer;
   told : IsTrue (g.W.Sink.tells_held l.fn.writer) → IsTrue (g.W.Sink.tells_held l.writer);
   cannot : IsTrue (g.W.Device.can_fail l.writer) → IsTrue (g.W.Device.can_fail l.fn.writer);
-  printed : IsTrue (g.W.Sink.tells_held l.fn.writer) → ArePrinted l.form l.tail
+  printed : IsTrue (g.W.Sink.tells_held l.fn.writer) → ArePrinted l.form l.tail no_names
       (take (length l.yielded) (map (λ s. Some (record {
         told = g.R.Source.tells_coming s;
         bytes = g.R.Source.coming s;

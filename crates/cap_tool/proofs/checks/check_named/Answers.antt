@@ -10,7 +10,7 @@ loop-place-init g c = record {
   failed = refl;
   told = λ t. t;
   cannot = λ f. f;
-  printed = λ w. named-none _ _ _ _ _ _;
+  printed = λ w. named-none _ _ _ _ _ _ _;
 }
 
 pub returns-in_err-are_whole-clause-text : goal.returns-in_err-are_whole-clause-text
@@ -19,7 +19,7 @@ returns-in_err-are_whole-clause-text g c = λ w.
     let i = c.loop-place.invariant in
     let same = length-map c.args.job.now.files.items (λ n. n.now) in
     rw (p.1, p.2)
-    (named-fault _ _ _ _ _ c.loop-place.place c.loop-place.are_whole c.in_err-are_whole.field-0.0 _ _ _
+    (named-fault _ _ _ _ _ _ c.loop-place.place c.loop-place.are_whole c.in_err-are_whole.field-0.0 _ _ _
     (omega (arith, c.loop-place-test.true, same)) (i.printed w) (c.in_err-are_whole.ensures.text (i.told w)))
 
 pub loop-place-preserved : goal.loop-place-preserved
@@ -33,6 +33,6 @@ loop-place-preserved g c =
       told = λ w. e.writer.told (i.told w);
       cannot = λ f. i.cannot (e.writer.cannot f);
       printed = λ w.
-          named-more _ _ _ _ _ c.loop-place.place c.loop-place.are_whole _ _ _ _
+          named-more _ _ _ _ _ _ c.loop-place.place c.loop-place.are_whole _ _ _ _
           (omega (arith, c.loop-place-test.true, same)) (i.printed w) (e.text (i.told w));
     }
