@@ -13,7 +13,7 @@ ghost use Rattle.cap_source.specs.inner.Growing.{IfMemory};
 use crate::lines::{MOST_SHOWN, write_packet, write_packet_end, write_packet_head};
 use cap_bytes::{Fault, Sink, Source, Tail, put_all};
 use cap_print::{Form, Line};
-use cap_source::{Capture, Meta, PacketFeed, next_packet};
+use cap_source::{Capture, Meta, PacketFeed};
 use std::alloc::Global;
 use std::cmp::min;
 
@@ -108,8 +108,9 @@ fn list_packets<F: PacketFeed, W: Sink>(
 {
     let mut line = Line::new();
     let mut number = 1u64;
-    while let Some(packet) = next_packet(feed)? {
-        put_packet(writer, &mut line, form, most, number, &packet, feed.frame())?;
+    while feed.peek()? {
+        let packet = feed.packet();
+        put_packet(writer, &mut line, form, most, number, packet, feed.frame())?;
         feed.pass();
         number += 1;
     }

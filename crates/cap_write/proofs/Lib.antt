@@ -4,6 +4,7 @@ mod Forming
 mod Joining
 mod Lengths
 mod Numbers
+pub mod Peeking
 pub mod Places
 pub mod Records
 pub mod Starting

@@ -13,7 +13,7 @@ ghost use Rattle.cap_write.specs.Texts.{text_behind, one_bytes};
 use crate::interfaces::{Origins, number_of, units_of};
 use cap_blocks::{PacketFields, put_interface, put_packet};
 use cap_bytes::{Fault, Order, Sink};
-use cap_source::{Meta, PacketFeed, next_packet};
+use cap_source::{Meta, PacketFeed};
 
 // Writes a packet's interface if it is the next one.
 fn put_new_interface<W: Sink>(
@@ -119,8 +119,9 @@ pub(crate) fn put_packets<F: PacketFeed, W: Sink>(
     ensures memory { IfMemory result (IsAtPacket (F.feed feed.new).known) }
     ensures keeps { FeedKeeps (F.feed feed.old) (F.feed feed.new) }
 {
-    while let Some(meta) = next_packet(feed)? {
-        put_one(origins, order, &meta, feed.frame(), writer)?;
+    while feed.peek()? {
+        let meta = feed.packet();
+        put_one(origins, order, meta, feed.frame(), writer)?;
         feed.pass();
     }
     Ok(())

@@ -1,35 +1,42 @@
-use Rattle.std.proofs.Common.{◌≡◌, ◌+◌, ◌++◌, ◌∙◌, Some, None, Ok, drop, sym, ap, arith, rules}
+use Rattle.std.proofs.Common.{◌≡◌, ◌+◌, ◌++◌, ◌∙◌, IsTrue, Some, Ok, drop, sym, ap, arith, rules}
 use Rattle.std.proofs.lemmas.Result.{err_from_is_err_and}
 use Rattle.cap_bytes.proofs.Putting.{Putting-front}
-use Rattle.cap_source.proofs.Growing.{memory-asked}
+use Rattle.cap_source.proofs.Growing.{memory-found}
 use Rattle.cap_source.proofs.Onward.{Went-more, Walks-end, Walks-fault, Walks-stop}
 use Rattle.cap_source.proofs.Walking.{Walking-more, Prints-fault, Prints-end}
-use Rattle.cap_source.specs.inner.Walk.{ShowsItem}
+use Rattle.cap_source.specs.inner.Walk.{GivesPacket, ShowsItem}
+use Rattle.cap_write.proofs.Peeking.{found-packet, found-item, found-end, found-fault, found-no-packet}
 use Rattle.cap_commands.proofs.Listing.{plan_of, plan_of-is, plan_of-next}
 use Rattle.cap_commands.specs.ListText.{list_lines, packet_line}
 use Rattle.cap_commands.proofs.list.list_packets.Goals as goal
 
-pub returns-in_err-packet-clause-text : goal.returns-in_err-packet-clause-text
-returns-in_err-packet-clause-text g c = λ t w.
+pub returns-in_err-peek-clause-text : goal.returns-in_err-peek-clause-text
+returns-in_err-peek-clause-text g c = λ t w.
     let p = err_from_is_err_and c.from_residual.result c.from_residual.ensures.1 in
-    let i = c.loop-packet.invariant.walk in
+    let i = c.loop-feed.invariant.walk in
     let line = packet_line c.args.form c.args.most in
-    let n = c.loop-packet.number in
-    rw (p.1, p.2) (Prints-fault (plan_of line n) c.in_err-packet.field-0.0 _ _ _ _
-    (g.F.PacketFeed.feed c.loop-packet.feed) (g.F.PacketFeed.feed c.next_packet.new.feed) (plan_of-is line n)
+    let n = c.loop-feed.number in
+    let mid = g.F.PacketFeed.feed c.loop-feed.feed in
+    let shown = g.F.PacketFeed.feed c.peek.new.self in
+    let e = c.in_err-peek.ensures in
+    rw (p.1, p.2) (Prints-fault (plan_of line n) c.in_err-peek.field-0.0 _ _ _ _ mid shown (plan_of-is line n)
     (i.text t) w (i.refusal_same t)
-    (c.in_err-packet.ensures.items (i.told t)))
+    (found-fault c.in_err-peek.field-0.0 mid shown (g.met.F.PacketFeed.lawful c.peek.new.self)
+    (e.keeps.told (i.told t)) (e.items (i.told t)) e.answer))
 
 pub returns-in_err-put_packet-clause-text : goal.returns-in_err-put_packet-clause-text
 returns-in_err-put_packet-clause-text g c = λ t w.
     let r = c.from_residual-in_err-put_packet in
     let p = err_from_is_err_and r.result r.ensures.1 in
-    let i = c.loop-packet.invariant.walk in
-    let n = c.loop-packet.number in
-    let mid = g.F.PacketFeed.feed c.loop-packet.feed in
-    let shown = g.F.PacketFeed.feed c.next_packet.new.feed in
-    let meta = c.in-Some.packet in
-    let shows : ShowsItem mid (Ok (Some meta)) shown = rw c.in-Some.is at (c.in_ok-packet.ensures.items (i.told t)) in
+    let i = c.loop-feed.invariant.walk in
+    let n = c.loop-feed.number in
+    let mid = g.F.PacketFeed.feed c.loop-feed.feed in
+    let shown = g.F.PacketFeed.feed c.peek.new.self in
+    let meta = c.packet-packet.result.now in
+    let e = c.in_ok-peek.ensures in
+    let shows : ShowsItem mid (Ok (Some meta)) shown =
+    found-item mid shown meta (g.met.F.PacketFeed.lawful c.peek.new.self) (e.keeps.told (i.told t))
+    (e.items (i.told t)) c.packet-packet.ensures.packet in
     let line = packet_line c.args.form c.args.most in
     let written = line n meta c.frame.result.now in
     let written_is : written ≡ line n meta shown.frame = ap (line n meta) c.frame.ensures.frame in
@@ -41,27 +48,31 @@ returns-in_err-put_packet-clause-text g c = λ t w.
     rw (p.1, p.2, c.in_err-put_packet.ensures.fault)
     (Putting-front _ _ _ _ written behind wrote.0 (rw split at (i.text t)) w wrote.1)
 
-pub loop-packet-preserved : goal.loop-packet-preserved
-loop-packet-preserved g c =
-    let i = c.loop-packet.invariant in
-    let n = c.loop-packet.number in
-    let mid = g.F.PacketFeed.feed c.loop-packet.feed in
-    let shown = g.F.PacketFeed.feed c.next_packet.new.feed in
+pub loop-feed-preserved : goal.loop-feed-preserved
+loop-feed-preserved g c =
+    let i = c.loop-feed.invariant in
+    let n = c.loop-feed.number in
+    let mid = g.F.PacketFeed.feed c.loop-feed.feed in
+    let shown = g.F.PacketFeed.feed c.peek.new.self in
     let new = g.F.PacketFeed.feed c.pass.new.self in
-    let meta = c.in-Some.packet in
+    let meta = c.packet-packet.result.now in
+    let f = c.in_ok-peek.ensures in
     let e = c.in_ok-put_packet.ensures in
     let line = packet_line c.args.form c.args.most in
     let written = line n meta c.frame.result.now in
     let written_is : written ≡ line n meta shown.frame = ap (line n meta) c.frame.ensures.frame in
+    let gives : GivesPacket mid (Ok (Some meta)) shown =
+    found-packet mid shown meta (rw c.if-branch.true at f.answer) c.packet-packet.ensures.packet in
+    let shows : (IsTrue mid.told → ShowsItem mid (Ok (Some meta)) shown) = λ t.
+    found-item mid shown meta (g.met.F.PacketFeed.lawful c.peek.new.self) (f.keeps.told t) (f.items t)
+    c.packet-packet.ensures.packet in
     record {
-      number = omega (arith, i.number, c.in_ok-packet.ensures.keeps.left, c.pass.ensures.passes.left);
-      went =
-          Went-more (g.F.PacketFeed.feed c.args.feed.now) mid shown new meta i.went
-          (rw c.in-Some.is at c.in_ok-packet.ensures.answer)
-          c.in_ok-packet.ensures.keeps c.pass.ensures.passes c.pass.ensures.keeps;
+      number = omega (arith, i.number, f.keeps.left, c.pass.ensures.passes.left);
+      went = Went-more (g.F.PacketFeed.feed c.args.feed.now) mid shown new meta i.went gives f.keeps
+          c.pass.ensures.passes c.pass.ensures.keeps;
       walk =
           Walking-more _ _ _ _ mid shown new _ _ _ _ _ _ meta (line n meta shown.frame)
-          i.walk c.in_ok-packet.ensures.keeps (λ t. rw c.in-Some.is at (c.in_ok-packet.ensures.items t))
+          i.walk f.keeps shows
           c.pass.ensures.keeps c.pass.ensures.passes.items (plan_of-next line n meta shown.frame)
           (λ w. rw written_is at (e.bytes w))
           e.writer.told e.writer.cannot (search rules);
@@ -69,25 +80,38 @@ loop-packet-preserved g c =
 
 pub returns-clause-text : goal.returns-clause-text
 returns-clause-text g c = λ t w.
-    let i = c.loop-packet.invariant.walk in
-    let n = c.loop-packet.number in
-    let mid = g.F.PacketFeed.feed c.loop-packet.feed in
-    let shown = g.F.PacketFeed.feed c.next_packet.new.feed in
-    let shows : ShowsItem mid (Ok None) shown = rw c.in_default.is at (c.in_ok-packet.ensures.items (i.told t)) in
+    let i = c.loop-feed.invariant.walk in
+    let n = c.loop-feed.number in
+    let mid = g.F.PacketFeed.feed c.loop-feed.feed in
+    let shown = g.F.PacketFeed.feed c.peek.new.self in
+    let e = c.in_ok-peek.ensures in
     let line = packet_line c.args.form c.args.most in
-    Prints-end (plan_of line n) _ _ _ _ mid shown (plan_of-is line n) (i.text t) w (i.refusal_same t) shows
+    Prints-end (plan_of line n) _ _ _ _ mid shown (plan_of-is line n) (i.text t) w (i.refusal_same t)
+    (found-end mid shown (g.met.F.PacketFeed.lawful c.peek.new.self) (e.keeps.told (i.told t))
+    (e.items (i.told t)) (rw c.if-branch.false at e.answer))
 
-pub returns-in_err-packet-clause-walks : goal.returns-in_err-packet-clause-walks
-returns-in_err-packet-clause-walks g c = grind (arith, err_from_is_err_and, Walks-fault)
+pub returns-in_err-peek-clause-walks : goal.returns-in_err-peek-clause-walks
+returns-in_err-peek-clause-walks g c =
+    let p = err_from_is_err_and c.from_residual.result c.from_residual.ensures.1 in
+    rw (p.1, p.2) (Walks-fault _ _ _ c.in_err-peek.field-0.0 c.loop-feed.invariant.went
+    (found-no-packet c.in_err-peek.field-0.0 (g.F.PacketFeed.feed c.loop-feed.feed)
+    (g.F.PacketFeed.feed c.peek.new.self) c.in_err-peek.ensures.answer))
 
 pub returns-in_err-put_packet-clause-walks : goal.returns-in_err-put_packet-clause-walks
-returns-in_err-put_packet-clause-walks g c = grind (arith, err_from_is_err_and, Walks-stop)
+returns-in_err-put_packet-clause-walks g c =
+    let mid = g.F.PacketFeed.feed c.loop-feed.feed in
+    let shown = g.F.PacketFeed.feed c.peek.new.self in
+    let gives : GivesPacket mid (Ok (Some c.packet-packet.result.now)) shown =
+    found-packet mid shown c.packet-packet.result.now (rw c.if-branch.true at c.in_ok-peek.ensures.answer)
+    c.packet-packet.ensures.packet in
+    grind (arith, err_from_is_err_and, Walks-stop, gives)
 
 pub returns-clause-walks : goal.returns-clause-walks
-returns-clause-walks g c = grind (arith, Walks-end)
+returns-clause-walks g c =
+    Walks-end _ _ _ c.loop-feed.invariant.went (rw c.if-branch.false at c.in_ok-peek.ensures.answer)
 
-pub returns-in_err-packet-clause-memory : goal.returns-in_err-packet-clause-memory
-returns-in_err-packet-clause-memory g c = grind (arith, err_from_is_err_and, memory-asked)
+pub returns-in_err-peek-clause-memory : goal.returns-in_err-peek-clause-memory
+returns-in_err-peek-clause-memory g c = grind (arith, err_from_is_err_and, memory-found)
 
 pub returns-in_err-put_packet-clause-memory : goal.returns-in_err-put_packet-clause-memory
 returns-in_err-put_packet-clause-memory g c =

@@ -3,8 +3,8 @@ use Rattle.cap_commands.specs.ListText.{packet_line}
 use Rattle.cap_commands.proofs.list.list_packets.Given as goal
 
 -- the lines of the packets that were given are written, and those of the others are to be
-abbrev pub invariant-loop-packet : goal.invariant-loop-packet
-invariant-loop-packet g l =
+abbrev pub invariant-loop-feed : goal.invariant-loop-feed
+invariant-loop-feed g l =
     Listing (packet_line l.fn.form l.fn.most) (g.F.PacketFeed.feed l.fn.feed) (g.F.PacketFeed.feed l.feed)
     (g.W.Device.has_failed l.fn.writer) (g.W.Device.has_failed l.writer)
     (record {
@@ -21,5 +21,5 @@ invariant-loop-packet g l =
     })
     l.number
 
-abbrev pub decreases-loop-packet : goal.decreases-loop-packet
-decreases-loop-packet g l = (g.F.PacketFeed.feed l.feed).left
+abbrev pub decreases-loop-feed : goal.decreases-loop-feed
+decreases-loop-feed g l = (g.F.PacketFeed.feed l.feed).left
