@@ -42,16 +42,26 @@ nothing_ignored = record { time = false; link = false; original = false }
 abbrev pub default_options : DiffOptions
 default_options = record { ignored = nothing_ignored; form = Text; most = 16 }
 
--- in which of five things two packets differ: link type, exact time, captured length, original length, captured bytes;
--- what is ignored doesn't count
-abbrev pub differences_of : Ignored → Compared → Compared → Differences
-differences_of ignored a b =
+-- in which of five things two packets differ: link type, exact time, captured length, original length, captured bytes
+abbrev pub differences_of : Compared → Compared → Differences
+differences_of a b =
     record {
-      link = not ignored.link && not (a.meta.interface.link == b.meta.interface.link);
-      time = not ignored.time && not (is_same_time (meta_time a.meta) (meta_time b.meta));
+      link = not (a.meta.interface.link == b.meta.interface.link);
+      time = not (is_same_time (meta_time a.meta) (meta_time b.meta));
       captured = not (a.meta.captured == b.meta.captured);
-      original = not ignored.original && not (a.meta.original == b.meta.original);
+      original = not (a.meta.original == b.meta.original);
       bytes = not (bytes_eq a.frame b.frame);
+    }
+
+-- the differences that count: those that aren't ignored
+abbrev pub counted : Ignored → Differences → Differences
+counted ignored it =
+    record {
+      link = not ignored.link && it.link;
+      time = not ignored.time && it.time;
+      captured = it.captured;
+      original = not ignored.original && it.original;
+      bytes = it.bytes;
     }
 
 -- they differ in one of these at least
@@ -94,8 +104,8 @@ compared ignored n (packet meta frame ∷ xs) (refused r ∷ ys) = stopped_by r
 compared ignored n (packet meta frame ∷ xs) [] =
     other_packet (n + 1) (Some (record { meta = meta; frame = frame })) None
 compared ignored n (packet meta frame ∷ xs) (packet other bytes ∷ ys) =
-    (if do_differ
-    (differences_of ignored (record { meta = meta; frame = frame }) (record { meta = other; frame = bytes }))
+    (if do_differ (counted ignored
+    (differences_of (record { meta = meta; frame = frame }) (record { meta = other; frame = bytes })))
     then other_packet (n + 1) (Some (record { meta = meta; frame = frame }))
     (Some (record { meta = other; frame = bytes }))
     else compared ignored (n + 1) xs ys)
@@ -121,7 +131,7 @@ words_of it = chosen
 
 -- in what two packets differ; of one whose counterpart is missing, that the other file has ended
 abbrev pub difference_words : Ignored → Option Compared → Option Compared → List (List ℕ)
-difference_words ignored (Some a) (Some b) = words_of (differences_of ignored a b)
+difference_words ignored (Some a) (Some b) = words_of (counted ignored (differences_of a b))
 difference_words ignored (Some a) None = codes "end" ∷ []
 difference_words ignored None other = codes "end" ∷ []
 

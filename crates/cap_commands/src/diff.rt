@@ -9,11 +9,11 @@ ghost use Rattle.cap_source.specs.Feed.{FeedKeeps, IsPacket};
 ghost use Rattle.cap_source.specs.ReadFaults.{FailsOf};
 ghost use Rattle.cap_source.specs.inner.Walk.{GivesPacket, ShowsItem};
 ghost use Rattle.cap_source.specs.Times.{meta_time};
-ghost use Rattle.cap_commands.specs.DiffText.{TellsDiff, before_side, compared, comparison_of, data_place};
-ghost use Rattle.cap_commands.specs.DiffText.{default_options, diff_text_in, difference_line, difference_words};
-ghost use Rattle.cap_commands.specs.DiffText.{differences_of, do_differ, first_difference, is_same, is_same_time};
-ghost use Rattle.cap_commands.specs.DiffText.{no_side, nothing_ignored, other_packet, packet_side, place_of, row_of};
-ghost use Rattle.cap_commands.specs.DiffText.{shown_from, side_in, sides_in};
+ghost use Rattle.cap_commands.specs.DiffText.{TellsDiff, before_side, compared, comparison_of, counted};
+ghost use Rattle.cap_commands.specs.DiffText.{data_place, default_options, diff_text_in, difference_line};
+ghost use Rattle.cap_commands.specs.DiffText.{difference_words, differences_of, do_differ, first_difference, is_same};
+ghost use Rattle.cap_commands.specs.DiffText.{is_same_time, no_side, nothing_ignored, other_packet, packet_side};
+ghost use Rattle.cap_commands.specs.DiffText.{place_of, row_of, shown_from, side_in, sides_in};
 ghost use Rattle.cap_commands.specs.inner.DiffWalk.{FailsOne, KnowsPackets, Parts, are_alike, compared_of, given};
 ghost use Rattle.cap_commands.specs.inner.DiffWalk.{known_packet, parted};
 
@@ -67,31 +67,38 @@ fn is_same_time(first: Option<Stamp>, second: Option<Stamp>) -> bool
     }
 }
 
-// Whether something counts as a difference: it isn't ignored, and isn't the same.
-fn counts(is_ignored: bool, is_same: bool) -> bool
-    ensures { result ≡ (not is_ignored && not is_same) }
-{
-    !is_ignored && !is_same
-}
-
-// In what two packets with these captured bytes differ, but for what is ignored.
+// In what two packets with these captured bytes differ.
 #[inline(always)]
-fn differences_of(
-    ignored: Ignored,
-    first: &Meta,
-    frame: &[u8],
-    second: &Meta,
-    bytes: &[u8],
-) -> Differences
-    ensures { result ≡ differences_of ignored (record { meta = first.now; frame = frame.now })
+fn differences_of(first: &Meta, frame: &[u8], second: &Meta, bytes: &[u8]) -> Differences
+    ensures { result ≡ differences_of (record { meta = first.now; frame = frame.now })
         (record { meta = second.now; frame = bytes.now }) }
 {
     Differences {
-        link: counts(ignored.link, first.interface.link == second.interface.link),
-        time: counts(ignored.time, is_same_time(first.time(), second.time())),
+        link: first.interface.link != second.interface.link,
+        time: !is_same_time(first.time(), second.time()),
         captured: first.captured != second.captured,
-        original: counts(ignored.original, first.original == second.original),
+        original: first.original != second.original,
         bytes: frame != bytes,
+    }
+}
+
+// Whether a difference counts.
+fn counts(is_ignored: bool, is_so: bool) -> bool
+    ensures { result ≡ (not is_ignored && is_so) }
+{
+    !is_ignored && is_so
+}
+
+// The differences that count.
+fn counted(ignored: Ignored, it: Differences) -> Differences
+    ensures { result ≡ counted ignored it }
+{
+    Differences {
+        link: counts(ignored.link, it.link),
+        time: counts(ignored.time, it.time),
+        captured: it.captured,
+        original: counts(ignored.original, it.original),
+        bytes: it.bytes,
     }
 }
 
@@ -113,6 +120,17 @@ fn do_differ(it: Differences) -> bool
     ensures { result ≡ do_differ it }
 {
     it.link || it.time || it.captured || it.original || it.bytes
+}
+
+// Whether they differ in one of these that counts. Most packets are the same in all, which is seen first.
+#[inline(always)]
+fn do_count(ignored: Ignored, it: Differences) -> bool
+    ensures { result ≡ do_differ (counted ignored it) }
+{
+    if do_differ(it) {
+        return do_differ(counted(ignored, it));
+    }
+    false
 }
 
 // Where two feeds are no longer the same: after how many packets, and which packet each of them has there.
@@ -154,7 +172,8 @@ fn is_alike<F: PacketFeed>(ignored: Ignored, first: &F, one: bool, second: &F, o
     if one {
         if other {
             let (a, b) = (first.packet(), second.packet());
-            return !do_differ(differences_of(ignored, a, first.frame(), b, second.frame()));
+            let it = differences_of(a, first.frame(), b, second.frame());
+            return !do_count(ignored, it);
         }
     }
     false
@@ -374,8 +393,8 @@ fn head_line<F: PacketFeed>(
         Some(one) => match divergence.second {
             None => end_line(form, n),
             Some(other) => {
-                let it = differences_of(ignored, &one, first.frame(), &other, second.frame());
-                differ_line(form, n, it, place)
+                let it = differences_of(&one, first.frame(), &other, second.frame());
+                differ_line(form, n, counted(ignored, it), place)
             }
         },
     }

@@ -50,7 +50,7 @@ passed a b c d e h = grind arith
 
 -- two packets do not differ if they are the same
 pub unlike : (m o : Meta) (f g : List ℕ) → IsSamePacket m o f g
-    → do_differ (differences_of nothing_ignored (record { meta = m; frame = f }) (record { meta = o; frame = g }))
+    → do_differ (differences_of (record { meta = m; frame = f }) (record { meta = o; frame = g }))
     ≡ false
 unlike m o f g same =
     let link = (Decides-eqb m.interface.link o.interface.link).1 same.link in
@@ -62,7 +62,7 @@ unlike m o f g same =
 
 -- and are the same if they do not differ
 pub like : (m o : Meta) (f g : List ℕ)
-    → do_differ (differences_of nothing_ignored (record { meta = m; frame = f }) (record { meta = o; frame = g }))
+    → do_differ (differences_of (record { meta = m; frame = f }) (record { meta = o; frame = g }))
     ≡ false
     → IsSamePacket m o f g
 like m o f g h =
@@ -104,7 +104,7 @@ unfolding compared
 same-compared n [] [] is = tt
 same-compared n (packet m f ∷ xs) (packet o g ∷ ys) is =
     let split = same_by
-    (do_differ (differences_of nothing_ignored (record { meta = m; frame = f }) (record { meta = o; frame = g })))
+    (do_differ (differences_of (record { meta = m; frame = f }) (record { meta = o; frame = g })))
     (other_packet (n + 1) (Some (record { meta = m; frame = f })) (Some (record { meta = o; frame = g })))
     (compared nothing_ignored (n + 1) xs ys) refl is in
     (like m o f g split.0, same-compared (n + 1) xs ys split.1)

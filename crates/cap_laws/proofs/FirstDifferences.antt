@@ -31,7 +31,7 @@ past-front n xs ys rest others all = grind arith
 -- where the comparison stops: the next two items aren't packets that are the same
 Stops : List Item → List Item → Type 0
 Stops (packet m f ∷ xs) (packet o g ∷ ys) =
-    do_differ (differences_of nothing_ignored (record { meta = m; frame = f }) (record { meta = o; frame = g })) ≡ true
+    do_differ (differences_of (record { meta = m; frame = f }) (record { meta = o; frame = g })) ≡ true
 Stops (packet m f ∷ xs) ys = ⊤
 Stops (refused r ∷ xs) ys = ⊤
 Stops [] ys = ⊤
@@ -60,7 +60,7 @@ at-once xs ys stops = record {
 }
 
 later : (m o : Meta) (f g : List ℕ) (xs ys : List Item) (b : Bool)
-    → do_differ (differences_of nothing_ignored (record { meta = m; frame = f }) (record { meta = o; frame = g })) ≡ b
+    → do_differ (differences_of (record { meta = m; frame = f }) (record { meta = o; frame = g })) ≡ b
     → Stopped xs ys → Stopped (packet m f ∷ xs) (packet o g ∷ ys)
 unfolding Stops
 later m o f g xs ys true e found = at-once (packet m f ∷ xs) (packet o g ∷ ys) e
@@ -102,12 +102,12 @@ said-there n (packet m f ∷ xs) (packet o g ∷ ys) stops =
     let differ = other_packet (n + 1) (Some a) (Some b) in
     subst (λ (c : Comparison). IsSaid n (packet m f ∷ xs) (packet o g ∷ ys) c)
     (sym
-    (taken_by (do_differ (differences_of nothing_ignored a b)) differ (compared nothing_ignored (n + 1) xs ys) stops))
+    (taken_by (do_differ (differences_of a b)) differ (compared nothing_ignored (n + 1) xs ys) stops))
     (refl, (xs, refl), (ys, refl), λ same. false≢true (sym (unlike m o f g same) ∙ stops))
 
 -- two packets that aren't the same differ
-differ-by : (a b : Compared) (x : Bool) → do_differ (differences_of nothing_ignored a b) ≡ x
-    → (IsSamePacket a.meta b.meta a.frame b.frame → ⊥) → do_differ (differences_of nothing_ignored a b) ≡ true
+differ-by : (a b : Compared) (x : Bool) → do_differ (differences_of a b) ≡ x
+    → (IsSamePacket a.meta b.meta a.frame b.frame → ⊥) → do_differ (differences_of a b) ≡ true
 differ-by a b true e other = e
 differ-by a b false e other = absurd (other (like a.meta b.meta a.frame b.frame e))
 

@@ -72,7 +72,7 @@ pub record Names (a b : Compared) (it : Differences) : Type 0 where
   pub bytes : IsTrue it.bytes ↔ (a.frame ≢ b.frame)
 
 abbrev pub DifferencesNamed : Type 0
-DifferencesNamed = (a b : Compared) → Names a b (differences_of nothing_ignored a b)
+DifferencesNamed = (a b : Compared) → Names a b (differences_of a b)
 
 -- Two lists of bytes differ first at a place, counted from 0: the bytes before it are the same in both, and the bytes
 -- at it aren't, or only one of the lists has a byte there.
