@@ -9,6 +9,7 @@ mod DiffsBut
 mod InOrder
 mod JoinedByPlaces
 mod JoinedUnits
+mod JsonLines
 mod LikePieces
 mod LikeReports
 mod LikeUnits

@@ -7,6 +7,7 @@ pub mod Forms
 pub mod InOrder
 pub mod JoinedByPlaces
 pub mod JoinedUnits
+pub mod JsonLines
 pub mod MergeSorts
 pub mod Reports
 pub mod Rounds

@@ -7,6 +7,7 @@ ghost use Rattle.cap_laws.specs.Forms.{BodyParts, PcapReport};
 ghost use Rattle.cap_laws.specs.InOrder.{ByPlaces, ReportByPlaces};
 ghost use Rattle.cap_laws.specs.JoinedByPlaces.{JoinedByPlaces};
 ghost use Rattle.cap_laws.specs.JoinedUnits.{JoinedUnits};
+ghost use Rattle.cap_laws.specs.JsonLines.{IsObjectLine, LinesReadBack, ObjectsReadBack};
 ghost use Rattle.cap_laws.specs.MergeSorts.{MergeSorts, RunSorts, SortsOnce};
 ghost use Rattle.cap_laws.specs.Reports.{MergedReport, PcapngReport, RuleLaw};
 ghost use Rattle.cap_laws.specs.Rounds.{RoundsInBytes};
@@ -152,6 +153,15 @@ pub fn report_totals()
 pub fn report_sums()
     ensures sums { ReportSums }
     ensures alone { LoneClasses }
+{}
+
+/// A line that is printed with `--json` of a capture is the text of an object of JSON (RFC 8259) whose members are the
+/// line's kind and its facts (`object`); no two objects have one text (`objects`); so a line says its facts, and two
+/// lines with one text say the same (`lines`).
+pub fn json_lines()
+    ensures object { IsObjectLine }
+    ensures objects { ObjectsReadBack }
+    ensures lines { LinesReadBack }
 {}
 
 /// Each packet has one class, and the seven counts add up to the number of packets.
