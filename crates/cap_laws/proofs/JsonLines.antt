@@ -111,10 +111,10 @@ string-split : (t u r s : List ℕ) → IsBare t → IsBare u → string_then t 
 string-split t u r s b c e = bare-split t u r s b c (ap (drop 1) e)
 
 -- what comes after a number doesn't begin with a digit
-Stops : List ℕ → Type 0
+pub Stops : List ℕ → Type 0
 Stops rest = (c : ℕ) (cs : List ℕ) → rest ≡ c ∷ cs → digit_value c < 10 → ⊥
 
-stops-at : (c : ℕ) (cs : List ℕ) → (digit_value c < 10 → ⊥) → Stops (c ∷ cs)
+pub stops-at : (c : ℕ) (cs : List ℕ) → (digit_value c < 10 → ⊥) → Stops (c ∷ cs)
 unfolding Stops first
 stops-at c cs other d ds e is = other (subst (λ k. digit_value k < 10) (sym (ap first e)) is)
 
@@ -137,7 +137,7 @@ digits-split (d ∷ ds) (f ∷ es) r s b c p q e =
     let k = digits-split ds es r s b.1 c.1 p q (ap (drop 1) e) in
     ((λ i. ap first e i ∷ k.0 i), k.1)
 
-decimal-split : (m n : ℕ) (r s : List ℕ) → m < 10 ^ 64 → n < 10 ^ 64 → Stops r → Stops s
+pub decimal-split : (m n : ℕ) (r s : List ℕ) → m < 10 ^ 64 → n < 10 ^ 64 → Stops r → Stops s
     → decimal m ++ r ≡ decimal n ++ s → (m ≡ n) × (r ≡ s)
 decimal-split m n r s a b p q e =
     let k = decimal_is_IsNumeral_wide m a in
@@ -162,7 +162,7 @@ not-number (negsuc n) r c small minus digit e = minus e
 no-digit : digit_value 45 < 10 → ⊥
 no-digit is = omega (arith, is)
 
-signed-split : (m n : ℤ) (r s : List ℕ) → nat_abs m < 10 ^ 64 → nat_abs n < 10 ^ 64 → Stops r → Stops s
+pub signed-split : (m n : ℤ) (r s : List ℕ) → nat_abs m < 10 ^ 64 → nat_abs n < 10 ^ 64 → Stops r → Stops s
     → signed_decimal m ++ r ≡ signed_decimal n ++ s → (m ≡ n) × (r ≡ s)
 unfolding first
 signed-split (pos m) (pos n) r s a b p q e =

@@ -2,6 +2,7 @@ mod Alike
 mod CheckedPackets
 mod Diffs
 mod DigestLaws
+mod ExactTimes
 mod FileNumbers
 mod FirstDifferences
 mod DataPlaces

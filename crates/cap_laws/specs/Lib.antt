@@ -2,6 +2,7 @@ pub mod again
 pub mod CheckedPackets
 pub mod Diffs
 pub mod Digests
+pub mod ExactTimes
 pub mod FirstDifferences
 pub mod Forms
 pub mod InOrder

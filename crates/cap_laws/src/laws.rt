@@ -2,6 +2,7 @@
 ghost use Rattle.std.specs.Prelude.{List};
 ghost use Rattle.cap_laws.specs.CheckedPackets.{CheckedByPlaces};
 ghost use Rattle.cap_laws.specs.Diffs.{SameAsConverted, SameButIgnored, SameExactly};
+ghost use Rattle.cap_laws.specs.ExactTimes.{TimesReadBack};
 ghost use Rattle.cap_laws.specs.FirstDifferences.{DifferencePlaced, DifferencesNamed, FirstDifference};
 ghost use Rattle.cap_laws.specs.Forms.{BodyParts, PcapReport};
 ghost use Rattle.cap_laws.specs.InOrder.{ByPlaces, ReportByPlaces};
@@ -162,6 +163,12 @@ pub fn json_lines()
     ensures object { IsObjectLine }
     ensures objects { ObjectsReadBack }
     ensures lines { LinesReadBack }
+{}
+
+/// The exact text of a time says its seconds, its numerator and its denominator: no two times have one text, and none has
+/// that of no time.
+pub fn exact_times()
+    ensures { TimesReadBack }
 {}
 
 /// Each packet has one class, and the seven counts add up to the number of packets.
