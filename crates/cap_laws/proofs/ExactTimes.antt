@@ -1,12 +1,13 @@
 -- The text of a time is read back.
-use Rattle.std.proofs.Common.{◌≡◌, ◌<◌, ℕ, List, [], ◌∷◌, ◌++◌, drop, length, refl, sym, ap, ◌∙◌, arith, append_assoc, Some, None}
-use Rattle.std.proofs.Common.{length-append, suc}
-use Rattle.std.specs.Prelude.{codes, decimal, pos, negsuc}
+use Rattle.std.proofs.Common.{◌≡◌, ℕ, List, [], ◌∷◌, ◌++◌, drop, length, refl, sym, ap, ◌∙◌, arith}
+use Rattle.std.proofs.Common.{append_assoc, Some, None}
+use Rattle.std.proofs.Common.{length-append}
+use Rattle.std.specs.Prelude.{codes, decimal}
 use Rattle.std.specs.Fmt.{signed_decimal}
 use Rattle.cap_print.specs.Times.{time_text}
 use Rattle.cap_time.specs.Time.{Printed}
 use Rattle.cap_laws.proofs.JsonLines.{Stops, decimal-split, signed-split, stops-at}
-use Rattle.cap_laws.specs.ExactTimes.{TimeFits, TimesReadBack}
+use Rattle.cap_laws.specs.ExactTimes.{TimesReadBack}
 
 -- the text with what follows each number
 spread : (time : Printed)
