@@ -9,7 +9,10 @@ use Rattle.cap_bytes.specs.declared.faults.Tail.{Tail}
 use Rattle.cap_digest.proofs.Injective.{SameHead, head-bytes, head-some, text-alike}
 use Rattle.cap_digest.proofs.Times.{canonical-same, same-canonical}
 use Rattle.cap_digest.specs.Canonical.{canonical_form, canonical_text, canonical_head}
-use Rattle.cap_digest.specs.DigestText.{digest_facts, digest_line}
+use Rattle.cap_digest.specs.DigestText.{digest_facts, digest_line, digest_text}
+use Rattle.cap_bytes.specs.declared.faults.Tail.TheVariants.{Refuse}
+use Rattle.cap_laws.proofs.NeverCut.{never-cut}
+use Rattle.std.specs.Prelude.{if◌then◌else◌, is_none, false}
 use Rattle.cap_laws.proofs.FileNumbers.{file-numbered}
 use Rattle.cap_laws.proofs.Twins.{IsTwin, TwinItems, twins}
 use Rattle.cap_laws.specs.Diffs.{SameExactly}
@@ -20,7 +23,7 @@ use Rattle.cap_print.specs.Facts.{line_in}
 use Rattle.cap_print.specs.declared.forms.Form.{Form}
 use Rattle.cap_source.proofs.Fields.{fields_fit-law}
 use Rattle.cap_source.specs.Feed.{Item, packet, refused, refusal_of}
-use Rattle.cap_source.specs.Items.{file_first, file_items}
+use Rattle.cap_source.specs.Items.{file_ending, file_first, file_items}
 use Rattle.cap_source.specs.Times.{meta_time}
 use Rattle.cap_source.specs.inner.Fields.{ItemFits}
 use Rattle.cap_bytes.specs.declared.formats.Format.TheVariants.{Pcap, Pcapng}
@@ -202,16 +205,43 @@ same-files tail tail_again number bytes again h =
           ∙ same-line form number was_cut xs ys alike),
     )
 
+-- of one that isn't refused, and of which no end is dropped, that line is printed
+printed-line : (form : Form) (number : ℕ) (again : List ℕ) → refusal_of (file_items Refuse number again) ≡ None
+    → digest_text form Refuse number again ≡ digest_line form number (file_items Refuse number again) false
+printed-line form number again none =
+    ap (λ r. if is_none r then digest_line form number (file_items Refuse number again)
+    (file_ending Refuse number again).ending.was_cut else []) none
+    ∙ ap (digest_line form number (file_items Refuse number again)) (never-cut number again)
+
+-- both
+both-lines : (tail tail_again : Tail) (number : ℕ) (bytes again : List ℕ)
+    → AllZip SamePackets (file_items tail 1 bytes) (file_items tail_again 1 again)
+    → AllZip SamePackets (file_items tail 1 bytes) (file_items Refuse 1 again)
+    → (refusal_of (file_items tail_again number again) ≡ None)
+    × ((form : Form) (was_cut : Bool)
+    → digest_line form number (file_items tail_again number again) was_cut
+    ≡ digest_line form number (file_items tail number bytes) was_cut)
+    × ((form : Form)
+    → digest_text form Refuse number again ≡ digest_line form number (file_items tail number bytes) false)
+both-lines tail tail_again number bytes again h k =
+    let one = same-files tail tail_again number bytes again h in
+    let whole = same-files tail Refuse number bytes again k in (
+      one.0,
+      one.1,
+      λ form. printed-line form number again whole.0 ∙ whole.1 form false,
+    )
+
 pub converted-digest : PcapngAgain → PcapAgain → DigestOfConverted
 converted-digest pcapng pcap Pcapng order tail tail_again bytes are none short number =
     let first = file_first tail 1 bytes in
     let items = file_items tail 1 bytes in
     let text = pcapng_bytes order 1 first items in
+    let same : (tail_again : Tail) → AllZip SamePackets items (file_items tail_again 1 text) = λ tail_again.
     let again = pcapng order tail tail_again 1 1 bytes are short in
-    same-files tail tail_again number bytes text
-    (twins-same items (file_items tail_again 1 text)
+    twins-same items (file_items tail_again 1 text)
     (twins (first_origins 1 first) (first_origins 1 first) items (file_items tail_again 1 text) none again.1
-    (sym again.0)))
+    (sym again.0)) in
+    both-lines tail tail_again number bytes text (same tail_again) (same Refuse)
 converted-digest pcapng pcap Pcap order tail tail_again bytes are none short number =
-    same-files tail tail_again number bytes (pcap_bytes order (file_first tail 1 bytes) (file_items tail 1 bytes))
-    ((pcap order tail tail_again 1 1 bytes are).1 none short)
+    both-lines tail tail_again number bytes (pcap_bytes order (file_first tail 1 bytes) (file_items tail 1 bytes))
+    ((pcap order tail tail_again 1 1 bytes are).1 none short) ((pcap order tail Refuse 1 1 bytes are).1 none short)

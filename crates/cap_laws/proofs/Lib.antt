@@ -15,6 +15,7 @@ mod LikePieces
 mod LikeReports
 mod LikeUnits
 mod MergeSorts
+mod NeverCut
 mod OneFile
 mod PcapWritten
 mod Rounds

@@ -1,11 +1,12 @@
 -- What the canonical text of packets, and so a digest, says of them, and what stays of it when a file is converted.
-use Rattle.std.specs.Prelude.{◌≡◌, ◌↔◌, ◌≤◌, ◌^◌, ℕ, Bool, List, length, None, IsTrue}
+use Rattle.std.specs.Prelude.{◌≡◌, ◌↔◌, ◌≤◌, ◌^◌, ℕ, Bool, false, List, length, None, IsTrue}
 use Rattle.std.specs.List.{AllByRecursion, AllZip}
 use Rattle.cap_blocks.specs.Split.{AreBytes}
 use Rattle.cap_bytes.specs.declared.faults.Tail.{Tail}
+use Rattle.cap_bytes.specs.declared.faults.Tail.TheVariants.{Refuse}
 use Rattle.cap_bytes.specs.declared.numbers.Order.{Order}
 use Rattle.cap_digest.specs.Canonical.{canonical_text}
-use Rattle.cap_digest.specs.DigestText.{digest_line}
+use Rattle.cap_digest.specs.DigestText.{digest_line, digest_text}
 use Rattle.cap_laws.specs.again.Laws.{SamePackets}
 use Rattle.cap_print.specs.declared.forms.Form.{Form}
 use Rattle.cap_source.specs.Feed.{Item, refusal_of}
@@ -42,7 +43,8 @@ SameAsDiff =
 
 -- What `convert` writes of any file, in either format and byte order, is a capture that isn't refused, and has the
 -- digest line of the file, under every number and in either form, but for whether a cut end was dropped; if nothing is
--- refused of the file and at most 2^40 bytes are written.
+-- refused of the file and at most 2^40 bytes are written. So its line is that of a file that wasn't cut, if no end is
+-- to be dropped of it.
 abbrev pub DigestOfConverted : Type 0
 DigestOfConverted =
     (format : Format) (order : Order) (tail tail_again : Tail) (bytes : List ℕ) → AreBytes bytes
@@ -52,3 +54,6 @@ DigestOfConverted =
     × ((form : Form) (was_cut : Bool)
     → digest_line form number (file_items tail_again number (convert_text format order tail bytes)) was_cut
     ≡ digest_line form number (file_items tail number bytes) was_cut)
+    × ((form : Form)
+    → digest_text form Refuse number (convert_text format order tail bytes)
+    ≡ digest_line form number (file_items tail number bytes) false)
