@@ -165,8 +165,8 @@ pub fn json_lines()
     ensures lines { LinesReadBack }
 {}
 
-/// The exact text of a time says its seconds, its numerator and its denominator: no two times have one text, and none has
-/// that of no time.
+/// The exact text of a time says its seconds, its numerator and its denominator: no two times have one text, and none
+/// has that of no time.
 pub fn exact_times()
     ensures { TimesReadBack }
 {}
