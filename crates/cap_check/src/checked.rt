@@ -141,7 +141,8 @@ impl Checked {
         requires backward { self.old.backward < 2 ^ 45 }
         requires untimed { self.old.untimed < 2 ^ 45 }
         requires truncated { self.old.truncated < 2 ^ 45 }
-        ensures { self.new ≡ with_checked self.old meta.now }
+        ensures counts { self.new ≡ with_checked self.old meta.now }
+        ensures order { are_least_first self.new.first self.new.last ≡ true }
     {
         self.packets += 1;
         self.bytes += u128::from(meta.original);

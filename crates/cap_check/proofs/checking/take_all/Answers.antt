@@ -57,7 +57,7 @@ loop-meta-preserved g c =
       taking = Taking-more (capture_feed c.args.capture.now) (capture_feed mid) (capture_feed shown)
           (capture_feed new) c.loop-meta.checked c.in-Some.meta i.taking c.in_ok-meta.ensures.keeps
           (λ t. rw c.in-Some.is at (c.in_ok-meta.ensures.items t)) c.pass.ensures.passes c.pass.ensures.keeps
-          (search rules) c.take.new.self c.take.ensures;
+          (search rules) c.take.new.self c.take.ensures.counts;
       unknown = c.pass.ensures.passes.known;
       told = λ t. told-kept mid.reader new.reader (progress_of mid.reached) (progress_of new.reached) keeps.told
           (i.told t);
@@ -65,7 +65,7 @@ loop-meta-preserved g c =
           Reaching-more (capture_fronts c.args.capture.now) (capture_fronts mid) (capture_fronts shown)
           (capture_fronts new) c.loop-meta.checked c.take.new.self c.in-Some.meta (i.reaching t)
           (rw c.in-Some.is at (c.in_ok-meta.ensures.fronts (i.told t) i.unknown)) c.pass.ensures.fronts
-          c.take.ensures;
+          c.take.ensures.counts;
     }
 
 pub returns-clause-counts : goal.returns-clause-counts
