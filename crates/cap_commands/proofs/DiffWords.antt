@@ -5,7 +5,7 @@ use Rattle.std.specs.Prelude.{◌||◌}
 use Rattle.std.proofs.Math.Bool.{or-false}
 use Rattle.cap_print.specs.declared.forms.Form.TheVariants.{Json, Text}
 use Rattle.cap_commands.proofs.Pieces.{joined, joined-more}
-use Rattle.cap_commands.specs.DiffText.{chosen, difference_line, place_in, quoted, spaced, words_of}
+use Rattle.cap_commands.specs.DiffText.{chosen, data_place_in, difference_line, quoted, spaced, words_of}
 use Rattle.cap_commands.specs.inner.DiffWords.{quoted_if}
 use Rattle.cap_commands.specs.declared.diff.Differences.{Differences}
 
@@ -44,10 +44,10 @@ spaced-words it =
 
 -- the first line of a difference in text, part by part
 pub text-line : (n : ℕ) (it : Differences) (place : Option ℕ)
-    → codes "differ packet " ++ (decimal n ++ joined (spaced_parts it) (place_in Text place (codes "\n")))
+    → codes "differ packet " ++ (decimal n ++ joined (spaced_parts it) (data_place_in Text place (codes "\n")))
     ≡ difference_line Text n (words_of it) place
 text-line n it place =
-    let end = place_in Text place (codes "\n") in
+    let end = data_place_in Text place (codes "\n") in
     rw (spaced-words it)
     (ap (λ l. codes "differ packet " ++ l)
     (ap (λ l. decimal n ++ l) (joined-more (spaced_parts it) [] end)
@@ -110,11 +110,11 @@ quoted-words it =
 -- the first line of a difference in JSON, part by part
 pub json-line : (n : ℕ) (it : Differences) (place : Option ℕ)
     → codes "{\"type\":\"differ\",\"packet\":" ++ (decimal n ++ (codes ",\"differs\":["
-    ++ joined (quoted_parts it) (codes "]" ++ place_in Json place (codes "}\n"))))
+    ++ joined (quoted_parts it) (codes "]" ++ data_place_in Json place (codes "}\n"))))
     ≡ difference_line Json n (words_of it) place
 json-line n it place =
     let words = joined (quoted_parts it) [] in
-    let end = codes "]" ++ place_in Json place (codes "}\n") in
+    let end = codes "]" ++ data_place_in Json place (codes "}\n") in
     let before = codes ",\"differs\":[" in
     rw (quoted-words it)
     (ap (λ l. codes "{\"type\":\"differ\",\"packet\":" ++ l)

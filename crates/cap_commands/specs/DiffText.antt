@@ -54,8 +54,8 @@ differences_of a b =
     }
 
 -- the differences that count: those that aren't ignored
-abbrev pub counted : Ignored → Differences → Differences
-counted ignored it =
+abbrev pub counted_differences : Ignored → Differences → Differences
+counted_differences ignored it =
     record {
       link = not ignored.link && it.link;
       time = not ignored.time && it.time;
@@ -86,9 +86,9 @@ data_place (Some a) None = None
 data_place None other = None
 
 -- the first byte of the row of 16 bytes in which a place is; of no place, the first of all
-abbrev pub row_of : Option ℕ → ℕ
-row_of None = 0
-row_of (Some place) = place / 16 * 16
+abbrev pub row_start : Option ℕ → ℕ
+row_start None = 0
+row_start (Some place) = place / 16 * 16
 
 -- What two captures are to each other: the same packets, so many; or which is the first, from number 1, that isn't the
 -- same in both, with the packet of each, none if it has ended; or refused.
@@ -104,7 +104,7 @@ compared ignored n (packet meta frame ∷ xs) (refused r ∷ ys) = stopped_by r
 compared ignored n (packet meta frame ∷ xs) [] =
     other_packet (n + 1) (Some (record { meta = meta; frame = frame })) None
 compared ignored n (packet meta frame ∷ xs) (packet other bytes ∷ ys) =
-    (if do_differ (counted ignored
+    (if do_differ (counted_differences ignored
     (differences_of (record { meta = meta; frame = frame }) (record { meta = other; frame = bytes })))
     then other_packet (n + 1) (Some (record { meta = meta; frame = frame }))
     (Some (record { meta = other; frame = bytes }))
@@ -131,7 +131,7 @@ words_of it = chosen
 
 -- in what two packets differ; of one whose counterpart is missing, that the other file has ended
 abbrev pub difference_words : Ignored → Option Compared → Option Compared → List (List ℕ)
-difference_words ignored (Some a) (Some b) = words_of (counted ignored (differences_of a b))
+difference_words ignored (Some a) (Some b) = words_of (counted_differences ignored (differences_of a b))
 difference_words ignored (Some a) None = codes "end" ∷ []
 difference_words ignored None other = codes "end" ∷ []
 
@@ -154,19 +154,19 @@ same_line form n = line_in form (record {
 })
 
 -- where the captured bytes differ, if they do, and then the rest of a line in a form
-abbrev pub place_in : Form → Option ℕ → List ℕ → List ℕ
-place_in form None rest = rest
-place_in form (Some place) rest =
+abbrev pub data_place_in : Form → Option ℕ → List ℕ → List ℕ
+data_place_in form None rest = rest
+data_place_in form (Some place) rest =
     fact_in form (record { label = codes " at "; key = codes "data_at"; value = number place }) rest
 
 -- the first line of a difference in a form, at the packet of that number, with these words, of which `data` is the
 -- last, and the place at which the captured bytes differ
 abbrev pub difference_line : Form → ℕ → List (List ℕ) → Option ℕ → List ℕ
 difference_line Text n words place =
-    codes "differ packet " ++ decimal n ++ spaced words ++ place_in Text place (codes "\n")
+    codes "differ packet " ++ decimal n ++ spaced words ++ data_place_in Text place (codes "\n")
 difference_line Json n words place =
     codes "{\"type\":\"differ\",\"packet\":" ++ decimal n ++ codes ",\"differs\":[" ++ quoted words
-    ++ (codes "]" ++ place_in Json place (codes "}\n"))
+    ++ (codes "]" ++ data_place_in Json place (codes "}\n"))
 
 -- in JSON, from which byte on a packet's bytes are shown, if that isn't the first, and then the rest of the line
 abbrev pub from_json : ℕ → List ℕ → List ℕ
@@ -209,7 +209,7 @@ abbrev pub diff_text_in : DiffOptions → Comparison → List ℕ
 diff_text_in options (same_packets n) = same_line options.form n
 diff_text_in options (other_packet n a b) =
     difference_line options.form n (difference_words options.ignored a b) (data_place a b)
-    ++ sides_in options.form options.most n (row_of (data_place a b)) a b
+    ++ sides_in options.form options.most n (row_start (data_place a b)) a b
 diff_text_in options (stopped_by refusal) = []
 
 -- the refusal that is returned

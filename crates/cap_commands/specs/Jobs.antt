@@ -64,8 +64,8 @@ shown_by Text count = 16
 shown_by Json count = unwrap_or count 16
 
 -- the options of `diff`, by what is ignored, the form, and how many bytes are shown
-abbrev pub options_by : Ignored → Form → ℕ → DiffOptions
-options_by ignored form shown = record { ignored = ignored; form = form; most = shown }
+abbrev pub diff_options : Ignored → Form → ℕ → DiffOptions
+diff_options ignored form shown = record { ignored = ignored; form = form; most = shown }
 
 -- files of those bytes, with whether a read of each can fail
 abbrev pub opened_files : List Bool → List (List ℕ) → List (Option Opened)
@@ -90,7 +90,7 @@ DoesTask tasks.List ignored tail form shown order to fails files finding =
 DoesTask tasks.Blocks ignored tail form shown order to fails files finding =
     Prints (block_list_in form tail (only_of files)) (block_refusal tail (only_of files))
 DoesTask tasks.Diff ignored tail form shown order to fails files finding =
-    Tells (diff_text_in (options_by ignored form shown) (comparison_in ignored tail files))
+    Tells (diff_text_in (diff_options ignored form shown) (comparison_in ignored tail files))
     (diff_refusal (comparison_in ignored tail files))
 DoesTask tasks.Digest ignored tail form shown order to fails files finding =
     Prints (digests_text form tail files) (first_refusal tail 1 files)

@@ -9,11 +9,11 @@ ghost use Rattle.cap_source.specs.Feed.{FeedKeeps, IsPacket};
 ghost use Rattle.cap_source.specs.ReadFaults.{FailsOf};
 ghost use Rattle.cap_source.specs.inner.Walk.{GivesPacket, ShowsItem};
 ghost use Rattle.cap_source.specs.Times.{meta_time};
-ghost use Rattle.cap_commands.specs.DiffText.{TellsDiff, before_side, compared, comparison_of, counted};
+ghost use Rattle.cap_commands.specs.DiffText.{TellsDiff, before_side, compared, comparison_of, counted_differences};
 ghost use Rattle.cap_commands.specs.DiffText.{data_place, default_options, diff_text_in, difference_line};
 ghost use Rattle.cap_commands.specs.DiffText.{difference_words, differences_of, do_differ, first_difference, is_same};
 ghost use Rattle.cap_commands.specs.DiffText.{is_same_time, no_side, nothing_ignored, other_packet, packet_side};
-ghost use Rattle.cap_commands.specs.DiffText.{place_of, row_of, shown_from, side_in, sides_in};
+ghost use Rattle.cap_commands.specs.DiffText.{place_of, row_start, shown_from, side_in, sides_in};
 ghost use Rattle.cap_commands.specs.inner.DiffWalk.{FailsOne, KnowsPackets, Parts, are_alike, compared_of, given};
 ghost use Rattle.cap_commands.specs.inner.DiffWalk.{known_packet, parted};
 
@@ -90,8 +90,8 @@ fn counts(is_ignored: bool, is_so: bool) -> bool
 }
 
 // The differences that count.
-fn counted(ignored: Ignored, it: Differences) -> Differences
-    ensures { result ≡ counted ignored it }
+fn counted_differences(ignored: Ignored, it: Differences) -> Differences
+    ensures { result ≡ counted_differences ignored it }
 {
     Differences {
         link: counts(ignored.link, it.link),
@@ -125,10 +125,10 @@ fn do_differ(it: Differences) -> bool
 // Whether they differ in one of these that counts. Most packets are the same in all, which is seen first.
 #[inline(always)]
 fn do_count(ignored: Ignored, it: Differences) -> bool
-    ensures { result ≡ do_differ (counted ignored it) }
+    ensures { result ≡ do_differ (counted_differences ignored it) }
 {
     if do_differ(it) {
-        return do_differ(counted(ignored, it));
+        return do_differ(counted_differences(ignored, it));
     }
     false
 }
@@ -362,8 +362,8 @@ fn data_place<F: PacketFeed>(divergence: &Divergence, first: &F, second: &F) -> 
 }
 
 // The first byte of the row in which a place is.
-fn row_of(place: Option<usize>) -> usize
-    ensures { result ≡ row_of place }
+fn row_start(place: Option<usize>) -> usize
+    ensures { result ≡ row_start place }
 {
     match place {
         None => 0,
@@ -394,7 +394,7 @@ fn head_line<F: PacketFeed>(
             None => end_line(form, n),
             Some(other) => {
                 let it = differences_of(&one, first.frame(), &other, second.frame());
-                differ_line(form, n, counted(ignored, it), place)
+                differ_line(form, n, counted_differences(ignored, it), place)
             }
         },
     }
@@ -429,7 +429,7 @@ fn put_difference<F: PacketFeed, W: Sink>(
     );
     put_all(writer, line.as_slice())?;
     let shown = Shown {
-        from: row_of(place),
+        from: row_start(place),
         most: options.most,
     };
     put_sides(writer, options.form, n, shown, divergence, first, second)

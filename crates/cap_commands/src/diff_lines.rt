@@ -2,7 +2,8 @@
 ghost use Rattle.std.specs.Prelude.{◌≡◌, ◌+◌, ◌≤◌, ◌++◌, ◌∷◌, [], ◌||◌, codes, if◌then◌else◌, length, None};
 ghost use Rattle.cap_print.specs.Lines.{room_in, text_in};
 ghost use Rattle.cap_print.specs.declared.forms.Form.TheVariants.{Json, Text};
-ghost use Rattle.cap_commands.specs.DiffText.{before_side, difference_line, from_json, place_in, same_line, words_of};
+ghost use Rattle.cap_commands.specs.DiffText.{before_side, data_place_in, difference_line, from_json, same_line};
+ghost use Rattle.cap_commands.specs.DiffText.{words_of};
 ghost use Rattle.cap_commands.specs.inner.DiffWords.{quoted_if};
 
 use crate::diff::Differences;
@@ -43,7 +44,7 @@ fn either(first: bool, second: bool) -> bool
 // Puts where the captured bytes differ, if they do.
 fn put_place(line: &mut Line, form: Form, place: Option<usize>)
     requires { 31 ≤ room_in line.old }
-    ensures text { text_in line.new ≡ place_in form place (text_in line.old) }
+    ensures text { text_in line.new ≡ data_place_in form place (text_in line.old) }
     ensures room { room_in line.old ≤ room_in line.new + 31 }
 {
     if let Some(place) = place {

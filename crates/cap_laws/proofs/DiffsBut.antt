@@ -11,8 +11,8 @@ use Rattle.cap_source.specs.Feed.{Item, packet}
 use Rattle.cap_source.specs.Items.{file_items}
 use Rattle.cap_source.specs.Times.{meta_time}
 use Rattle.cap_source.specs.declared.packets.Meta.{Meta}
-use Rattle.cap_commands.specs.DiffText.{compared, counted, differences_of, do_differ, is_same, is_same_time}
-use Rattle.cap_commands.specs.DiffText.{other_packet}
+use Rattle.cap_commands.specs.DiffText.{compared, counted_differences, differences_of, do_differ, is_same}
+use Rattle.cap_commands.specs.DiffText.{is_same_time, other_packet}
 use Rattle.cap_laws.proofs.Diffs.{chosen_by, same_by, time-law}
 use Rattle.cap_laws.specs.Diffs.{IsSameBut, SameBut, SameButIgnored}
 
@@ -46,8 +46,8 @@ is-so false h = absurd (false≢true (sym h))
 
 -- two packets do not differ if they are the same but for what is ignored
 unlike-but : (ignored : Ignored) (m o : Meta) (f g : List ℕ) → IsSameBut ignored m o f g
-    → do_differ (counted ignored (differences_of (record { meta = m; frame = f }) (record { meta = o; frame = g })))
-    ≡ false
+    → do_differ (counted_differences ignored
+    (differences_of (record { meta = m; frame = f }) (record { meta = o; frame = g }))) ≡ false
 unlike-but ignored m o f g same =
     let link = no-difference ignored.link (m.interface.link == o.interface.link)
     (λ is. (Decides-eqb m.interface.link o.interface.link).1 (same.link is)) in
@@ -61,8 +61,8 @@ unlike-but ignored m o f g same =
 
 -- and are the same but for that if they do not differ
 like-but : (ignored : Ignored) (m o : Meta) (f g : List ℕ)
-    → do_differ (counted ignored (differences_of (record { meta = m; frame = f }) (record { meta = o; frame = g })))
-    ≡ false
+    → do_differ (counted_differences ignored
+    (differences_of (record { meta = m; frame = f }) (record { meta = o; frame = g }))) ≡ false
     → IsSameBut ignored m o f g
 like-but ignored m o f g h =
     let link = m.interface.link == o.interface.link in
@@ -87,8 +87,8 @@ compared-but ignored n (packet m f ∷ xs) (packet o g ∷ ys) all =
     let differ = other_packet (n + 1) (Some (record { meta = m; frame = f })) (Some (record { meta = o; frame = g })) in
     ap is_same
     (chosen_by
-    (do_differ (counted ignored (differences_of (record { meta = m; frame = f }) (record { meta = o; frame = g }))))
-    differ
+    (do_differ (counted_differences ignored
+    (differences_of (record { meta = m; frame = f }) (record { meta = o; frame = g })))) differ
     (compared ignored (n + 1) xs ys) (unlike-but ignored m o f g all.0))
     ∙ compared-but ignored (n + 1) xs ys all.1
 compared-but ignored n xs ys all = grind arith
@@ -100,7 +100,8 @@ unfolding compared
 but-compared ignored n [] [] is = tt
 but-compared ignored n (packet m f ∷ xs) (packet o g ∷ ys) is =
     let split = same_by
-    (do_differ (counted ignored (differences_of (record { meta = m; frame = f }) (record { meta = o; frame = g }))))
+    (do_differ (counted_differences ignored
+    (differences_of (record { meta = m; frame = f }) (record { meta = o; frame = g }))))
     (other_packet (n + 1) (Some (record { meta = m; frame = f })) (Some (record { meta = o; frame = g })))
     (compared ignored (n + 1) xs ys) refl is in
     (like-but ignored m o f g split.0, but-compared ignored (n + 1) xs ys split.1)

@@ -9,8 +9,8 @@ use Rattle.cap_source.specs.Feed.{Feed, HasFile, IsPacket}
 use Rattle.cap_source.specs.declared.feeds.Head.{Head}
 use Rattle.cap_source.specs.declared.feeds.Head.TheVariants as heads
 use Rattle.cap_source.specs.declared.packets.Meta.{Meta}
-use Rattle.cap_commands.specs.DiffText.{Compared, Comparison, counted, differences_of, do_differ, other_packet}
-use Rattle.cap_commands.specs.DiffText.{same_packets, stopped_by}
+use Rattle.cap_commands.specs.DiffText.{Compared, Comparison, counted_differences, differences_of, do_differ}
+use Rattle.cap_commands.specs.DiffText.{other_packet, same_packets, stopped_by}
 use Rattle.cap_commands.specs.declared.diff.Divergence.{Divergence}
 
 -- a packet with its captured bytes, if there is one
@@ -34,7 +34,7 @@ given (Err fault) known = Err fault
 abbrev pub are_alike : Ignored → Option Compared → Option Compared → Bool
 are_alike ignored None other = false
 are_alike ignored (Some a) None = false
-are_alike ignored (Some a) (Some b) = not (do_differ (counted ignored (differences_of a b)))
+are_alike ignored (Some a) (Some b) = not (do_differ (counted_differences ignored (differences_of a b)))
 
 -- the comparison, if those come after so many packets that are the same, and aren't the same
 abbrev pub parted : ℕ → Option Compared → Option Compared → Comparison

@@ -2,7 +2,7 @@ use Rattle.std.proofs.Common.{◌≡◌, ℕ, None, ◌∙◌, ap, subst}
 use Rattle.std.proofs.lemmas.Result.{err_from_is_err_and}
 use Rattle.cap_bytes.proofs.Putting.{Prints-head, Prints-behind}
 use Rattle.cap_bytes.specs.Printing.{Prints}
-use Rattle.cap_commands.specs.DiffText.{data_place, difference_line, difference_words, row_of, sides_in}
+use Rattle.cap_commands.specs.DiffText.{data_place, difference_line, difference_words, row_start, sides_in}
 use Rattle.cap_commands.specs.inner.DiffWalk.{compared_of}
 use Rattle.cap_commands.proofs.diff.put_difference.Goals as goal
 
@@ -15,7 +15,7 @@ returns-in_err-put_all-clause-text g c = λ w.
     let line = difference_line c.args.options.form c.args.n (difference_words c.args.options.ignored a b) in
     rw (p.1, p.2)
     (Prints-head None (g.W.Sink.held c.args.writer.now) (g.W.Sink.held c.put_all.new.writer) (line place)
-    (sides_in c.args.options.form c.args.options.most c.args.n (row_of place) a b) c.in_err-put_all.field-0.0
+    (sides_in c.args.options.form c.args.options.most c.args.n (row_start place) a b) c.in_err-put_all.field-0.0
     c.in_err-put_all.ensures.fault
     (rw (c.as_slice.ensures.value ∙ (c.head_line-line.ensures ∙ ap line c.data_place-place.ensures)) at
     (c.in_err-put_all.ensures.bytes w)))
@@ -28,9 +28,11 @@ returns-clause-text g c = λ w.
     let line = difference_line c.args.options.form c.args.n (difference_words c.args.options.ignored a b) in
     let mid = g.W.Sink.held c.put_all.new.writer in
     let new = g.W.Sink.held c.put_sides.new.writer in
-    let from_is : c.row_of.result ≡ row_of place = c.row_of.ensures ∙ ap row_of c.data_place-place.ensures in
+    let from_is : c.row_start.result ≡ row_start place =
+    c.row_start.ensures ∙ ap row_start c.data_place-place.ensures in
     let sides = λ (from : ℕ). sides_in c.args.options.form c.args.options.most c.args.n from a b in
-    Prints-behind None (g.W.Sink.held c.args.writer.now) mid new (line place) (sides (row_of place)) c.put_sides.result
+    Prints-behind None (g.W.Sink.held c.args.writer.now) mid new (line place) (sides (row_start place))
+    c.put_sides.result
     (rw (c.as_slice.ensures.value ∙ (c.head_line-line.ensures ∙ ap line c.data_place-place.ensures)) at
     (c.in_ok-put_all.ensures.bytes w))
     (subst (λ (from : ℕ). Prints {A = Unit {0}} (sides from) None mid c.put_sides.result new) from_is
