@@ -494,7 +494,7 @@ def list_(files):
 
 
 def differences(a, b, ignored=()):
-    """In what two packets differ, but for what is ignored; `end` if there is one of them."""
+    """In what two packets differ, apart from what is ignored; `end` if there is one of them."""
     if a is None or b is None:
         return ["end"]
     pairs = [("link", a.interface.link, b.interface.link), ("time", time_of(a), time_of(b)), ("captured", a.captured, b.captured),
@@ -510,7 +510,7 @@ def data_place(a, b):
 
 
 def first_difference(files, ignored=()):
-    """The number of the first packet that isn't the same in two files, but for what is ignored, in what it differs, and both packets; or the
+    """The number of the first packet that isn't the same in two files, apart from what is ignored, in what it differs, and both packets; or the
     number of packets; or the refusal before that."""
     items = [file.packets + ([file.refusal] if file.refusal else []) for file in files]
     for n, (a, b) in enumerate(zip_longest(*items), 1):

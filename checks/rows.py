@@ -66,7 +66,7 @@ def listed(number, offset, time="2+500000/1000000", original=4, link=1):
 
 
 def of_data(data):
-    """A capture of one packet of those bytes, all of which were captured."""
+    """A capture of one packet of those bytes, captured whole."""
     size = (len(data) // 2).to_bytes(4, "little").hex()
     return f"{ETHERNET} 02000000 20a10700 {size} {size} {data}"
 

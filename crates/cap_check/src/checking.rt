@@ -125,8 +125,8 @@ fn check_opened<R: Source>(
 }
 
 /// Checks a capture file of either format, which has that number, and prints its line as `put_check_line` does, with
-/// `name` as its last field: also of a file that could not be opened, which is `None`, of one that is refused, and of
-/// one of which a read fails. It returns whether the file was read whole. It returns `Memory` if a growth is refused,
+/// `name` as its last field. A file that could not be opened, which is `None`, one that is refused and one whose read
+/// fails have a line too. It returns whether the file was read whole. It returns `Memory` if a growth is refused,
 /// before anything is printed, and `Write` if a write fails, after a prefix of the line.
 pub fn check_to<R: Source, W: Sink>(
     alloc: Global,

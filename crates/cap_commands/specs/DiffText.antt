@@ -97,7 +97,7 @@ pub data Comparison : Type 0 where
   other_packet : ℕ → Option Compared → Option Compared → Comparison
   stopped_by : Refusal → Comparison
 
--- the comparison of two captures' items, after so many packets that are the same but for what is ignored
+-- the comparison of two captures' items, after so many packets that are the same apart from what is ignored
 unfoldable pub compared : Ignored → ℕ → List Item → List Item → Comparison
 compared ignored n (refused r ∷ xs) ys = stopped_by r
 compared ignored n (packet meta frame ∷ xs) (refused r ∷ ys) = stopped_by r
@@ -159,8 +159,8 @@ data_place_in form None rest = rest
 data_place_in form (Some place) rest =
     fact_in form (record { label = codes " at "; key = codes "data_at"; value = number place }) rest
 
--- the first line of a difference in a form, at the packet of that number, with these words, of which `data` is the
--- last, and the place at which the captured bytes differ
+-- the first line of a difference in a form, at the packet of that number, with these words, the last of them `data` if
+-- the captured bytes differ, and the place at which they do
 abbrev pub difference_line : Form → ℕ → List (List ℕ) → Option ℕ → List ℕ
 difference_line Text n words place =
     codes "differ packet " ++ decimal n ++ spaced words ++ data_place_in Text place (codes "\n")

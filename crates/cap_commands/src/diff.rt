@@ -161,7 +161,7 @@ fn packet_of<F: PacketFeed>(feed: &F, found: bool) -> Option<Meta>
     if found { Some(*feed.packet()) } else { None }
 }
 
-// Whether the packets that come next, if there are some, are the same but for what is ignored: none is the same as
+// Whether the packets that come next, if there are some, are the same apart from what is ignored: none is the same as
 // nothing.
 fn is_alike<F: PacketFeed>(ignored: Ignored, first: &F, one: bool, second: &F, other: bool) -> bool
     requires first { one ≡ is_some (known_packet (F.feed first.now).known) }
@@ -179,7 +179,7 @@ fn is_alike<F: PacketFeed>(ignored: Ignored, first: &F, one: bool, second: &F, o
     false
 }
 
-// Passes the packets that are the same but for what is ignored, up to the first that isn't, or to the end of both.
+// Passes the packets that are the same apart from what is ignored, up to the first that isn't, or to the end of both.
 fn part<F: PacketFeed>(ignored: Ignored, first: &mut F, second: &mut F) -> Result<Divergence, Fault>
     requires left { (F.feed first.old).left ≤ 2 ^ 40 }
     ensures parts { IsTrue (F.feed first.old).told → IsTrue (F.feed second.old).told
@@ -475,14 +475,14 @@ fn put_divergence<F: PacketFeed, W: Sink>(
 }
 
 /// Prints whether two capture files, each of either format, have the same packets, in link type, exact time, captured
-/// and original length and captured bytes, but for what is ignored: `same packets N`, and returns `true`; or the number
-/// and the differences of the first packet that isn't the same in both, and its line in each, as `list_to` prints it,
-/// and returns `false`. In JSON these are three objects, of which the second and the third hold the object that
-/// `list_json_to` prints, or `null`. Each line or object has at most `most` bytes of its packet. If the captured bytes
-/// differ, the place of the first byte that differs is printed, and these are the bytes from the row of 16 bytes on in
-/// which that byte is. If a file is refused before that, the refusal is returned. It returns `Read` if a read fails and
-/// `Memory` if a growth is refused; after these and a refusal nothing is printed. It returns `Write` if a write fails,
-/// after a prefix.
+/// and original length and captured bytes, apart from what is ignored: `same packets N`, and returns `true`; or the
+/// number and the differences of the first packet that isn't the same in both, and its line in each, as `list_to`
+/// prints it, and returns `false`. In JSON these are three objects, of which the second and the third hold the object
+/// that `list_json_to` prints, or `null`. Each line or object has at most `most` bytes of its packet. If the captured
+/// bytes differ, the place of the first byte that differs is printed, and these are the bytes from the row of 16 bytes
+/// on in which that byte is. If a file is refused before that, the refusal is returned. It returns `Read` if a read
+/// fails and `Memory` if a growth is refused; after these and a refusal nothing is printed. It returns `Write` if a
+/// write fails, after a prefix.
 pub fn diff_in<R: Source, W: Sink>(
     alloc: Global,
     first: R,

@@ -44,7 +44,7 @@ is-so : (b : Bool) → not b ≡ false → b ≡ true
 is-so true h = refl
 is-so false h = absurd (false≢true (sym h))
 
--- two packets do not differ if they are the same but for what is ignored
+-- two packets do not differ if they are the same apart from what is ignored
 unlike-but : (ignored : Ignored) (m o : Meta) (f g : List ℕ) → IsSameBut ignored m o f g
     → do_differ (counted_differences ignored
     (differences_of (record { meta = m; frame = f }) (record { meta = o; frame = g }))) ≡ false
@@ -59,7 +59,7 @@ unlike-but ignored m o f g same =
     let bytes = (bytes_eq-Decides f g).1 same.frame in
     rw (link, time, captured, original, bytes) refl
 
--- and are the same but for that if they do not differ
+-- and are the same apart from that if they do not differ
 like-but : (ignored : Ignored) (m o : Meta) (f g : List ℕ)
     → do_differ (counted_differences ignored
     (differences_of (record { meta = m; frame = f }) (record { meta = o; frame = g }))) ≡ false
@@ -78,7 +78,7 @@ like-but ignored m o f g h =
       frame = (bytes_eq-Decides f g).0 (is-so (bytes_eq f g) p.fifth);
     }
 
--- lists of packets that are the same but for that, one by one, are the same
+-- lists of packets that are the same apart from that, one by one, are the same
 compared-but : (ignored : Ignored) (n : ℕ) (xs ys : List Item) → AllZip (SameBut ignored) xs ys
     → is_same (compared ignored n xs ys) ≡ true
 unfolding compared
@@ -93,7 +93,7 @@ compared-but ignored n (packet m f ∷ xs) (packet o g ∷ ys) all =
     ∙ compared-but ignored (n + 1) xs ys all.1
 compared-but ignored n xs ys all = grind arith
 
--- lists that are the same are of packets that are the same but for that, one by one
+-- lists that are the same are of packets that are the same apart from that, one by one
 but-compared : (ignored : Ignored) (n : ℕ) (xs ys : List Item) → is_same (compared ignored n xs ys) ≡ true
     → AllZip (SameBut ignored) xs ys
 unfolding compared

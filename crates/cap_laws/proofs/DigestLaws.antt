@@ -205,7 +205,7 @@ same-files tail tail_again number bytes again h =
           ∙ same-line form number was_cut xs ys alike),
     )
 
--- of one that isn't refused, and of which no end is dropped, that line is printed
+-- of one that isn't refused and loses no end, that line is printed
 printed-line : (form : Form) (number : ℕ) (again : List ℕ) → refusal_of (file_items Refuse number again) ≡ None
     → digest_text form Refuse number again ≡ digest_line form number (file_items Refuse number again) false
 printed-line form number again none =

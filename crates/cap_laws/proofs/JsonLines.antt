@@ -13,7 +13,7 @@ use Rattle.cap_print.specs.Facts.{hex}
 use Rattle.cap_print.specs.Facts.{moment, number, one, word}
 use Rattle.cap_print.specs.declared.forms.Form.TheVariants.{Json}
 use Rattle.hex.specs.Hex.{encode_lower}
-use Rattle.cap_laws.specs.JsonLines.{IsBare, IsObjectLine, LinesReadBack, Member, MemberFits, NamedFits}
+use Rattle.cap_laws.specs.JsonLines.{HasNoQuote, IsObjectLine, LinesReadBack, Member, MemberFits, NamedFits}
 use Rattle.cap_laws.specs.JsonLines.{ObjectsReadBack, Scalar, ScalarFits}
 use Rattle.cap_laws.specs.JsonLines.{instant, member_of, member_then, members_of, more_named_then, more_then}
 use Rattle.cap_laws.specs.JsonLines.{named_of}
@@ -98,7 +98,7 @@ first : List ℕ → ℕ
 first bytes = get_or bytes 0 0
 
 -- two strings without quotation marks, each with what comes after it
-bare-split : (t u r s : List ℕ) → IsBare t → IsBare u → t ++ (34 ∷ r) ≡ u ++ (34 ∷ s) → (t ≡ u) × (r ≡ s)
+bare-split : (t u r s : List ℕ) → HasNoQuote t → HasNoQuote u → t ++ (34 ∷ r) ≡ u ++ (34 ∷ s) → (t ≡ u) × (r ≡ s)
 unfolding first
 bare-split [] [] r s b c e = (refl, ap (drop 1) e)
 bare-split [] (d ∷ u) r s b c e = absurd (c.0 (sym (ap first e)))
@@ -107,7 +107,7 @@ bare-split (d ∷ t) (f ∷ u) r s b c e =
     let p = bare-split t u r s b.1 c.1 (ap (drop 1) e) in
     ((λ i. ap first e i ∷ p.0 i), p.1)
 
-string-split : (t u r s : List ℕ) → IsBare t → IsBare u → string_then t r ≡ string_then u s → (t ≡ u) × (r ≡ s)
+string-split : (t u r s : List ℕ) → HasNoQuote t → HasNoQuote u → string_then t r ≡ string_then u s → (t ≡ u) × (r ≡ s)
 string-split t u r s b c e = bare-split t u r s b c (ap (drop 1) e)
 
 -- what comes after a number doesn't begin with a digit

@@ -535,14 +535,49 @@ frames-add = record { empty = refl; more = λ unit units. refl }
 bytes-add : Adds units_bytes (λ unit. unit.bytes)
 bytes-add = record { empty = refl; more = λ unit units. refl }
 
+-- the reports over each file
+over_each : Tail → List (List ℕ) → List (List Taken)
+over_each tail files = map (λ bytes. taken_after [] (clocked_run tail (bytes ∷ []))) files
+
+-- a count of a row
+count-rows : (f : TalkRow → ℕ) (total : List CountedUnit → ℕ) (value : CountedUnit → ℕ) (dir : CountedUnit → Bool)
+    → Adds total value → ReadsNoPlace dir → ReadsNoPlace value → (key : TalkKey)
+    → ((xs : List Taken) → f (row_among key xs) ≡ of_row total dir key (units_at xs))
+    → (tail : Tail) (files : List (List ℕ)) → refusal_of (run_of_files tail files) ≡ None
+    → parts_among (taken_after [] (clocked_run tail files)) ≡ 0
+    → f (row_among key (taken_after [] (clocked_run tail files)))
+    ≡ sum_by f (map (row_among key) (over_each tail files))
+unfolding over_each
+count-rows f total value dir adds d e key is tail files none lone =
+    let row = of_talk total value dir adds d e key in
+    of_files (λ xs. f (row_among key xs)) (one_value key dir value)
+    (record { sum = row.sum; is = row.is; same = λ xs no. is xs ∙ row.same xs no }) tail files none lone
+    ∙ sum-rows f (row_among key) (over_each tail files)
+
+-- whether a row has a time, as one of its units has
+time-rows : (q : TalkRow → Bool) (dir : CountedUnit → Bool) → ReadsNoPlace dir → (key : TalkKey)
+    → ((xs : List Taken) → q (row_among key xs) ≡ not (length (filter dir (units_of_talk key (units_at xs))) == 0))
+    → (tail : Tail) (files : List (List ℕ)) → refusal_of (run_of_files tail files) ≡ None
+    → parts_among (taken_after [] (clocked_run tail files)) ≡ 0
+    → q (row_among key (taken_after [] (clocked_run tail files)))
+    ≡ list_any q (map (row_among key) (over_each tail files))
+unfolding over_each of_row
+time-rows q dir reads key is tail files none lone =
+    let each = over_each tail files in
+    let count : List Taken → ℕ = λ xs. length (filter dir (units_of_talk key (units_at xs))) in
+    let one : ReadsNoPlace (λ (unit : CountedUnit). 1) = record { same = λ p b n m meta ends. refl } in
+    is (taken_after [] (clocked_run tail files))
+    ∙ ap (λ n. not (n == 0)) (of_files count (one_value key dir (λ unit. 1))
+    (of_talk length (λ unit. 1) dir units-add reads one key) tail files none lone)
+    ∙ any-of count each
+    ∙ any-rows q (row_among key) (λ xs. not (count xs == 0)) is each
+
 pub sums-law : ReportSums
-unfolding of_row
+unfolding of_row over_each
 sums-law tail files none lone =
-    let each = map (λ bytes. taken_after [] (clocked_run tail (bytes ∷ []))) files in
     let goes-forward : ReadsNoPlace is_forward = record { same = λ p b n m meta ends. refl } in
     let goes-back : ReadsNoPlace (λ unit. not (is_forward unit)) = record { same = λ p b n m meta ends. refl } in
     let in-frames : ReadsNoPlace (λ unit. unit.frames) = record { same = λ p b n m meta ends. refl } in
-    let in-each : ReadsNoPlace (λ (unit : CountedUnit). 1) = record { same = λ p b n m meta ends. refl } in
     let in-bytes : ReadsNoPlace (λ unit. unit.bytes) = record { same = λ p b n m meta ends. refl } in
     record {
       totals = totals-law tail files none;
@@ -552,50 +587,20 @@ sums-law tail files none lone =
       given_up = of_files (λ xs. times_given_up (marks_of xs)) (λ item. 0)
           (nothing (λ xs. times_given_up (marks_of xs)) none-given) tail files none lone;
       rows = λ key. record {
-        forward_frames = of_files (λ xs. of_row frames_of is_forward key (units_at xs))
-            (one_value key is_forward (λ unit. unit.frames))
-            (of_talk frames_of (λ unit. unit.frames) is_forward frames-add goes-forward in-frames key)
-            tail files none lone
-            ∙ sum-rows (λ r. r.forward_frames) (row_among key) each;
-        forward_bytes = of_files (λ xs. of_row units_bytes is_forward key (units_at xs))
-            (one_value key is_forward (λ unit. unit.bytes))
-            (of_talk units_bytes (λ unit. unit.bytes) is_forward bytes-add goes-forward in-bytes key)
-            tail files none lone
-            ∙ sum-rows (λ r. r.forward_bytes) (row_among key) each;
-        backward_frames = of_files (λ xs. of_row frames_of (λ unit. not (is_forward unit)) key (units_at xs))
-            (one_value key (λ unit. not (is_forward unit)) (λ unit. unit.frames))
-            (of_talk frames_of (λ unit. unit.frames) (λ unit. not (is_forward unit)) frames-add goes-back
-            in-frames key) tail files none lone
-            ∙ sum-rows (λ r. r.backward_frames) (row_among key) each;
-        backward_bytes = of_files (λ xs. of_row units_bytes (λ unit. not (is_forward unit)) key (units_at xs))
-            (one_value key (λ unit. not (is_forward unit)) (λ unit. unit.bytes))
-            (of_talk units_bytes (λ unit. unit.bytes) (λ unit. not (is_forward unit)) bytes-add goes-back
-            in-bytes key) tail files none lone
-            ∙ sum-rows (λ r. r.backward_bytes) (row_among key) each;
-        first = λ time.
-            let by : CountedUnit → Bool = λ unit. is_by time (frame_time unit.first) in
-            let reads : ReadsNoPlace by =
-            record { same = λ p b n m meta ends. ap (is_by time) (time-of n m (meta_time meta)) } in
-            let count : List Taken → ℕ = λ xs. length (filter by (units_of_talk key (units_at xs))) in
-            let is : (xs : List Taken) → is_by time (row_among key xs).first ≡ not (count xs == 0) =
-            λ xs. least-by time (units_of_talk key (units_at xs)) in
-            is (taken_after [] (clocked_run tail files))
-            ∙ ap (λ n. not (n == 0)) (of_files count (one_value key by (λ unit. 1))
-            (of_talk length (λ unit. 1) by units-add reads in-each key) tail files none lone)
-            ∙ any-of count each
-            ∙ any-rows (λ r. is_by time r.first) (row_among key) (λ xs. not (count xs == 0)) is each;
-        last = λ time.
-            let from : CountedUnit → Bool = λ unit. is_from time (frame_time unit.last) in
-            let reads : ReadsNoPlace from =
-            record { same = λ p b n m meta ends. ap (is_from time) (time-of n m (meta_time meta)) } in
-            let count : List Taken → ℕ = λ xs. length (filter from (units_of_talk key (units_at xs))) in
-            let is : (xs : List Taken) → is_from time (row_among key xs).last ≡ not (count xs == 0) =
-            λ xs. greatest-from time (units_of_talk key (units_at xs)) in
-            is (taken_after [] (clocked_run tail files))
-            ∙ ap (λ n. not (n == 0)) (of_files count (one_value key from (λ unit. 1))
-            (of_talk length (λ unit. 1) from units-add reads in-each key) tail files none lone)
-            ∙ any-of count each
-            ∙ any-rows (λ r. is_from time r.last) (row_among key) (λ xs. not (count xs == 0)) is each;
+        forward_frames = count-rows (λ r. r.forward_frames) frames_of _ is_forward frames-add goes-forward in-frames key
+            (λ xs. refl) tail files none lone;
+        forward_bytes = count-rows (λ r. r.forward_bytes) units_bytes _ is_forward bytes-add goes-forward in-bytes key
+            (λ xs. refl) tail files none lone;
+        backward_frames = count-rows (λ r. r.backward_frames) frames_of _ _ frames-add goes-back in-frames key
+            (λ xs. refl) tail files none lone;
+        backward_bytes = count-rows (λ r. r.backward_bytes) units_bytes _ _ bytes-add goes-back in-bytes key
+            (λ xs. refl) tail files none lone;
+        first = λ time. time-rows (λ r. is_by time r.first) (λ unit. is_by time (frame_time unit.first))
+            (record { same = λ p b n m meta ends. ap (is_by time) (time-of n m (meta_time meta)) }) key
+            (λ xs. least-by time (units_of_talk key (units_at xs))) tail files none lone;
+        last = λ time. time-rows (λ r. is_from time r.last) (λ unit. is_from time (frame_time unit.last))
+            (record { same = λ p b n m meta ends. ap (is_from time) (time-of n m (meta_time meta)) }) key
+            (λ xs. greatest-from time (units_of_talk key (units_at xs))) tail files none lone;
       };
     }
 

@@ -24,7 +24,7 @@ SameExactly =
     → IsTrue (is_same (comparison_of nothing_ignored tail first second))
     ↔ AllZip SamePackets (file_items tail 1 first) (file_items tail 2 second)
 
--- Two packets are the same but for what is ignored: their times, link types or original lengths.
+-- Two packets are the same apart from what is ignored: their times, link types or original lengths.
 pub record IsSameBut (ignored : Ignored) (meta again : Meta) (bytes bytes_again : List ℕ) : Type 0 where
   pub link : IsFalse ignored.link → meta.interface.link ≡ again.interface.link
   pub time : IsFalse ignored.time → clock_cmp (meta_time meta) (meta_time again) ≡ Equal
@@ -38,8 +38,8 @@ SameBut ignored (packet meta frame) (refused refusal) = ⊥
 SameBut ignored (refused refusal) again = ⊥
 
 -- If something is ignored, two captures are the same exactly if neither is refused and they have as many packets, of
--- which those of one place are the same but for that. So captures whose packets are the same but for their times are
--- the same if times are ignored.
+-- which those of one place are the same apart from that. So captures whose packets are the same apart from their times
+-- are the same if times are ignored.
 abbrev pub SameButIgnored : Type 0
 SameButIgnored =
     (ignored : Ignored) (tail : Tail) (first second : List ℕ)

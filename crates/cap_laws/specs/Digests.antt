@@ -42,9 +42,9 @@ SameAsDiff =
     ↔ IsTrue (is_same (comparison_of nothing_ignored tail first second))
 
 -- What `convert` writes of any file, in either format and byte order, is a capture that isn't refused, and has the
--- digest line of the file, under every number and in either form, but for whether a cut end was dropped; if nothing is
--- refused of the file and at most 2^40 bytes are written. So its line is that of a file that wasn't cut, if no end is
--- to be dropped of it.
+-- digest line of the file, under every number and in either form, apart from whether a cut end was dropped; if nothing
+-- is refused of the file and at most 2^40 bytes are written. So its line is that of a file that wasn't cut, if no end
+-- is to be dropped of it.
 abbrev pub DigestOfConverted : Type 0
 DigestOfConverted =
     (format : Format) (order : Order) (tail tail_again : Tail) (bytes : List ℕ) → AreBytes bytes

@@ -92,24 +92,24 @@ abbrev pub members_of : Facts → List Member
 members_of line = plain (codes "type") (string line.kind) ∷ map member_of line.fields
 
 -- some bytes have no quotation mark
-abbrev pub IsBare : List ℕ → Type 0
-IsBare bytes = AllByRecursion (λ c. c ≢ 34) bytes
+abbrev pub HasNoQuote : List ℕ → Type 0
+HasNoQuote bytes = AllByRecursion (λ c. c ≢ 34) bytes
 
 -- a value, and a member, that a line may have: its strings have no quotation mark, and its numbers up to 64 digits
 abbrev pub ScalarFits : Scalar → Type 0
 ScalarFits (whole n) = nat_abs n < 10 ^ 64
-ScalarFits (string bytes) = IsBare bytes
+ScalarFits (string bytes) = HasNoQuote bytes
 ScalarFits (truth is_so) = ⊤
 ScalarFits null = ⊤
 ScalarFits (instant time) =
     (nat_abs time.seconds < 10 ^ 64) × (time.numerator < 10 ^ 64) × (time.denominator < 10 ^ 64)
 
 abbrev pub NamedFits : List ℕ × Scalar → Type 0
-NamedFits member = IsBare member.0 × ScalarFits member.1
+NamedFits member = HasNoQuote member.0 × ScalarFits member.1
 
 abbrev pub MemberFits : Member → Type 0
 MemberFits (plain name value) = NamedFits (name, value)
-MemberFits (nested name members) = IsBare name × AllByRecursion NamedFits members
+MemberFits (nested name members) = HasNoQuote name × AllByRecursion NamedFits members
 
 -- A line is the text of the object that has its kind and its fields as members.
 abbrev pub IsObjectLine : Type 0

@@ -17,8 +17,9 @@ pub fn same_text()
 }
 
 /// What `convert` writes of any file, in either format and byte order and whatever bytes the file holds, is a capture
-/// that isn't refused, and has the digest line of the file but for whether a cut end was dropped, if nothing is refused
-/// of the file and at most 2^40 bytes are written. Read without dropping a cut end, it has the line of a whole file.
+/// that isn't refused, and has the digest line of the file apart from whether a cut end was dropped, if nothing is
+/// refused of the file and at most 2^40 bytes are written. Read without dropping a cut end, it has the line of a whole
+/// file.
 pub fn converted_digest()
     ensures { DigestOfConverted }
 {

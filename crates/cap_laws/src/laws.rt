@@ -106,8 +106,8 @@ pub fn diff_same()
 {}
 
 /// If times, link types or original lengths are ignored, `diff` says that two captures have the same packets exactly if
-/// neither is refused and they have as many packets, of which those of one place are the same but for that. So captures
-/// whose packets are the same but for their times have the same packets if times are ignored.
+/// neither is refused and they have as many packets, of which those of one place are the same apart from that. So
+/// captures whose packets are the same apart from their times have the same packets if times are ignored.
 pub fn diff_ignoring()
     ensures { SameButIgnored }
 {}

@@ -45,9 +45,9 @@ abbrev pub AreAll : Result Finding Fault → ℕ → ℕ → Type 0
 AreAll (Ok found) count opened = opened ≡ count
 AreAll (Err fault) count opened = Unit {0}
 
--- Files of those names were opened one after another and checked, and their lines were written: also of one that could
--- not be opened. Each is what its opener gives for its name, and what is known of that says which bytes it has. A line
--- names its file in JSON, and in text if that is asked for.
+-- Files of those names were opened one after another and checked, and their lines were written; a file that could not
+-- be opened has a line too. Each is what its opener gives for its name, and what is known of that says which bytes it
+-- has. A line names its file in JSON, and in text if that is asked for.
 pub record ChecksNames {R : Type 0} (gives : List ℕ → Option R → Type 0) (known : R → Opened) (form : Form)
     (tail : Tail) (is_shown : Bool) (names : List (List ℕ)) (old : List ℕ) (result : Result Finding Fault)
     (new : List ℕ) : Type 0 where

@@ -55,8 +55,8 @@ fn check_next<O: Opener, W: Sink>(
 
 /// Checks the files that a job names, which have the numbers from 1 on, and prints the line of each as `check_to` does,
 /// in JSON with the file's name, in text if the job asks for that: opens one after another, and closes it before the
-/// next. It returns `NotWhole` if one of the files isn't whole, also if it could not be opened. It returns `Memory` if
-/// a growth is refused, after the lines of the files before, and `Write` if a write fails, after a prefix of the lines.
+/// next. It returns `NotWhole` if one of the files isn't whole or could not be opened. It returns `Memory` if a growth
+/// is refused, after the lines of the files before, and `Write` if a write fails, after a prefix of the lines.
 pub fn check_named<O: Opener, W: Sink>(
     opener: &O,
     alloc: Global,

@@ -30,7 +30,7 @@ abbrev pub given : Result Bool Fault → Option Head → Result (Option Meta) Fa
 given (Ok found) known = Ok (known_packet known)
 given (Err fault) known = Err fault
 
--- two packets are the same but for what is ignored; none is the same as nothing
+-- two packets are the same apart from what is ignored; none is the same as nothing
 abbrev pub are_alike : Ignored → Option Compared → Option Compared → Bool
 are_alike ignored None other = false
 are_alike ignored (Some a) None = false
