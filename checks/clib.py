@@ -1,7 +1,7 @@
 #!/usr/bin/env python3
 """libcapt, as C and Python call it: over the examples and the corpus each call gives what the built program prints and writes, in
 memory, from standard input, also if that comes by one byte a read, and fed in pieces of any size, whole and cut off anywhere; a failed read and refused growths are told; each misuse that
-the header names is told; a fed reader gives its memory back; the binding for Python reads what it says it reads, says what it says of errors, and is shared by threads; that for Rust links
+the header names is told; a fed reader gives its memory back; the binding for Python reads what it says it reads, says what it says of errors, is shared by threads, and its wheel is installed; that for Rust links
 the archive that is there; only names that begin with capt_ are seen; and where valgrind is, it sees no error and no leak.
 
 Use: checks/clib.py [PROGRAM [FOLDER]]     (FOLDER as crates/capt_c/link.sh leaves it; without it the library is built, with proofs, over
@@ -11,12 +11,12 @@ import sys
 
 sys.dont_write_bytecode = True
 
-import gzip, io, os, pickle, re, shutil, signal, subprocess, tempfile
+import datetime, errno, faulthandler, gzip, inspect, io, os, pickle, re, shutil, signal, struct, subprocess, tempfile, typing
 from concurrent.futures import ThreadPoolExecutor
 from pathlib import Path
 from fractions import Fraction
 
-from captures import PROGRAM, TOP, WRITING, Bench, Count, make_shim, pcap_header, record
+from captures import PROGRAM, SECTION, TOP, WRITING, Bench, Count, block, make_shim, packet, pcap_header, record
 
 CRATE = os.path.join(TOP, "crates", "capt_c")
 TASKS = ("list", "blocks", "info", "report", "pcap", "pcapng", "merge", "join")
@@ -53,7 +53,7 @@ def files():
 
 
 def printed(time):
-    """A time in the unit of its interface can't be told from a Fraction: compared as a Fraction."""
+    """A printed time as a Fraction."""
     if time == "-":
         return None
     seconds, numerator, denominator = map(int, re.split("[+/]", time))
@@ -76,14 +76,20 @@ def called(capt, task, content, allow_cut, order):
         return 1, refused.text, f"{refused}\n".encode()
 
 
+def facts(packet):
+    """What `list` has of a packet, the time as it is printed and as a Fraction."""
+    assert len(packet.data) == packet.captured
+    time = "-" if packet.time is None else f"{packet.seconds}+{packet.numerator}/{packet.denominator}"
+    return packet.offset, time, packet.time, packet.captured, packet.original, packet.link, packet.data[:16].hex() or "-"
+
+
 def walked(capt, source, allow_cut, **how):
     """The packets of a capture by the binding, as `list` has them, and how it ended."""
     lines = []
     with capt.Capture(source, allow_cut, **how) as capture:
         try:
             for packet in capture:
-                lines.append((packet.offset, packet.time, packet.captured, packet.original, packet.link, packet.data[:16].hex() or "-"))
-                assert len(packet.data) == packet.captured
+                lines.append(facts(packet))
         except capt.Refused as refused:
             return lines, str(refused)
         return lines, capture.ending
@@ -96,8 +102,7 @@ def fed(capt, content, size, allow_cut):
         try:
             for place in range(0, len(content) + size, size):
                 it.feed(content[place:place + size]) if place < len(content) else it.end()
-                for packet in it:
-                    lines.append((packet.offset, packet.time, packet.captured, packet.original, packet.link, packet.data[:16].hex() or "-"))
+                lines += map(facts, it)
         except capt.Refused as refused:
             return lines, str(refused)
         return lines, None
@@ -123,7 +128,7 @@ def listed(text):
     packets = []
     for line in text.decode().splitlines():
         words = line.split()
-        packets.append((int(words[3]), printed(words[5]), int(words[7]), int(words[9]), int(words[11]), words[13]))
+        packets.append((int(words[3]), words[5], printed(words[5]), int(words[7]), int(words[9]), int(words[11]), words[13]))
     return packets
 
 
@@ -177,15 +182,22 @@ def check_sources(count, capt, folder, example):
     for name, opener in (path, open), (packed, gzip.open):
         with opener(name, "wb") as out:
             out.write(example)
+    opened = []
+
+    def descriptor():
+        opened.append(os.open(path, os.O_RDONLY))
+        return opened[-1]
+
     sources = {
-        "path": lambda: path, "Path": lambda: Path(path), "bytes": lambda: example, "bytearray": lambda: bytearray(example),
+        "path": lambda: path, "Path": lambda: Path(path), "descriptor": descriptor, "bytes": lambda: example, "bytearray": lambda: bytearray(example),
         "memoryview": lambda: memoryview(example), "file": lambda: open(path, "rb"), "gzip": lambda: gzip.open(packed),
         "BytesIO": lambda: io.BytesIO(example), "drip": lambda: Drip(example, 9),
     }
     several = {"report": capt.report, "report_text": capt.report_text, "info": capt.info, "merge": capt.merge, "join": capt.join,
                "table": lambda them, **how: capt.Table(them, **how).report()}
     one = {"list": capt.listing, "convert": lambda it, **how: capt.convert(it, "pcapng", **how),
-           "packets": lambda it, **how: [vars_of(packet) for packet in capt.Capture(it, **how)]}
+           "packets": lambda it, **how: [vars_of(packet) for packet in capt.Capture(it, **how)],
+           "open": lambda it, **how: [vars_of(packet) for packet in capt.open(it, **how)]}
     for kind, source in sources.items():
         for name, call in several.items():
             want = call([example])
@@ -199,10 +211,20 @@ def check_sources(count, capt, folder, example):
             count.check(f"python: {name} of a {kind}", seen == call(example), seen)
     for name, call in {**several, **one}.items():
         with open(path, encoding="latin-1") as text:
-            seen = [tried(call, it) for it in (text, 5, None)]
+            seen = [tried(call, it) for it in (text, 5.0, True, None)]
         count.check(f"python: {name} of no source", all(type(it) is TypeError for it in seen), seen)
         seen = tried(call, os.path.join(folder, "none"))
         count.check(f"python: {name} of no file", type(seen) is FileNotFoundError, seen)
+        seen = tried(call, max(opened) + 100)
+        count.check(f"python: {name} of no open file", type(seen) is OSError and seen.errno == errno.EBADF, seen)
+    # a descriptor stays open, and is read from where it is
+    seen = [os.read(it, 1) for it in opened]
+    count.check("python: descriptors that were read", seen == [b""] * len(opened), seen)
+    os.lseek(opened[0], 24, os.SEEK_SET)
+    seen = tried(list, capt.open(opened[0]))
+    count.check("python: a descriptor in the middle", isinstance(seen, capt.Refused) and seen.path is None, seen)
+    for it in opened:
+        os.close(it)
     for name, call in several.items():
         seen = tried(call, [example] * 33)
         count.check(f"python: {name} of 33", isinstance(seen, capt.TooManyFiles) and isinstance(seen, ValueError) and "32" in str(seen), seen)
@@ -230,6 +252,16 @@ def check_sources(count, capt, folder, example):
         seen += [len(list(capture))]
         kinds = [type(it) for it in seen]
         count.check("python: a pipe that doesn't wait", kinds == [BlockingIOError, capt.Packet, BlockingIOError, int] and seen[3] == 2, seen)
+    # the first packet is no whole file, though no more can be read yet
+    for name, call in {**several, **one}.items():
+        for how in "file", "raw file", "descriptor":
+            receiving, sending = os.pipe()
+            os.set_blocking(receiving, False)
+            os.write(sending, example[:100])
+            with open(receiving, "rb", buffering=0 if how == "raw file" else -1) as file:
+                seen = tried(call, receiving if how == "descriptor" else file)
+                count.check(f"python: {name} of a {how} that doesn't wait", type(seen) is BlockingIOError, seen)
+            os.close(sending)
     # a source isn't closed, and what was read of it isn't given again
     with open(path, "rb") as file:
         capt.report(file)
@@ -239,6 +271,73 @@ def check_sources(count, capt, folder, example):
 
 def vars_of(packet):
     return [getattr(packet, name) for name in packet.__slots__]
+
+
+def check_times(count, capt):
+    """The forms of a packet's time, worked by hand: after the code of the interface's resolution and its offset in seconds stand
+    the units of a packet, its seconds, numerator, denominator and nanoseconds, and the seconds and microseconds of its date."""
+    def date(seconds, microseconds):
+        return datetime.datetime(1970, 1, 1, tzinfo=datetime.timezone.utc) + datetime.timedelta(seconds=seconds, microseconds=microseconds)
+
+    for code, offset, units, *want, day in [
+        (6, 0, 1_500_000, 1, 500_000, 10**6, 1_500_000_000, date(1, 500_000)),
+        (9, 0, 1_000_000_001, 1, 1, 10**9, 1_000_000_001, date(1, 0)),
+        (10, 0, 12_345_678_905, 1, 2_345_678_905, 10**10, None, date(1, 234_567)),
+        (10, 0, 12_345_678_900, 1, 2_345_678_900, 10**10, 1_234_567_890, date(1, 234_567)),
+        (0x81, 0, 3, 1, 1, 2, 1_500_000_000, date(1, 500_000)),
+        (0x81, -1, 1, -1, 1, 2, -500_000_000, datetime.datetime(1969, 12, 31, 23, 59, 59, 500_000, datetime.timezone.utc)),
+        (0, 0, 253_402_300_799, 253_402_300_799, 0, 1, 253_402_300_799 * 10**9, datetime.datetime(9999, 12, 31, 23, 59, 59, 0, datetime.timezone.utc)),
+        (0, 0, 253_402_300_800, 253_402_300_800, 0, 1, 253_402_300_800 * 10**9, OverflowError),
+        (0, 2**63 - 1, 2**64 - 1, 2**64 + 2**63 - 2, 0, 1, (2**64 + 2**63 - 2) * 10**9, OverflowError),
+    ]:
+        options = struct.pack("<HHBxxx", 9, 1, code) + struct.pack("<HHq", 14, 8, offset) + bytes(4)
+        content = bytes.fromhex(SECTION) + block(1, struct.pack("<HHI", 1, 0, 0) + options) + packet(0, units, b"data")
+        seen = tried(list, capt.open(content))
+        if isinstance(seen, Exception):
+            count.check(f"python: a time of {units} units", False, seen)
+            continue
+        it = seen[0]
+        told = [it.seconds, it.numerator, it.denominator, it.time_ns]
+        whole = it.seconds + Fraction(it.numerator, it.denominator)
+        count.check(f"python: a time of {units} units", told == want and it.time == whole, told, it.time)
+        seen = tried(lambda: it.datetime)
+        count.check(f"python: a date of {units} units", type(seen) is day or seen == day, seen)
+        count.check("python: a packet pickled", vars_of(pickle.loads(pickle.dumps(it))) == vars_of(it))
+    # a simple packet block has no time
+    content = bytes.fromhex(SECTION) + block(1, struct.pack("<HHI", 1, 0, 0)) + block(3, struct.pack("<I", 4) + b"data")
+    [it] = capt.open(content)
+    seen = [it.time, it.time_ns, it.datetime, it.seconds, it.numerator, it.denominator]
+    count.check("python: a packet without a time", seen == [None] * 6 and it.data == b"data", seen)
+
+
+def check_hints(count, capt):
+    """Each public name has hints for all that it takes and returns."""
+    for name in capt.__all__:
+        it = getattr(capt, name)
+        members = [vars(it)[member] for member in vars(it) if not member.startswith("_")] if inspect.isclass(it) else [it]
+        members = [getattr(member, "fget", member) for member in members]
+        for call in filter(inspect.isfunction, [*members, it.__init__ if inspect.isclass(it) else it]):
+            hints = tried(typing.get_type_hints, call)
+            wanted = set(inspect.signature(call).parameters) - {"self"} | ({"return"} - {"return" * (call.__name__ == "__init__")})
+            count.check(f"python: hints of {name}, {call.__name__}", isinstance(hints, dict) and wanted <= set(hints), hints)
+
+
+def check_wheel(count, capt, folder):
+    """The wheel, where a Python has what makes it, is installed without an index, and has the mark of its hints."""
+    makers = [it for it in (sys.executable, "/usr/bin/python3") if run([it, "-c", "import setuptools, wheel, pip"])[0] == 0]
+    if not makers:
+        return
+    maker, source, out, place = makers[0], *(os.path.join(folder, it) for it in ("wheel-source", "wheels", "installed"))
+    shutil.copytree(os.path.join(TOP, "bindings", "python"), source, ignore=shutil.ignore_patterns("__pycache__"))
+    seen = run([maker, "-m", "pip", "wheel", "-q", "--no-index", "--no-build-isolation", "--no-deps", "-w", out, source])
+    wheels = os.listdir(out) if os.path.isdir(out) else []
+    count.check("python: a wheel", seen[0] == 0 and wheels == [f"capt-{capt.version()}-py3-none-any.whl"], seen, wheels)
+    for wheel in wheels:
+        seen = run([maker, "-m", "pip", "install", "-q", "--no-index", "--target", place, os.path.join(out, wheel)])
+        count.check("python: the wheel is installed", seen[0] == 0, seen)
+        told = run([maker, "-B", "-c", "import capt; print(capt.__file__, capt.version())"], cwd=folder, env={**os.environ, "PYTHONPATH": place})
+        count.check("python: what is installed", told[0] == 0 and told[1].decode().split()[0] == os.path.join(place, "capt", "__init__.py"), told)
+        count.check("python: its hints are marked", os.path.exists(os.path.join(place, "capt", "py.typed")))
 
 
 def check_errors(count, capt, folder, example):
@@ -254,7 +353,8 @@ def check_errors(count, capt, folder, example):
         for source in path, Path(path), example[:-1]:
             seen = tried(call, source)
             at = (seen.file, seen.offset, seen.rule, seen.name) if isinstance(seen, capt.Refused) else seen
-            count.check(f"python: a refusal of {name}", at == (1, 176, 3, "cut") and seen.path == (None if source == example[:-1] else source), seen)
+            is_at = at == (1, 176, 3, "cut") and seen.path == (None if source == example[:-1] else source)
+            count.check(f"python: a refusal of {name}", is_at and seen.__context__ is None, seen)
     for call in capt.info, capt.report, capt.merge, capt.join:
         seen = [tried(call, [example, it]) for it in (path, example[:-1])]
         count.check("python: a refusal of the second", [(it.file, it.path) for it in seen] == [(2, path), (2, None)], seen)
@@ -310,14 +410,17 @@ THREADS = """
 import capt, sys, threading
 from collections import Counter
 sources = {"bytes": open(sys.argv[1], "rb").read(), "path": sys.argv[1], "file": open(sys.argv[1], "rb")}
+def share(name, packets):
+    seen = []
+    threads = [threading.Thread(target=lambda: seen.append([packet.offset for packet in packets])) for _ in range(4)]
+    for it in threads: it.start()
+    for it in threads: it.join()
+    counts = Counter(sum(seen, []))
+    print(name, len(seen), len(counts), max(counts.values()), all(it == sorted(it) for it in seen))
 for name, source in sources.items():
-    with capt.Capture(source) as capture:
-        seen = []
-        threads = [threading.Thread(target=lambda: seen.append([packet.offset for packet in capture])) for _ in range(4)]
-        for it in threads: it.start()
-        for it in threads: it.join()
-        counts = Counter(sum(seen, []))
-        print(name, len(counts), max(counts.values()), all(it == sorted(it) for it in seen))
+    with capt.Capture(source) as capture: share(name, capture)
+for name in "bytes", "path":
+    with capt.Capture(sources[name]) as capture: share(name, iter(capture))
 """
 CLOSING = """
 import capt, sys, threading
@@ -368,19 +471,49 @@ except capt.Refused as error:
 """
 
 
+WITHIN = """
+import capt, os, signal, sys
+class Calls:
+    def read(self, size=-1):
+        for call in self.capture.close, lambda: self.capture.ending, lambda: list(self.capture):
+            try: call()
+            except RuntimeError as error: print(error)
+        return b""
+calls = Calls()
+calls.capture = capt.open(calls)
+try: list(calls.capture)
+except capt.Refused as error: print(error.name)
+receiving, sending = os.pipe()
+with open(sys.argv[1], "rb") as file: os.write(sending, file.read(100))
+capture = capt.open(receiving)
+def handle(*_):
+    try: capture.close()
+    except RuntimeError as error: print(error)
+    os.close(sending)
+signal.signal(signal.SIGALRM, handle)
+signal.setitimer(signal.ITIMER_REAL, 0.2)
+print([packet.offset for packet in capture])
+capture.close()
+"""
+
+
 def check_python_processes(count, folder):
-    """Threads that share a capture, one that closes it, and a file that gets shorter while it is read."""
+    """Threads that share a capture, one that closes it, a call from within a call, and a file that gets shorter while it is read."""
     path = os.path.join(folder, "many.pcap")
     with open(path, "wb") as out:
         out.write(pcap_header(1) + b"".join(record(second, bytes(60)) for second in range(40000)))
 
     def ran(program, *words):
-        return run([sys.executable, "-B", "-c", program, path, *words])
+        return run([sys.executable, "-B", "-c", program, path, *words], seconds=60)
 
     seen = ran(THREADS)
-    count.check("python: four threads", seen == (0, b"bytes 40000 1 True\npath 40000 1 True\nfile 40000 1 True\n", b""), seen)
+    want = "".join(f"{name} 4 40000 1 True\n" for name in ("bytes", "path", "file", "bytes", "path")).encode()
+    count.check("python: four threads", seen == (0, want, b""), seen)
     seen = ran(CLOSING)
     count.check("python: closed by another thread", seen == (0, b"200\n", b""), seen)
+    seen = ran(WITHIN)
+    within = b"this Capture is called from within a call of it\n"
+    count.check("python: a call from within a call", seen == (0, 3 * within + b"cut\n" + within + b"[24]\n", b""), seen)
     with open(path, "rb") as file:
         content = file.read()
     seen = ran(SHORTER)
@@ -455,6 +588,17 @@ def check_faults(count, checker, shim, path, content):
     count.check("c: a pipe that doesn't wait", (seen[0], seen[1].count(b"packet"), seen[2]) == (1, 1, b"fault: read file 1 offset 100\n"), seen)
     os.close(receiving)
     os.close(sending)
+
+
+def check_example(count, folder, library, shim, bench, content):
+    """The example of capt_c prints what the program does, and takes no failed read for the end of its file."""
+    example, path = os.path.join(folder, "list"), bench.name(content)
+    source = os.path.join(CRATE, "examples", "list.c")
+    subprocess.run(["cc", "-std=c11", "-o", example, source, os.path.join(library, "libcapt.a")], check=True)
+    count.check("c: the example", run([example, "packets", path]) == bench.run("list", [content])[:3])
+    # two records end at byte 176
+    seen = run([example, "packets", path], env={**os.environ, "LD_PRELOAD": shim, "FAULT_PIECE": "88", "FAULT_READ": "3-3"})
+    count.check("c: the example, whose read fails", seen[:2] == (1, b"") and b"Input/output error" in seen[2], seen)
 
 
 FAILING = """
@@ -537,6 +681,25 @@ def cargo(crate, name, library, **how):
 TYPES = """
 use std::error::Error;
 use std::io::{self, Read};
+use std::sync::atomic::{AtomicUsize, Ordering::Relaxed};
+use std::sync::Arc;
+
+// a capture of 252 bytes that counts how often it is asked for them, and by 100 that it is dropped
+struct Owner([u8; 252], Arc<AtomicUsize>);
+
+impl AsRef<[u8]> for Owner {
+    fn as_ref(&self) -> &[u8] {
+        self.1.fetch_add(1, Relaxed);
+        &self.0
+    }
+}
+
+impl Drop for Owner {
+    fn drop(&mut self) {
+        self.0 = [0; 252];
+        self.1.fetch_add(100, Relaxed);
+    }
+}
 
 // gives one byte a read; some reads are interrupted, and one fails
 struct Drip(Vec<u8>, usize);
@@ -583,6 +746,20 @@ fn main() -> Result<(), Box<dyn Error>> {
     }
     assert_eq!(found, [24, 100, 176]);
     assert!(!capture.ending().unwrap().is_pcapng);
+    // an owner of bytes, which may be in it, is moved with the capture, asked for them once, and dropped with it
+    let counts = Arc::new(AtomicUsize::new(0));
+    let owner = Owner(bytes.clone().try_into().unwrap(), counts.clone());
+    let mut capture = Box::new(is_sent(capt::Capture::from_owner(owner, false)?));
+    for want in [24, 100, 176] {
+        assert_eq!(capture.next()?.unwrap().offset, want);
+        capture = Box::new(is_sent(*capture));
+    }
+    assert_eq!(format!("{capture:?}"), "Capture { bytes: 252, .. }");
+    assert_eq!(counts.load(Relaxed), 1);
+    drop(capture);
+    assert_eq!(counts.load(Relaxed), 101);
+    let shared: Arc<[u8]> = bytes.clone().into();
+    assert!(capt::Capture::from_owner(shared, false)?.next()?.is_some());
     // a reader, whose error is the source's, and which goes on after it
     let mut reader = capt::Reader::open(Drip(bytes.clone(), 0), false)?;
     assert!(format!("{reader:?}").starts_with("Reader"));
@@ -670,6 +847,9 @@ def check_rust_build(count, folder, library):
 
 def main():
     program = sys.argv[1] if len(sys.argv) > 1 else PROGRAM
+    # a fault of the binding for Python in this process, or a call that doesn't end, is told, and ends it
+    faulthandler.enable()
+    faulthandler.dump_traceback_later(3600, exit=True)
     count = Count()
     with tempfile.TemporaryDirectory() as folder:
         library = sys.argv[2] if len(sys.argv) > 2 else os.path.join(folder, "lib")
@@ -694,7 +874,10 @@ def main():
             check_python_ends(count, capt, name, dict(contents)[name])
         example = dict(contents)["monday.pcap"]
         check_sources(count, capt, folder, example)
+        check_times(count, capt)
+        check_hints(count, capt)
         check_errors(count, capt, folder, example)
+        check_wheel(count, capt, folder)
         check_python_processes(count, folder)
         path = bench.name(example)
         for it in (checker, shared):
@@ -711,6 +894,7 @@ def main():
         count.check("the names that are seen", seen == declared, seen ^ declared)
         count.check("the version", run([program, "--version"])[1].decode().split()[:2] == ["capt", capt.version()])
         check_faults(count, checker, shim, path, example)
+        check_example(count, folder, library, shim, bench, example)
         for name in "monday.pcap", "tuesday.pcapng":
             check_ends(count, checker, bench, name, dict(contents)[name])
         many = [example] * 32

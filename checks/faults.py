@@ -7,8 +7,7 @@ have written nothing, and the other commands a prefix, and has given all memory 
 `Fault::Memory`, each has to pass, whichever request is refused.
 
 Devices: each read of each file failing in turn, which is told with the header, record or block that it is of (`list`,
-`blocks` and a merge: after all that comes before it, `digest`: after the lines of the files before; `check` prints it
-on the file's line, and goes on); a writer that fails, or takes nothing, after any number of bytes, which has just these
+`blocks` and a merge: after all that comes before it; `digest` and `check` print it on the file's line, and go on); a writer that fails, or takes nothing, after any number of bytes, which has just these
 (one that a signal interrupts is asked again); a file without end, which rule 14 stops, and a read of it that fails
 beyond byte 2^32.
 
@@ -69,6 +68,7 @@ GROWTHS = {
     "info": ["runs-back and options", "cut"],
     "digest": ["runs-back and options", "cut"],
     "check": ["runs-back and options", "cut", "interfaces", "longest, twice"],
+    "check-digest": ["runs-back and options", "cut", "longest, twice"],
     "merge": ["runs-back", "interfaces"],
     "merge-pcap": ["runs-back"],
     "join": ["overlapped-fragments", "interfaces"],
@@ -76,14 +76,16 @@ GROWTHS = {
     "pcapng": ["carry-pcap", "interfaces"],
     "pcap": ["carry-pcapng", "longest"],
     "list": ["options", "carry-pcap", "longest"],
+    "classed": ["tagged-frames", "longest"],
     "diff": ["runs-back", "carried", "longest, twice"],
     "blocks": ["options", "interfaces"],
 }
 DEVICES = {
     "report": ["tagged-frames", "overlapped-fragments", "runs-back and options"],
     "info": ["runs-back and options"],
-    "digest": ["runs-back and options"],
+    "digest": ["runs-back and options", "cut", "simple and two sections"],
     "check": ["runs-back and options", "tagged-frames", "cut", "simple and two sections", "five interfaces, one packet"],
+    "check-digest": ["runs-back and options", "tagged-frames", "cut"],
     "merge": ["runs-back", "runs-back and options"],
     "merge-pcap": ["runs-back", "runs-back and options"],
     "join": ["overlapped-fragments", "runs-back"],
@@ -91,6 +93,7 @@ DEVICES = {
     "pcapng": ["carry-pcap", "carry-pcapng", "options"],
     "pcap": ["carry-pcap", "carry-pcapng"],
     "list": ["options", "tagged-frames"],
+    "classed": ["tagged-frames", "overlapped-fragments"],
     "diff": ["runs-back", "carried"],
     "blocks": ["options"],
 }
@@ -115,14 +118,14 @@ def told_as(task, seen, wanted, fault):
     wanted: of `check` whole lines."""
     status, text, error, _, _, blocks = seen
     is_front = text == b"" if task in ("diff", "report", "info") else wanted[1].startswith(text)
-    return (status, error, blocks) == (1, fault, 0) and is_front and (task != "check" or text[-1:] in (b"", b"\n"))
+    return (status, error, blocks) == (1, fault, 0) and is_front and (task not in model.SURVEYS or text[-1:] in (b"", b"\n"))
 
 
 def growths_before_files(bench, shim, out, task):
     """Refuses each growth of a run whose file is missing: those of the command line. The first number that meets none, and
     what was wrong."""
     words = words_of(task, [os.path.join(bench.folder, "missing")] * (2 if task == "diff" else 1), out=out)
-    ended = (1, model.unopened(1).encode(), b"") if task == "check" else (1, b"", b"fault: open file 1\n")
+    ended = (1, model.unopened(1, task).encode(), b"") if task in model.SURVEYS else (1, b"", b"fault: open file 1\n")
     for n in range(1, 10_000):
         seen = run(words, bench.program, (shim, {"GROWTHS": f"{n}-{n + 1}"}))
         if seen[3] == 0:
@@ -233,17 +236,15 @@ def reads_of(count, bench, shim, out, task, row):
             is_so = told_as(task, seen, wanted, f"fault: read file {number} offset {offset}\n".encode()) and seen[3] == 1
             if task == "diff" and seen[3] == 0:        # it ended before that read
                 is_so = seen[:3] == wanted and seen[5] == 0
-            if task in ("list", "blocks"):
+            if task in ("list", "classed", "blocks"):
                 is_so = is_so and seen[1] == wanted_of(task, [content[:offset]])[1]
-            if task == "digest":
-                is_so = is_so and seen[1] == wanted_of(task, contents[:number - 1])[1]
             if task in ("merge", "merge-pcap"):
                 is_so = is_so and len(model.File(1, seen[1], True).packets) == MERGED_BEFORE[row][number, offset]
             count.check(f"{task} of {row}, read {call} of file {number}", is_so, seen)
 
 
 def checked_reads_of(count, bench, shim, out, task, row):
-    """The same of `check`, which prints it on the file's line and goes on. It opens one file after another, and each of
+    """The same of `digest` and `check`, which print it on the file's line and go on. It opens one file after another, and each of
     them is the open file 3."""
     contents, call = ROWS[row], 0
     lines = wanted_of(task, contents)[1].splitlines(True)
@@ -252,7 +253,7 @@ def checked_reads_of(count, bench, shim, out, task, row):
         for read in range(len(content) + 1):
             call += 1
             seen = bench.run(task, contents, faults=(shim, {"READ": f"3-{call}", "PIECE": 1}))
-            told = model.unread(number, content, max(place for place in places if place <= read))
+            told = model.unread(number, content, max(place for place in places if place <= read), task)
             wanted = b"".join([*lines[:number - 1], told.encode(), *lines[number:]])
             is_so = seen[:4] == (1, wanted, b"", 1) and seen[5] == 0
             count.check(f"{task} of {row}, read {read + 1} of file {number}", is_so, wanted, seen)
@@ -275,7 +276,10 @@ def endless(count, bench, shim, out):
     told = f"refused offset {offset} rule 14 file-limit"
     is_so = seen[:3] == (1, model.check_line(1, told, format="pcapng", skipped=256).encode(), b"") and seen[4] < 16_384
     count.check("check of a file without end", is_so, seen)
-    for task in ("list", "blocks", "info", "report", "digest", "pcap", "pcapng", "merge", "join", "merge-pcap", "join-pcap"):
+    seen = bench.run("digest", [SECTION], faults=(shim, {"ENDLESS": 1}))
+    is_so = seen[:3] == (1, f"digest 1 {told}\n".encode(), b"") and seen[4] < 16_384
+    count.check("digest of a file without end", is_so, seen)
+    for task in ("list", "blocks", "info", "report", "pcap", "pcapng", "merge", "join", "merge-pcap", "join-pcap"):
         seen = bench.run(task, [SECTION], task == "list", out=out, faults=(shim, {"ENDLESS": 1}))
         is_so = (seen[0], seen[2]) == (1, f"refused: file 1 offset {offset} rule 14 file-limit\n".encode())
         count.check(f"{task} of a file without end", is_so and seen[4] < 16_384 and (task != "blocks" or seen[1].count(b"\n") == 257), seen)
@@ -307,7 +311,10 @@ def far(count, bench, shim, out):
     seen = bench.run("check", [SECTION], faults=(shim, {"ENDLESS": 1, "READ": "3-99999"}))
     is_so = seen[:4] == (1, model.check_line(1, f"read offset {offset}", format="pcapng", skipped=1).encode(), b"", 1)
     count.check("check, a read that fails beyond byte 2^32", is_so, seen)
-    for task in ("list", "blocks", "info", "report", "digest", "pcap", "pcapng", "merge", "join", "merge-pcap", "join-pcap"):
+    seen = bench.run("digest", [SECTION], faults=(shim, {"ENDLESS": 1, "READ": "3-99999"}))
+    is_so = seen[:4] == (1, f"digest 1 read offset {offset}\n".encode(), b"", 1)
+    count.check("digest, a read that fails beyond byte 2^32", is_so, seen)
+    for task in ("list", "blocks", "info", "report", "pcap", "pcapng", "merge", "join", "merge-pcap", "join-pcap"):
         seen = bench.run(task, [SECTION], out=out, faults=(shim, {"ENDLESS": 1, "READ": "3-99999"}))
         is_so = (seen[0], seen[2], seen[3]) == (1, f"fault: read file 1 offset {offset}\n".encode(), 1)
         count.check(f"{task}, a read that fails beyond byte 2^32", is_so, seen)
@@ -317,7 +324,7 @@ def devices(count, bench, shim, pool):
     jobs = []
     for task, rows in DEVICES.items():
         for row in rows:
-            for check in (checked_reads_of if task == "check" else reads_of, writes_of):
+            for check in (checked_reads_of if task in model.SURVEYS else reads_of, writes_of):
                 jobs.append(pool.submit(check, count, bench, shim, os.path.join(bench.folder, f"{check.__name__}-{task}-{row}"), task, row))
     for check in (endless, far, standard):
         jobs.append(pool.submit(check, count, bench, shim, os.path.join(bench.folder, check.__name__)))

@@ -116,7 +116,9 @@ def main():
         text, status = rest_of(*begun(["check", "--explain", "a", "none", " c", "."], folder, program))
         ends = re.findall(r"^check \d .* interfaces \d (.*)$", text, re.M)
         wanted = ["whole", "open", "refused offset 0 rule 3 cut", "read offset 0"]
-        count.check("a check at a terminal", (status, ends, text.count("\n")) == (1, wanted, 4), status, text)
+        hints = re.findall(r"^  (.*)$", text, re.M)
+        whys = ["none: No such file or directory (os error 2)", ".: it is a folder"]
+        count.check("a check at a terminal", (status, ends, hints, text.count("\n")) == (1, wanted, whys, 6), status, text)
         # Stopped for over two seconds once it has read 2 MB: what it shows after that is how much of both files it has read.
         write_sparse(os.path.join(folder, "a"), 300_000_000)
         write_sparse(os.path.join(folder, "b"), 500_000_000)

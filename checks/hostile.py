@@ -16,9 +16,9 @@ import multiprocessing, os, tempfile
 import model
 from captures import PROGRAM, VECTORS, Bench, Count, block, make_shim, vector
 
-ONE = ["list", "blocks", "info", "report", "digest", "check", "pcapng", "pcap", "merge", "join", "merge-pcap",
-       "join-pcap"]
-MANY = ["diff", "info", "report", "digest", "check", "merge", "join", "merge-pcap", "join-pcap"]
+ONE = ["list", "classed", "blocks", "info", "report", "digest", "check", "check-digest", "pcapng", "pcap", "merge", "join",
+       "merge-pcap", "join-pcap"]
+MANY = ["diff", "info", "report", "digest", "check", "check-digest", "merge", "join", "merge-pcap", "join-pcap"]
 
 # The lengths at which `list` accepts a worked file that is cut; at every other it is refused by rule 3, at the greatest of
 # these and 0 that isn't above the length.
@@ -135,10 +135,11 @@ def main():
         section = vector("CARRY_PCAPNG")[:28]
         for content, offset, rule in lying_lengths():
             refusal = f"refused: file 1 offset {offset} rule {rule} {model.RULES[rule]}\n".encode()
-            line = CHECKED.format(f"refused offset {offset} rule {rule} {model.RULES[rule]}").encode()
+            end = f"refused offset {offset} rule {rule} {model.RULES[rule]}"
+            lines = {"digest": f"digest 1 {end}\n", "check": CHECKED.format(end), "check-digest": CHECKED.format(f"sha256 - {end}")}
             for task in ONE:
                 seen = bench.run(task, [section + content], out=os.path.join(folder, "out"))
-                is_so = seen == (1, line, b"") if task == "check" else seen[0] == 1 and seen[2] == refusal
+                is_so = seen == (1, lines[task].encode(), b"") if task in lines else seen[0] == 1 and seen[2] == refusal
                 count.check(f"{task} of a block that lies", is_so, content[:12], seen)
                 if task in ("info", "report"):
                     count.check(f"{task} writes nothing", seen[1] == b"", seen)

@@ -11,7 +11,8 @@ After a conversion `check` counts as many packets, and as many that run back, ha
 after a merge the sums of these.
 
 The report over captures without fragments is the sum of the reports over each: totals, classes, and the rows of
-conversations with their least and greatest times.
+conversations with their least and greatest times. It counts as many packets of each class as `list --class` names in
+each capture.
 
 Use: checks/invariance.py [PROGRAM]     (as after `rt run` or `rt ci` in crates/capt)"""
 import sys
@@ -140,6 +141,10 @@ def main():
                 alone = [done(["report", "--json", file])[1] for file in files]
                 together = done(["report", "--json", *files])[1]
                 count.check(f"{name}: the sum of the reports", counted_in([together]) == counted_in(alone), together, alone)
+                named = Counter(line.split(" class ")[1].split()[0] for file in files for line in done(["list", "--class", file])[1].splitlines())
+                told_of_frames = next(line for line in told.splitlines() if line.startswith("frames ")).split()[1:]
+                wanted = {told_of_frames[at]: int(told_of_frames[at + 1]) for at in range(0, len(told_of_frames), 2)}
+                count.check(f"{name}: the classes", {key: n for key, n in wanted.items() if n} == named, wanted, named)
             for order in ("little", "big"):
                 count.check(f"{name}: merge", done(["merge", "--order", order, "-o", out, *files]) == (0, "", ""))
                 count.check(f"{name}: merged, {order}", body(done(["report", out])[1]) == body(told), told)
@@ -147,6 +152,7 @@ def main():
             for file, rule, numbers in zip(files, rules, checked):
                 alone, digest = done(["report", file])[1], done(["digest", file])
                 count.check(f"{name}: digest", digest[0] == 0 and digest[1].startswith("digest 1 sha256 "), digest)
+                count.check(f"{name}: digest in check", f" sha256 {digest[1].split()[3]} whole\n" in done(["check", "--digest", file])[1], digest)
                 count.check(f"{name}: pcapng", done(["convert", "--to", "pcapng", "-o", out, file]) == (0, "", ""))
                 count.check(f"{name}: report of pcapng", body(done(["report", out])[1]) == body(alone), alone)
                 same = (0, f"same packets {re.search('packets ([0-9]+)', alone)[1]}\n", "")

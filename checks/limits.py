@@ -53,19 +53,20 @@ class Edges:
         return out
 
     def checks(self, name, file, told):
-        """`check` prints how a file is refused on its line, and nothing else."""
-        status, out, error = run(["check", file], self.program)
+        """`check` and `digest` print how a file is refused on its line, and nothing else."""
         end = told.replace("refused: file 1 ", " refused ") + "\n"
-        is_so = out.startswith(b"check 1 ") and out.endswith(end.encode()) and out.count(b"\n") == 1
-        self.count.check(name, (status, error) == (1, b"") and is_so, status, out, error)
+        for word in ("check", "digest"):
+            status, out, error = run([word, file], self.program)
+            is_so = out.startswith(f"{word} 1 ".encode()) and out.endswith(end.encode()) and out.count(b"\n") == 1
+            self.count.check(f"{word} of {name}", (status, error) == (1, b"") and is_so, status, out, error)
 
     def everywhere(self, name, file, told, text=None):
-        """Every command refuses a file; `list` prints a text before, and `check` goes on."""
+        """Every command refuses a file; `list` prints a text before, and `check` and `digest` go on."""
         out = os.path.join(self.folder, "out")
         self.refuses(f"list of {name}", ["list", file], told, out=text or b"")
         self.refuses(f"diff of {name}", ["diff", file, file], told)
-        self.checks(f"check of {name}", file, told)
-        for words in (["info"], ["report"], ["digest"], ["merge", "-o", out], ["join", "-o", out], ["convert", "--to", "pcap", "-o", out],
+        self.checks(name, file, told)
+        for words in (["info"], ["report"], ["merge", "-o", out], ["join", "-o", out], ["convert", "--to", "pcap", "-o", out],
                       ["convert", "--to", "pcapng", "-o", out]):
             self.refuses(f"{words[0]} of {name}", [*words, file], told)
 
@@ -219,14 +220,18 @@ def files(edges):
     edges.accepts("32 files, join", ["join", "-o", out, *[file] * 32])
     edges.accepts("33 files, check", ["check", *[file] * 33], "check 1 pcap packets 1 ", "check 33 pcap packets 1 ")
     edges.accepts("1,000 files, check", ["check", *[file] * 1000], "check 1000 pcap packets 1 ")
-    seen = run(["-c", 'ulimit -n 16; exec "$@"', "bash", edges.program, "check", *[file] * 100], "bash")
-    is_so = (seen[0], seen[1].count(b" whole\n"), seen[2]) == (0, 100, b"")
-    edges.count.check("100 files, of which a process can't hold 16 open, check", is_so, seen)
+    edges.accepts("1,000 files, digest", ["digest", *[file] * 1000], "digest 1000 sha256 ")
+    for word, end in (("check", b" whole\n"), ("digest", b" packets 1\n")):
+        seen = run(["-c", 'ulimit -n 16; exec "$@"', "bash", edges.program, word, *[file] * 100], "bash")
+        is_so = (seen[0], seen[1].count(end), seen[2]) == (0, 100, b"")
+        edges.count.check(f"100 files, of which a process can't hold 16 open, {word}", is_so, seen)
     edges.takes("10,000 files, check", ["check", *[file] * 10_000], 8)
+    names = edges.file("names", (os.fsencode(file) + b"\0") * 100_000)
+    edges.takes("100,000 files of a list, check", ["check", "--files0-from", names], 24)
     longest = edges.file("longest", SECTION, INTERFACE, packet(0, 1, b"\1", struct.pack("<HH", 1, 0) * ((524_288 - 36) // 4)))
     edges.takes("32 files with a block of 524,288 bytes", ["report", *[longest] * 32], 24)
     edges.takes("32 files with a block of 524,288 bytes, check", ["check", *[longest] * 32], 4)
-    for words in (["info"], ["report"], ["digest"], ["merge", "-o", out], ["join", "-o", out]):
+    for words in (["info"], ["report"], ["merge", "-o", out], ["join", "-o", out]):
         edges.refuses(f"33 files, {words[0]}", [*words, *[file] * 33], "fault: files", 2)
 
 

@@ -254,6 +254,42 @@ def transport_of(protocol, data, length):
     return "bad" if inner < least or inner > length else struct.unpack_from(">HH", data)
 
 
+def header_reason(data, whole):
+    """Why a packet is bad or cut whose header isn't found."""
+    if len(data) < 20:
+        return "header-short"
+    first, _, total, _, flags = struct.unpack_from(">BBHHH", data)
+    size, more, start = (first & 15) * 4, flags & 0x2000, (flags & 0x1FFF) * 8
+    length = total - size
+    tests = [("version", first >> 4 != 4), ("header-length", size < 20), ("length-zero", total == 0), ("length-short", length < 0),
+             ("header-short", len(data) < size), ("beyond-frame", whole and len(data) < total), ("fragment-empty", length == 0),
+             ("fragment-block", more and length % 8), ("fragment-beyond", start + length > MOST_END), ("fragment-cut", True)]
+    return next(name for name, holds in tests if holds)
+
+
+def transport_reason(protocol, data, length):
+    """Why a datagram of UDP or TCP is bad or cut."""
+    name, least, other = ("udp", 8, "length") if protocol == 17 else ("tcp", 20, "offset")
+    return f"{name}-{'short' if length < least or len(data) < least else other}"
+
+
+def description(packet):
+    """What a packet is by itself, as `list --class` says it."""
+    data, whole = ipv4_of(packet), packet.captured >= packet.original
+    if isinstance(data, str):
+        return "cut reason link-short" if data == "cut" else data
+    header = header_of(data, whole)
+    if isinstance(header, str):
+        return f"{header} reason {header_reason(data, whole)}"
+    if header.more or header.start:
+        return f"fragment identification {header.identification} fragment-offset {header.start}"
+    ports = transport_of(header.protocol, header.data, header.length)
+    if isinstance(ports, str):
+        return f"{ports} reason {transport_reason(header.protocol, header.data, header.length)}"
+    lesser, greater = sorted([(header.source, ports[0]), (header.destination, ports[1])], key=lambda end: (end[0], end[1] or 0))
+    return f"counted {protocol_text(header.protocol)} {end_text(header.protocol, lesser)} {end_text(header.protocol, greater)}"
+
+
 class Group:
     def __init__(self, clock):
         self.clock, self.bytes, self.covered, self.total, self.header, self.frames = clock, bytearray(), set(), None, None, []
@@ -385,14 +421,31 @@ def canonical(packet):
     return struct.pack(">HII", packet.interface.link, packet.captured, packet.original) + form + packet.data
 
 
+# Tasks that have a line for each file, also for one that isn't whole, and go on.
+SURVEYS = ("digest", "check", "check-digest")
+
+
+def digest_of(packets):
+    """The digits of the digest of packets."""
+    return hashlib.sha256(b"".join(canonical(packet) for packet in packets)).hexdigest()
+
+
+def end_of(file):
+    """How a file ends of which no read fails, as its line says it."""
+    if file.refusal:
+        return f"refused offset {file.refusal.offset} rule {file.refusal.rule} {RULES[file.refusal.rule]}"
+    return "whole cut" if file.ending.cut else "whole"
+
+
+def digested(file):
+    """The line of `digest` of a file of which no read fails."""
+    if file.refusal:
+        return f"digest {file.number} {end_of(file)}\n"
+    return f"digest {file.number} sha256 {digest_of(file.packets)} packets {len(file.packets)}{' cut' * file.ending.cut}\n"
+
+
 def digest(files):
-    lines = []
-    for file in files:
-        if file.refusal:
-            return "".join(lines), file.refusal
-        text = b"".join(canonical(packet) for packet in file.packets)
-        lines.append(f"digest {file.number} sha256 {hashlib.sha256(text).hexdigest()} packets {len(file.packets)}{' cut' * file.ending.cut}\n")
-    return "".join(lines), None
+    return "".join(digested(file) for file in files), None
 
 
 def check_line(number, end, packets=(), format="-", skipped=0, interfaces=0):
@@ -418,26 +471,34 @@ def checked_to(file, offset, end):
     return check_line(file.number, end, packets, file.format, skipped, interfaces)
 
 
-def checked(file):
-    """The line of a file of which no read fails."""
-    refusal = file.refusal
-    if refusal:
-        return checked_to(file, refusal.offset, f"refused offset {refusal.offset} rule {refusal.rule} {RULES[refusal.rule]}")
-    return checked_to(file, MOST_FILE + 1, "whole cut" if file.ending.cut else "whole")
+def checked(file, has_digest=False):
+    """The line of `check` of a file of which no read fails, with its digest or without."""
+    digits = "-" if file.refusal else digest_of(file.packets)
+    end = f"sha256 {digits} {end_of(file)}" if has_digest else end_of(file)
+    return checked_to(file, file.refusal.offset if file.refusal else MOST_FILE + 1, end)
 
 
-def unread(number, content, offset):
+def unread(number, content, offset, task="check"):
     """The line of a file of which a read fails in the header, record or block at that offset."""
-    return checked_to(File(number, content, False), offset, f"read offset {offset}")
+    end = f"read offset {offset}"
+    if task == "digest":
+        return f"digest {number} {end}\n"
+    return checked_to(File(number, content, False), offset, f"sha256 - {end}" if task == "check-digest" else end)
 
 
-def unopened(number):
+def unopened(number, task="check"):
     """The line of a file that can't be opened."""
-    return check_line(number, "open")
+    if task == "digest":
+        return f"digest {number} open\n"
+    return check_line(number, "sha256 - open" if task == "check-digest" else "open")
 
 
 def check(files):
     return "".join(checked(file) for file in files), None
+
+
+def check_digest(files):
+    return "".join(checked(file, True) for file in files), None
 
 
 # The characters that a terminal doesn't show: they control it, separate lines or turn the direction of what follows.
@@ -456,6 +517,10 @@ def named(line, name):
 def path_of(name):
     """A name as a string of JSON."""
     return '"' + "".join(f"\\u{ord(c):04x}" if is_hidden(c) else f"\\{c}" if c in '"\\' else c for c in name) + '"'
+
+
+def protocol_text(protocol):
+    return {17: "udp", 6: "tcp"}.get(protocol, f"p{protocol}")
 
 
 def end_text(protocol, end):
@@ -477,9 +542,8 @@ def report(files):
              "frames " + " ".join(f"{name} {count}" for name, count in table.classes.items()) + "\n",
              f"joined {table.joined} given-up {table.joiner.given_up}\n", f"talks {len(table.talks)}\n"]
     for (protocol, lesser, greater), (sums, frames) in table.talks.items():
-        name = {17: "udp", 6: "tcp"}.get(protocol, f"p{protocol}")
         first, last = (printed(frames[0][1]), printed(frames[1][1])) if frames else ("-", "-")
-        lines.append(f"talk {name} {end_text(protocol, lesser)} {end_text(protocol, greater)} forward {sums[0]} {sums[1]} "
+        lines.append(f"talk {protocol_text(protocol)} {end_text(protocol, lesser)} {end_text(protocol, greater)} forward {sums[0]} {sums[1]} "
                      f"backward {sums[2]} {sums[3]} first {first} last {last}\n")
     return "".join(lines), None
 
@@ -491,6 +555,11 @@ def packet_line(n, p, start=0):
 
 def list_(files):
     return "".join(packet_line(n, p) for n, p in enumerate(files[0].packets, 1)), files[0].refusal
+
+
+def classed(files):
+    """What `list --class` prints."""
+    return "".join(f"{packet_line(n, p)[:-1]} class {description(p)}\n" for n, p in enumerate(files[0].packets, 1)), files[0].refusal
 
 
 def differences(a, b, ignored=()):
@@ -528,10 +597,12 @@ def diff(files, ignored=()):
         return "", refusal
     n, words, *packets = found
     if not words:
-        return f"same packets {n}\n", None
+        cuts = [f" cut {name}" * file.ending.cut for name, file in zip("AB", files)]
+        return f"same packets {n}{''.join(cuts)}\n", None
     place = data_place(*packets)
     row = 0 if place is None else place // 16 * 16
-    sides = [f"{sign} {packet_line(n, packet, row) if packet else 'end' + chr(10)}" for sign, packet in zip("-+", packets)]
+    sides = [f"{sign} " + (packet_line(n, packet, row) if packet else f"end{' cut' * file.ending.cut}\n")
+             for sign, packet, file in zip("-+", packets, files)]
     return f"differ packet {n} {' '.join(words)}{'' if place is None else f' at {place}'}\n{''.join(sides)}", None
 
 
@@ -637,8 +708,8 @@ def join(to, order, files):
 
 def answer(task, contents, allow_cut=False, order="<", ignored=()):
     """What a task has to write over the contents of files, and the refusal or None. The task is a command's name, `pcap` or
-    `pcapng` for `convert` to that format, or `merge-pcap` or `join-pcap` for `merge` or `join` to pcap. `diff` ignores times, link types or
-    original lengths, if these are named."""
+    `pcapng` for `convert` to that format, `merge-pcap` or `join-pcap` for `merge` or `join` to pcap, `check-digest` for
+    `check --digest`, or `classed` for `list --class`. `diff` ignores times, link types or original lengths, if these are named."""
     files = [File(number, data, allow_cut, task == "blocks") for number, data in enumerate(contents, 1)]
     to = "pcap" if task.endswith("-pcap") else "pcapng"
     if task in ("merge", "merge-pcap"):
@@ -652,12 +723,13 @@ def answer(task, contents, allow_cut=False, order="<", ignored=()):
         return join(to, order, files)
     if task == "diff":
         return diff(files, ignored)
-    return {"list": list_, "blocks": blocks, "info": info, "report": report, "digest": digest,
-            "check": check}[task](files)
+    return {"list": list_, "classed": classed, "blocks": blocks, "info": info, "report": report, "digest": digest,
+            "check": check, "check-digest": check_digest}[task](files)
 
 
 def status_of(task, text, refusal):
     """The status after such an answer."""
-    if task == "check":
-        return 0 if all(" whole" in line for line in text.splitlines()) else 1
+    if task in SURVEYS:
+        whole = " packets " if task == "digest" else " whole"
+        return 0 if all(whole in line for line in text.splitlines()) else 1
     return 1 if refusal else 3 if task == "diff" and text.startswith("differ") else 0

@@ -2,7 +2,7 @@
 """JSON Lines: what `list`, `blocks`, `diff`, `info`, `report`, `digest` and `check` print with --json is, object for
 object and byte for byte, what the text lines of the model say of the same files, and Python's json reads each line as
 those values. Over the files of checks/corpus/, the examples, the worked captures, and captures made at random, some of
-them damaged; `list` and `diff` also with --data, and `diff` with --ignore. A refusal and a fault are an object too, with the file's path.
+them damaged; `list` and `diff` also with --data, `list` with --class, and `diff` with --ignore. A refusal and a fault are an object too, with the file's path.
 
 Use: checks/objects.py [PROGRAM [CAPTURES]]     (as after `rt run` or `rt ci` in crates/capt; 10,000 random captures in about a minute)
 """
@@ -14,10 +14,10 @@ import json, os, random, re, tempfile
 from concurrent.futures import ThreadPoolExecutor
 
 import model
-from captures import PROGRAM, TOP, VECTORS, Bench, Count, make_shim, run, vector, wanted_of
+from captures import PROGRAM, TOP, VECTORS, Bench, Count, make_shim, run, vector, wanted_of, words_of
 from soak import mutated, some_capture, some_pair
 
-TASKS = ("list", "blocks", "info", "report", "digest", "check")
+TASKS = ("list", "classed", "blocks", "info", "report", "digest", "check", "check-digest")
 PROTOCOLS = {"udp": 17, "tcp": 6}
 TIME = re.compile(r"(-?\d+)\+(\d+)/(\d+)")
 
@@ -47,13 +47,33 @@ def check_end_of(words):
     return {"read": place} if words[0] == "read" else {"refused": {**place, "rule": int(words[4]), "name": words[5]}}
 
 
+def digest_of(words):
+    """The members of the digest of a file that is checked, if its line has one, and of how it ends."""
+    if words[0] == "sha256":
+        return {"sha256": None if words[1] == "-" else words[1], **check_end_of(words[2:])}
+    return check_end_of(words)
+
+
+def described(words):
+    """The members that tell what a packet is by itself, if that is told."""
+    if not words:
+        return {}
+    _, kind, *words = words
+    if kind == "counted":
+        name, a, b = words
+        return {"class": kind, "protocol": PROTOCOLS.get(name) or int(name[1:]), "a": end_of(a), "b": end_of(b)}
+    if kind == "fragment":
+        return {"class": kind, **pairs_of(words)}
+    return {"class": kind, **dict(zip(words[::2], words[1::2]))}
+
+
 def object_of(line):
     """The object of a text line, with its keys in their order."""
     kind, *words = line.split()
     if kind == "packet":
-        n, _, offset, _, time, _, captured, _, original, _, link, _, data = words
+        n, _, offset, _, time, _, captured, _, original, _, link, _, data, *told = words
         return {"type": kind, "n": int(n), "offset": int(offset), "time": time_of(time), "captured": int(captured), "original": int(original),
-                "link": int(link), "data": "" if data == "-" else data}
+                "link": int(link), "data": "" if data == "-" else data, **described(told)}
     if kind == "block":
         n, _, offset, _, order, _, number, _, total = words
         return {"type": kind, "n": int(n), "offset": int(offset), "order": order, "kind": number, "total": int(total)}
@@ -69,8 +89,14 @@ def object_of(line):
     if kind == "differ":
         words, place = (words[:-2], {"data_at": int(words[-1])}) if "at" in words else (words, {})
         return {"type": kind, "packet": int(words[1]), "differs": words[2:], **place}
+    if kind in "-+" and words[0] == "end":
+        return {"type": "side", "side": kind, "packet": None, "cut": words[1:] == ["cut"]}
     if kind in "-+":
-        return {"type": "side", "side": kind, "packet": None if words == ["end"] else object_of(" ".join(words))}
+        return {"type": "side", "side": kind, "packet": object_of(" ".join(words))}
+    if kind == "same":
+        return {"type": kind, **pairs_of(words[:2]), "cut_a": "A" in words, "cut_b": "B" in words}
+    if kind == "digest" and words[1] != "sha256":
+        return {"type": kind, "file": int(words[0]), **check_end_of(words[1:])}
     if kind == "digest":
         number, _, digits, _, packets, *cut = words
         return {"type": kind, "file": int(number), "sha256": digits, "packets": int(packets), "cut": cut == ["cut"]}
@@ -78,7 +104,7 @@ def object_of(line):
         number, form, *sums = words[:6]
         _, first, _, last = words[6:10]
         return {"type": kind, "file": int(number), "format": None if form == "-" else form, **pairs_of(sums), "first": time_of(first),
-                "last": time_of(last), **pairs_of(words[10:20]), **check_end_of(words[20:])}
+                "last": time_of(last), **pairs_of(words[10:20]), **digest_of(words[20:])}
     if kind in ("files", "talks", "joined"):
         words = [kind, *words]
     return {"type": kind, **pairs_of(words)}
@@ -116,7 +142,7 @@ def wanted_objects(task, contents, paths, allow_cut, data=None, ignored=()):
     """The status, standard output and standard error with --json."""
     text, refusal = model.answer(task, contents, allow_cut, ignored=ignored)
     objects = all_objects(text)
-    if task == "check":
+    if task in model.SURVEYS:
         objects = [{**told, "path": name} for told, name in zip(objects, paths)]
     if data is not None:
         files = [model.File(number, content, allow_cut) for number, content in enumerate(contents, 1)]
@@ -140,7 +166,7 @@ def main():
 
         def holds(bench, task, contents, allow_cut, data=None, faults=None, ignored=()):
             paths = [bench.name(content) for content in contents]
-            words = [task, "--json", *(["--allow-cut"] if allow_cut else []), *([] if data is None else ["--data", str(data)]),
+            words = [*words_of(task, []), "--json", *(["--allow-cut"] if allow_cut else []), *([] if data is None else ["--data", str(data)]),
                      *(f"--ignore={kind}" for kind in ignored), *paths]
             seen = run(words, program, faults)[:3]
             wanted = wanted_objects(task, contents, paths, allow_cut, data, ignored)
@@ -159,8 +185,9 @@ def main():
             for other in (content, vector("CARRY_PCAPNG")):
                 for data in (None, 0, 3, 128, 129, 262_144):
                     holds(bench, "diff", [content, other], False, data)
-            for data in (0, 3, 199, 200, 201, 400, 262_144):
+            for data in (0, 3, 60, 61, 199, 200, 201, 400, 262_144):
                 holds(bench, "list", [content], False, data)
+                holds(bench, "classed", [content], False, data)
 
         def random_one(n):
             rng, bench = random.Random(f"objects/{n}"), Bench(tempfile.mkdtemp(dir=folder), program)
@@ -168,9 +195,9 @@ def main():
             for place, content in enumerate(contents):
                 for _ in range(rng.choice([0, 0, 0, 1, 2])):
                     contents[place] = mutated(rng, content, rng.choice(contents))
-            task, allow_cut = rng.choice(("info", "report", "digest", "check", "blocks")), rng.random() < 0.5
+            task, allow_cut = rng.choice(("info", "report", "digest", "check", "check-digest", "blocks")), rng.random() < 0.5
             holds(bench, task, contents[:1] if task == "blocks" else contents, allow_cut)
-            holds(bench, "list", contents[:1], allow_cut, rng.choice((None, None, 0, 20, 262_144)))
+            holds(bench, rng.choice(("list", "classed")), contents[:1], allow_cut, rng.choice((None, None, 0, 20, 262_144)))
             pair, ignored = some_pair(rng, contents), [kind for kind in ("time", "link", "original") if rng.random() < 0.3]
             holds(bench, "diff", pair, allow_cut, rng.choice((None, None, 0, 20, 262_144)), ignored=ignored)
             for name in os.listdir(bench.folder):

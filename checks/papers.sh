@@ -51,6 +51,8 @@ def status_after(text):
     refused = text.startswith(("refused: ", '{"type":"refused"'))
     checked = [line for line in text.split("\n") if line.startswith(("check ", '{"type":"check"'))]
     refused = refused or any(" whole" not in line and '"whole":true' not in line for line in checked)
+    digested = [line for line in text.split("\n") if line.startswith(("digest ", '{"type":"digest"'))]
+    refused = refused or any(" sha256 " not in line and '"sha256":' not in line for line in digested)
     return 1 if refused else 3 if text.startswith(("differ ", '{"type":"differ"')) else 0
 
 # A command goes on in the lines after it that begin with two spaces.
@@ -80,7 +82,7 @@ judged("man/capt.1, rules", told == rules, f"other rules: {sorted(told ^ rules)}
 lines = set(re.sub(r"^\.B |\\f.", "", page, flags=re.M).replace("\\-", "-").split("\n"))
 whole = re.sub(r"\n    (?=\w)", " ", text_of("checks/says.txt"))
 shown = set(re.findall(r"^  ((?:files?|total|frames|joined|talks?|packet|block|same|differ|digest|check) \S.*)$", whole, re.M))
-judged("man/capt.1, lines", len(shown) == 13 and shown <= lines, f"lacks {sorted(shown - lines)}")
+judged("man/capt.1, lines", len(shown) == 16 and shown <= lines, f"{len(shown)} lines, lacks {sorted(shown - lines)}")
 
 # a pipe into or out of capt fails if any of its programs does
 TASK = "(?:report|info|list|blocks|diff|digest|check|convert|merge|join)"
@@ -91,7 +93,7 @@ for page in ("README.md", "docs/GUIDE.md", "docs/RULES.md", "docs/RECIPES.md", "
     judged(f"{page}, pipes", pipes and not lost, f"without pipefail: {lost}")
 
 ran = subprocess.run([f"{top}/checks/trusted.py"], capture_output=True, text=True)
-for command, definitions, lines, crates in re.findall(r"^(\w+): (\d+) definitions, (\d+) lines \((.*)\)$", ran.stdout, re.M):
+for command, definitions, lines, crates in re.findall(r"^(\w[\w -]*): (\d+) definitions, (\d+) lines \((.*)\)$", ran.stdout, re.M):
     row = f"| `{command}` | {definitions} | {lines} | {crates} |"
     judged(f"docs/CLAIMS.md, {command}", row in text_of("docs/CLAIMS.md"), f"wants the row {row}")
 
@@ -214,6 +216,7 @@ number = version.split()[0]
 for page, told in [
     ("crates/capt_c/src/names.rt", f'VERSION: &str = "{number}";'),
     ("bindings/rust/Cargo.toml", f'\nversion = "{number}"\n'),
+    ("bindings/python/pyproject.toml", f'\nversion = "{number}"\n'),
     ("man/capt.1", f'"capt {number}" "User commands"'),
     ("CHANGELOG.md", f"\n## [{number}] - 20"),
 ]:

@@ -114,17 +114,23 @@ run report - -; check 'report of standard input twice' 2 '' 'fault: input'
 run report; check 'report of no file' 2 '' '*'
 "$program" report "$one" > /dev/full 2> "$work/err"; status=$?; : > "$work/out"; check 'report on a full disk' 1 '' 'fault: write'
 "$program" report "$work/cut.pcap" > /dev/full 2> "$work/err"; status=$?; check 'report of a cut file on a full disk' 1 '' 'refused: file 1 offset 24 rule 3 cut'
-# digest: the SHA-256 of the canonical text of that packet, also where a pcapng file has it; the lines before a fault stand
+# digest: the SHA-256 of the canonical text of that packet, also where a pcapng file has it; a file that is not whole has a line too
 digest='sha256 ae7312267c797be18247384507fd1956f2af9397397bd84f72a62298f1352b4e packets 1'
 run digest "$one" "$work/want.pcapng" "$work/big.pcap"; check 'digest' 0 "digest 1 $digest
 digest 2 $digest
 digest 3 $digest" ''
 input=$one; run digest -; check 'digest of standard input' 0 "digest 1 $digest" ''; input=
-run digest "$one" "$work/cut.pcap" "$one"; check 'digest of a cut file' 1 "digest 1 $digest" 'refused: file 2 offset 24 rule 3 cut'
+run digest "$one" "$work/cut.pcap" "$one"; check 'digest of a cut file' 1 "digest 1 $digest
+digest 2 refused offset 24 rule 3 cut
+digest 3 $digest" ''
 run digest --allow-cut "$work/cut.pcap" "$one"; check 'digest of a cut file, whose end is dropped' 0 "digest 1 sha256 e3b0c44298fc1c149afbf4c8996fb92427ae41e4649b934ca495991b7852b855 packets 0 cut
 digest 2 $digest" ''
-run digest "$one" "$work/folder"; check 'digest of a folder' 1 "digest 1 $digest" 'fault: read file 2 offset 0'
-run digest "$one" "$work/missing"; check 'digest of a missing file' 1 '' 'fault: open file 2'
+run digest "$one" "$work/folder"; check 'digest of a folder' 1 "digest 1 $digest
+digest 2 read offset 0" ''
+run digest --names "$work/missing" "$one"; check 'digest of a missing file' 1 "digest 1 open name $work/missing
+digest 2 $digest name $one" ''
+run check --digest "$one"; check 'check with a digest' 0 "check 1 pcap packets 1 bytes 4 first 2+500000/1000000 last 2+500000/1000000 \
+backward 0 untimed 0 truncated 0 skipped 0 interfaces 1 ${digest%% packets*} whole" ''
 run digest - -; check 'digest of standard input twice' 2 '' 'fault: input'
 "$program" digest "$one" > /dev/full 2> "$work/err"; status=$?; : > "$work/out"; check 'digest on a full disk' 1 '' 'fault: write'
 # check: a line for each file, also for one that is refused, can't be read or can't be opened
@@ -140,10 +146,17 @@ check 3 - $none 0 read offset 0
 check 4 - $none 0 open
 check 5 pcap $held whole" ''
 run check --allow-cut "$work/cut.pcap"; check 'check of a cut file, accepted' 0 "check 1 pcap $none 1 whole cut" ''
-run check --explain "$one" "$work/cut.pcap" '' "$one/a"; check 'check, explained' 1 "check 1 pcap $held whole
+checked="check 1 pcap $held whole
 check 2 pcap $none 1 refused offset 24 rule 3 cut
 check 3 - $none 0 open
-check 4 - $none 0 open" ''
+check 4 - $none 0 open
+check 5 - $none 0 read offset 0"
+run check --explain "$one" "$work/cut.pcap" '' "$one/a" "$work/folder"; check 'check, explained' 1 "$checked" "  : No such file or directory (os error 2)
+  $one/a: Not a directory (os error 20)
+  $work/folder: it is a folder"
+run check --explain --json "$work/missing"; check 'check, explained as an object' 1 '*' '{"type":"hint","hint":"'"$work/missing"': No such file or directory (os error 2)"}'
+run list --explain --json "$work/cut.pcap"; check 'a cut file, explained as an object' 1 '' '{"type":"refused","file":1,"offset":24,"rule":3,"name":"cut","path":"'"$work/cut.pcap"'"}
+{"type":"hint","hint":"'"$work/cut.pcap"': it is cut off: --allow-cut drops a last record or block"}'
 run check - -; check 'check of standard input twice' 2 '' 'fault: input'
 cp "$one" "$work/a name"; run check --names "$work/a name" "$work/missing"; check 'check, with names' 1 "check 1 pcap $held whole name $work/a name
 check 2 - $none 0 open name $work/missing" ''
@@ -152,6 +165,46 @@ check 'check, with names that a terminal would obey' 1 "check 1 - $none 0 open n
 empty='"format":null,"packets":0,"bytes":0,"first":null,"last":null,"backward":0,"untimed":0,"truncated":0,"skipped":0,"interfaces":0,"open":true'
 run check --json '' $'\e]0;\xc3\xa4\a"\\' $'\xc2\x9b\xe2\x80\xae\x7f'
 check 'check of such names, as objects' 1 '{"type":"check","file":1,'"$empty"$',"path":""}\n{"type":"check","file":2,'"$empty"$',"path":"\\u001b]0;\xc3\xa4\\u0007\\"\\\\"}\n{"type":"check","file":3,'"$empty"$',"path":"\\u009b\\u202e\\u007f"}' ''
+# a list of captures, in which a NUL ends each name
+printf '%s\0' "$one" "$work/missing" "$work/a name" > "$work/list"
+named="check 1 pcap $held whole name $one
+check 2 - $none 0 open name $work/missing
+check 3 pcap $held whole name $work/a name"
+run check --names --files0-from "$work/list"; check 'check of a list' 1 "$named" ''
+input=$work/list; run check --names --files0-from -; check 'check of a list from standard input' 1 "$named" ''; input=
+printf '%s' "$one" > "$work/list"; run check --files0-from "$work/list"; check 'a list whose last name has no NUL' 0 "check 1 pcap $held whole" ''
+printf '%s\0\0' "$one" > "$work/list"; run check --names --files0-from "$work/list"; check 'a list with an empty name' 1 "check 1 pcap $held whole name $one
+check 2 - $none 0 open name " ''
+printf 'caf\xe9\0%s\0' "$one" > "$work/list"; cp "$one" "$work/caf"$'\xe9'
+run check --names --files0-from "$work/list"; check "a list with a name that isn't UTF-8" 1 "check 1 - $none 0 open name caf"$'\xef\xbf\xbd\\u{0}\n'"check 2 pcap $held whole name $one" ''
+printf -- '-\0%s\0' "$one" > "$work/list"; input=$one; run check --files0-from "$work/list"; check 'standard input in a list' 0 "check 1 pcap $held whole
+check 2 pcap $held whole" ''; input=
+printf -- '-\0-\0' > "$work/list"; run check --explain --files0-from "$work/list"; check 'standard input twice in a list' 2 '' 'fault: input
+  standard input, -, can be read once'
+input=$work/list; run check --files0-from -; check 'standard input in a list of standard input' 2 '' 'fault: input'; input=
+: > "$work/list"; run check --files0-from "$work/list"; check 'an empty list' 0 '' ''
+for words in check digest; do
+    run "$words" --explain --files0-from "$work/missing"; check "$words of a list that is missing" 1 '' "fault: read list
+  $work/missing: No such file or directory (os error 2)"
+    run "$words" --explain --files0-from "$work/folder"; check "$words of a list that is a folder" 1 '' "fault: read list
+  $work/folder: it is a folder"
+    run "$words" --explain --files0-from /proc/self/mem; check "$words of a list that can't be read" 1 '' "fault: read list
+  /proc/self/mem: it can't be read"
+    run "$words" --json --files0-from "$work/missing"; check "$words of a missing list, as an object" 1 '' '{"type":"fault","fault":"list"}'
+    run "$words" --files0-from "$work/list" "$one"; check "$words of a list and a file" 2 '' "error: the argument '--files0-from <LIST>' cannot be used with '[FILE]...'
+
+For more information, try '--help'."
+    run "$words"; check "$words of nothing" 2 '' "error: the following required arguments were not provided:
+  <FILE>...
+
+  tip: '--files0-from <LIST>' names captures too
+
+For more information, try '--help'."
+done
+# more names than a process can hold open
+for _ in $(seq 2000); do printf '%s\0' "$one"; done > "$work/list"
+run digest --files0-from "$work/list"; check 'a digest of 2,000 captures' 0 '*' ''
+[ "$(tail -n 1 "$work/out" | cut -d ' ' -f 1-2)" = 'digest 2000' ] && passed=$((passed + 1)) || { echo "a digest of 2,000 captures: the last line isn't of number 2000"; failed=$((failed + 1)); }
 for file in "$one" "$work/cut.pcap" "$work/missing"; do
     "$program" check "$file" > /dev/full 2> "$work/err"; status=$?; : > "$work/out"
     check "check of $file on a full disk" 1 '' 'fault: write'
@@ -254,7 +307,7 @@ explained 'no packet for a pcap file, explained' 'refused: file 1 offset 0 rule 
 ends=2
 # shellcheck disable=SC2046 # a word each
 explained 'too many files, explained' 'fault: files
-  only capt check reads more than 32 captures: examples/rounds.sh merges them' info --explain $(yes one.pcap | head -n 33)
+  only capt check and capt digest read more than 32 captures: examples/rounds.sh merges them' info --explain $(yes one.pcap | head -n 33)
 explained 'standard input twice, explained' 'fault: input
   standard input, -, can be read once' report - --explain -
 explained 'OUT that is a FILE, explained' 'fault: output
@@ -341,6 +394,13 @@ for task in list info report digest check "diff $one"; do
     into "$task onto its file" $task "$work/a" >> "$work/a"
 done
 into 'list of standard input onto it' list - < "$work/a" >> "$work/a"
+for task in digest check; do
+    printf '%s\0%s\0' "$one" "$work/a" > "$work/list"
+    into "$task of a list onto one of its files" "$task" --files0-from "$work/list" >> "$work/a"
+    cp "$work/list" "$work/named"
+    "$program" "$task" --files0-from "$work/list" 2> "$work/err" >> "$work/list"; status=$?; : > "$work/out"
+    check "$task of a list onto the list" 1 '' 'fault: create output'; same "$task of a list onto the list" "$work/list" "$work/named"
+done
 "$program" list --explain "$work/a" 2> "$work/err" >> "$work/a"; status=$?; : > "$work/out"; check 'list onto its file, explained' 1 '' 'fault: create output
   standard output: it is one of the files that are read'
 "$program" list --json "$work/a" 2> "$work/err" >> "$work/a"; status=$?; check 'list onto its file, as an object' 1 '' '{"type":"fault","fault":"create"}'
@@ -416,7 +476,7 @@ if command -v script > /dev/null; then
     shown 'standard input twice at a terminal' 'fault: input
   standard input, -, can be read once' info - -
     shown '33 captures at a terminal' 'fault: files
-  only capt check reads more than 32 captures: examples/rounds.sh merges them' info $(yes one.pcap | head -33)
+  only capt check and capt digest read more than 32 captures: examples/rounds.sh merges them' info $(yes one.pcap | head -33)
     # at a terminal the counts are told without --explain, also if what is written goes to a file or a pipe
     shown 'blocks and packets at a terminal' 'not carried on: 8 blocks
 ran back: 1 packet' merge -o new "$many" "$back"
@@ -530,6 +590,9 @@ completed check capt help ch
 completed '--json' capt check --j
 completed '--names' capt check --n
 completed '' capt info --n
+completed '--class' capt list --c
+completed '--digest' capt check --d
+completed '--files0-from' capt digest --f
 completed '--data' capt list --da
 completed '--data' capt diff --da
 completed '--ignore' capt diff --i

@@ -10,7 +10,8 @@ sys.dont_write_bytecode = True
 import hashlib, itertools, json, os, re, struct, tempfile
 
 from captures import (CARRIED as PACKET, INTERFACE, MICRO_LITTLE, PROGRAM, SECTION, Bench, Count, datagram, make_shim, packet, pcap_header,
-                      record, run, vector, wanted_of)
+                      record, run, vector, wanted_of, words_of)
+from model import SURVEYS
 from objects import all_objects
 
 ETHERNET = f"{MICRO_LITTLE} 01000000"
@@ -270,41 +271,76 @@ def alone(kind, talk):
     return frames(talks=[f"{talk} backward 0 0 {times(SECOND)}"] if kind == "counted" else (), **{kind: 1})
 
 
-# Byte 0 (version and header length), the total length, and flags and fragment offset of an IPv4 packet of 28 bytes; whether it was captured whole; and
-# its class.
+def told_of(kind, why, talk, identification):
+    """What `list --class` says of a frame of that class: `why` is the reason of one that is bad or cut, and where the data of a fragment begins."""
+    if kind == "counted":
+        return f"counted {talk}"
+    return f"fragment identification {identification} fragment-offset {why}" if kind == "unjoined" else f"{kind} reason {why}"
+
+
+# A capture, and what `list --class` says of each packet.
+DESCRIBED = [
+    (of_link(147, at(1, "00" * 20)), ["other-link"]), (of_link(1, at(1, "00" * 12 + "86dd")), ["not-ipv4"]), (of_link(101, at(1, "60")), ["not-ipv4"]),
+    # frames that end inside the link header, or a tag; without one
+    (of_link(1, at(1, "00" * 13), at(1, "00" * 13, 60)), ["short", "cut reason link-short"]),
+    (of_link(113, at(1, "00" * 14 + "8100"), at(1, "00" * 14 + "8100", 60)), ["short", "cut reason link-short"]),
+    (of_link(101, at(1, ""), at(1, "", 60)), ["short", "cut reason link-short"]),
+    (of_link(228, at(1, ""), at(1, "60"), at(1, "", 60)), ["bad reason header-short", "bad reason header-short", "cut reason header-short"]),
+    (vector("TAGGED_FRAMES").hex(), ["counted udp 10.0.0.1:1000 10.0.0.2:2000"] * 2 + ["bad reason udp-length"]),
+    (vector("FRAGMENT_FRAMES").hex(), [f"fragment identification 7 fragment-offset {place}" for place in (16, 0, 0, 8)]),
+    (of_link(1, at(1, TCP, 1514), at(1, TCP[:-2], 1514)), ["counted tcp 10.0.0.1:1000 10.0.0.2:2000", "cut reason tcp-short"]),
+    # a total length of 0, as of a packet that the network card cuts up
+    (of_link(101, at(1, "45000000 00010000 40060000 0a000001 0a000002 03e807d0 00000000")), ["bad reason length-zero"]),
+    # the lesser end first: of the greater address to the lesser; of an address to itself by its ports; of a protocol without ports
+    (of_link(101, at(1, "4500001c 00010000 40110000 0a000002 0a000001 00070009 00080000"),
+             at(1, "4500001c 00010000 40110000 0a000001 0a000001 00090007 00080000"), at(1, "45000014 00010000 40ff0000 ffffffff 00000000")),
+     ["counted udp 10.0.0.1:9 10.0.0.2:7", "counted udp 10.0.0.1:7 10.0.0.1:9", "counted p255 0.0.0.0 255.255.255.255"]),
+]
+
+# Byte 0 (version and header length), the total length, and flags and fragment offset of an IPv4 packet of 28 bytes; whether it was captured whole; its
+# class; and behind that why it is bad or cut, or where the data of a fragment begins.
 EDGES = [
     # version 5; headers of 4 words and of 8; totals below a header's length, at it, and above the packet's
-    (0x55, 28, "0000", True, "bad"), (0x44, 28, "0000", False, "bad"), (0x48, 32, "0000", True, "bad"), (0x48, 32, "0000", False, "cut"),
-    (0x45, 19, "0000", False, "bad"), (0x45, 20, "0000", True, "counted"), (0x46, 23, "0000", False, "bad"), (0x46, 24, "0000", True, "counted"),
-    (0x45, 29, "0000", True, "bad"), (0x45, 29, "0000", False, "counted"),
+    (0x55, 28, "0000", True, "bad version"), (0x44, 28, "0000", False, "bad header-length"), (0x48, 32, "0000", True, "bad header-short"),
+    (0x48, 32, "0000", False, "cut header-short"), (0x45, 19, "0000", False, "bad length-short"), (0x45, 20, "0000", True, "counted"),
+    (0x46, 23, "0000", False, "bad length-short"), (0x46, 24, "0000", True, "counted"),
+    (0x45, 29, "0000", True, "bad beyond-frame"), (0x45, 29, "0000", False, "counted"),
     # the flag DF, and the reserved one
     (0x45, 28, "4000", True, "counted"), (0x45, 28, "8000", True, "counted"),
     # fragments in the middle: of 8 bytes, of none, of 7, and of more than were captured
-    (0x45, 28, "2001", False, "unjoined"), (0x45, 20, "2001", True, "bad"), (0x45, 27, "2001", True, "bad"), (0x45, 36, "2001", False, "cut"),
-    (0x45, 36, "2001", True, "bad"), (0x45, 35, "2001", False, "bad"),
+    (0x45, 28, "2001", False, "unjoined 8"), (0x45, 20, "2001", True, "bad fragment-empty"), (0x45, 27, "2001", True, "bad fragment-block"),
+    (0x45, 36, "2001", False, "cut fragment-cut"), (0x45, 36, "2001", True, "bad beyond-frame"), (0x45, 35, "2001", False, "bad fragment-block"),
     # last ones: of 7 bytes, and ending at 65,515 and 65,516
-    (0x45, 27, "0001", True, "unjoined"), (0x45, 23, "1ffd", True, "unjoined"), (0x45, 24, "1ffd", True, "bad"),
+    (0x45, 27, "0001", True, "unjoined 8"), (0x45, 23, "1ffd", True, "unjoined 65512"), (0x45, 24, "1ffd", True, "bad fragment-beyond"),
 ]
 ENDS = "192.168.1.2 198.51.100.3 forward 1"
-for front, total, flags, is_whole, kind in EDGES:
+for front, total, flags, is_whole, told in EDGES:
+    kind, _, why = told.partition(" ")
     data, original = f"{front:02x}b1 00{total:02x} 1234 {flags} 3f84 0000 c0a80102 c6336403 a0a1a2a3 a4a5a6a7", 28 if is_whole else 1_514
     REPORTED.append((of_link(228, at(1, data, original)), alone(kind, f"p132 {ENDS} {original}")))
+    DESCRIBED.append((of_link(228, at(1, data, original)), [told_of(kind, why, "p132 192.168.1.2 198.51.100.3", 0x1234)]))
 # 19 bytes of a header, which are all, or not
 for original, kind in ((19, "bad"), (20, "cut")):
     REPORTED.append((of_link(228, at(1, "45b1001c 12340000 3f840000 c0a80102 c63364", original)), alone(kind, "")))
+    DESCRIBED.append((of_link(228, at(1, "45b1001c 12340000 3f840000 c0a80102 c63364", original)), [f"{kind} reason header-short"]))
 
-# How long the data of a datagram of UDP or TCP is, what was captured of it, and its class.
+# How long the data of a datagram of UDP or TCP is, what was captured of it, its class, and behind that why it is bad or cut.
 PORTS = [
-    ("udp", 10, "03e807d0 000a0000 6869", "counted"), ("udp", 10, "03e807d0 00080000 6869", "counted"), ("udp", 10, "03e807d0 00070000 6869", "bad"),
-    ("udp", 10, "03e807d0 000b0000 6869", "bad"), ("udp", 11, "03e807d0 000b0000", "counted"), ("udp", 10, "03e807d0 000a00", "cut"),
-    ("udp", 7, "03e807d0 000a00", "bad"),
-    ("tcp", 20, "03e807d0 00000001 00000000 50100000 00000000", "counted"), ("tcp", 20, "03e807d0 00000001 00000000 40100000 00000000", "bad"),
-    ("tcp", 23, "03e807d0 00000001 00000000 60100000 00000000", "bad"), ("tcp", 24, "03e807d0 00000001 00000000 60100000 00000000", "counted"),
-    ("tcp", 20, "03e807d0 00000001 00000000 50100000 000000", "cut"), ("tcp", 19, "03e807d0 00000001 00000000 50100000 000000", "bad"),
+    ("udp", 10, "03e807d0 000a0000 6869", "counted"), ("udp", 10, "03e807d0 00080000 6869", "counted"),
+    ("udp", 10, "03e807d0 00070000 6869", "bad udp-length"), ("udp", 10, "03e807d0 000b0000 6869", "bad udp-length"),
+    ("udp", 11, "03e807d0 000b0000", "counted"), ("udp", 10, "03e807d0 000a00", "cut udp-short"), ("udp", 7, "03e807d0 000a00", "bad udp-short"),
+    ("tcp", 20, "03e807d0 00000001 00000000 50100000 00000000", "counted"),
+    ("tcp", 20, "03e807d0 00000001 00000000 40100000 00000000", "bad tcp-offset"),
+    ("tcp", 23, "03e807d0 00000001 00000000 60100000 00000000", "bad tcp-offset"),
+    ("tcp", 24, "03e807d0 00000001 00000000 60100000 00000000", "counted"),
+    ("tcp", 20, "03e807d0 00000001 00000000 50100000 000000", "cut tcp-short"),
+    ("tcp", 19, "03e807d0 00000001 00000000 50100000 000000", "bad tcp-short"),
 ]
-for name, length, data, kind in PORTS:
+for name, length, data, told in PORTS:
+    kind, _, why = told.partition(" ")
     header = f"4500 {20 + length:04x} 00010000 40{dict(udp=17, tcp=6)[name]:02x} 0000 0a000001 0a000002"
     REPORTED.append((of_link(101, at(1, header + data, 20 + length)), alone(kind, f"{name} {TALK} 1 {20 + length}")))
+    DESCRIBED.append((of_link(101, at(1, header + data, 20 + length)), [told_of(kind, why, f"{name} 10.0.0.1:1000 10.0.0.2:2000", 1)]))
 
 # The worked fragments, between which frames come that are bad and cut, and change nothing; and before the last of which a whole datagram of their key
 # comes, of whose 4 bytes of data 2 were captured, and drops the others. And 1,024 tags before a fragment.
@@ -417,10 +453,23 @@ def digests(texts, packets, end=""):
                    for n, (text, count) in enumerate(zip(texts, packets), 1))
 
 
-# Captures of which some are refused: how many lines are printed before, and the refusal.
+CARRIED_DIGEST = hashlib.sha256(bytes.fromhex(CARRIED_TEXT)).hexdigest()
+NO_DIGEST = hashlib.sha256().hexdigest()
+
+
+def digested(*ends, names=()):
+    """The lines of files that end so: CARRIED if that is `whole`, else one that isn't whole. They name the files or don't."""
+    named = [f" name {name}" for name in names] or [""] * len(ends)
+    return "".join(f"digest {n} {f'sha256 {CARRIED_DIGEST} packets 1' if end == 'whole' else end}{name}\n"
+                   for n, (end, name) in enumerate(zip(ends, named), 1))
+
+
+# Captures of which some are refused, and how each ends.
 NOT_DIGESTED = [
-    ([CUT], 0, "file 1 offset 24 rule 3 cut"), ([CARRIED, "00000000", CUT], 1, "file 2 offset 0 rule 1 magic"),
-    ([CARRIED, CARRIED, CUT], 2, "file 3 offset 24 rule 3 cut"), ([CARRIED] * 31 + [CUT], 31, "file 32 offset 24 rule 3 cut"),
+    ([CUT], ["refused offset 24 rule 3 cut"]),
+    ([CARRIED, "00000000", CUT], ["whole", "refused offset 0 rule 1 magic", "refused offset 24 rule 3 cut"]),
+    ([CARRIED, CUT, CARRIED], ["whole", "refused offset 24 rule 3 cut", "whole"]),
+    ([CARRIED] * 32 + [CUT, CARRIED], [*["whole"] * 32, "refused offset 24 rule 3 cut", "whole"]),
 ]
 
 
@@ -626,7 +675,17 @@ COMPARED = [
     (CARRIED, CARRIED[:-2], False, "file 2 offset 24 rule 3 cut"), (CARRIED[:-2], CARRIED[:-2], False, "file 1 offset 24 rule 3 cut"),
     (ETHERNET, CARRIED[:-2], False, "file 2 offset 24 rule 3 cut"), (CARRIED + RECORD[:-2], CARRIED, False, "file 1 offset 44 rule 3 cut"),
     (CARRIED + RECORD[:-2], LATER, False, f"differ packet 1 time\n- {listed(1, 24)}+ {listed(1, 24, '2+500001/1000000')}"),
-    (CARRIED + RECORD[:-2], CARRIED, True, SAME), (CARRIED, CARRIED[:-2], True, f"differ packet 1 end\n- {listed(1, 24)}+ end\n"),
+    # a dropped rest is named where both files end, and where one of them does
+    (CARRIED, CARRIED, True, SAME), (CARRIED + RECORD[:-2], CARRIED, True, "same packets 1 cut A\n"),
+    (CARRIED, CARRIED + RECORD[:-2], True, "same packets 1 cut B\n"),
+    (CARRIED + RECORD[:-2], vector("CARRY_PCAPNG").hex() + "06", True, "same packets 1 cut A cut B\n"),
+    (CARRIED[:-2], CARRIED[:-2], True, "same packets 0 cut A cut B\n"), (CARRIED[:-2], ETHERNET, True, "same packets 0 cut A\n"),
+    (CARRIED, CARRIED[:-2], True, f"differ packet 1 end\n- {listed(1, 24)}+ end cut\n"),
+    (vector("CARRY_PCAPNG").hex()[:-2], CARRIED, True, f"differ packet 1 end\n- end cut\n+ {listed(1, 24)}"),
+    (CARRIED + RECORD[:-2], CARRIED + RECORD, True, f"differ packet 2 end\n- end cut\n+ {listed(2, 44)}"),
+    # but not that of a file that has a packet left
+    (CARRIED + RECORD[:-2], ETHERNET, True, f"differ packet 1 end\n- {listed(1, 24)}+ end\n"),
+    (CARRIED + RECORD[:-2], LATER, True, f"differ packet 1 time\n- {listed(1, 24)}+ {listed(1, 24, '2+500001/1000000')}"),
     (CARRIED, "", True, "file 2 offset 0 rule 3 cut"), ("00000000", CARRIED, False, "file 1 offset 0 rule 1 magic"),
 ]
 
@@ -644,13 +703,16 @@ def prints(text):
     return 0, text.encode(), b"", None
 
 
-def checked(*ends, names=()):
-    """The lines of files that are checked, which name them or don't: CARRY_PCAPNG if it is whole, else it without its last byte, or no file."""
+def checked(*ends, names=(), has_digest=False):
+    """The lines of files that are checked, which name them or don't, and have digests or don't: CARRY_PCAPNG if it is whole, else it without its last
+    byte, or no file."""
     facts = {"whole": "pcapng packets 1 bytes 4 first 2+500000/1000000 last 2+500000/1000000 {} interfaces 1",
              "open": "- packets 0 bytes 0 first - last - {} interfaces 0"}
     cut = "pcapng packets 0 bytes 0 first - last - {} interfaces 1"
     counts, named = "backward 0 untimed 0 truncated 0 skipped 0", [f" name {name}" for name in names] or [""] * len(ends)
-    return "".join(f"check {n} {facts.get(end, cut).format(counts)} {end}{name}\n" for n, (end, name) in enumerate(zip(ends, named), 1))
+    digest = {"whole": f" sha256 {CARRIED_DIGEST}", "whole cut": f" sha256 {NO_DIGEST}"} if has_digest else {}
+    return "".join(f"check {n} {facts.get(end, cut).format(counts)}{digest.get(end, ' sha256 -' * has_digest)} {end}{name}\n"
+                   for n, (end, name) in enumerate(zip(ends, named), 1))
 
 
 def differs(text):
@@ -679,47 +741,64 @@ INFO_JSON = ('{"type":"files","files":1}\n{"type":"file","file":1,"format":"pcap
              '"first":null,"last":null,"cut":true}\n')
 SIDE_JSON = '{"type":"side","side":"%s","packet":%s}\n'
 ENDED_JSON = ('{"type":"differ","packet":1,"differs":["end"]}\n' + SIDE_JSON % ("-", (LISTED_JSON % "01020304").strip())
-              + SIDE_JSON % ("+", "null"))
+              + SIDE_JSON % ("+", 'null,"cut":true'))
+SAME_JSON = '{"type":"same","packets":%d,"cut_a":%s,"cut_b":%s}\n'
+SAME_WHOLE_JSON = SAME_JSON % (1, "false", "false")
 LATER_JSON = ('{"type":"differ","packet":1,"differs":["time","data"],"data_at":3}\n' + SIDE_JSON % ("-", (LISTED_JSON % "01020304").strip())
               + SIDE_JSON % ("+", (LISTED_JSON % "01020305").strip().replace("60", "24").replace("500000", "500001", 1)))
-DIGEST_JSON = f'{{"type":"digest","file":%d,"sha256":"{hashlib.sha256(bytes.fromhex(CARRIED_TEXT)).hexdigest()}","packets":1,"cut":false}}\n'
+DIGEST_JSON = f'{{"type":"digest","file":%d,"sha256":"{CARRIED_DIGEST}","packets":1,"cut":false,"path":"%s"}}\n'
+DIGEST_CUT_JSON = f'{{"type":"digest","file":%d,"sha256":"{NO_DIGEST}","packets":0,"cut":true,"path":"%s"}}\n'
+DIGEST_REFUSED_JSON = '{"type":"digest","file":%d,"refused":{"offset":60,"rule":3,"name":"cut"},"path":"%s"}\n'
+DIGEST_OPEN_JSON = '{"type":"digest","file":%d,"open":true,"path":"%s"}\n'
 CUT_AT_60 = "refused offset 60 rule 3 cut"
 CHECK_JSON = ('{"type":"check","file":%d,"format":"pcapng","packets":1,"bytes":4,"first":[2,500000,1000000],"last":[2,500000,1000000],'
               '"backward":0,"untimed":0,"truncated":0,"skipped":0,"interfaces":1,"whole":true,"cut":false,"path":"%s"}\n')
 OPEN_JSON = ('{"type":"check","file":%d,"format":null,"packets":0,"bytes":0,"first":null,"last":null,'
              '"backward":0,"untimed":0,"truncated":0,"skipped":0,"interfaces":0,"open":true,"path":"%s"}\n')
+DIGEST_IN_CHECK = ('"interfaces":1,"whole"', f'"interfaces":1,"sha256":"{CARRIED_DIGEST}","whole"')
+NO_DIGEST_IN_CHECK = ('"interfaces":0,"open"', '"interfaces":0,"sha256":null,"open"')
 BLOCKS_JSON = ('{"type":"block","n":1,"offset":0,"order":"little","kind":"0a0d0d0a","total":28}\n'
                '{"type":"block","n":2,"offset":28,"order":"little","kind":"00000001","total":32}\n'
                '{"type":"block","n":3,"offset":60,"order":"little","kind":"00000006","total":36}\n')
 
 # Words after `capt`, and what comes of them: the status, standard output and standard error, of which `...` is some text, and the file c. The files `a`,
-# `b` and `--allow-cut` are CARRY_PCAPNG, as standard input is where nothing else is said, and `cut` is it without its last byte.
+# `b` and `--allow-cut` are CARRY_PCAPNG, as standard input is where nothing else is said, and `cut` is it without its last byte, `rest` it with a
+# byte behind it.
 LINES = [
     ("list a", prints(listed(1, 60))), ("list -", prints(listed(1, 60))), ("list -- --allow-cut", prints(listed(1, 60))),
     ("list cut", (1, b"", b"refused: file 1 offset 60 rule 3 cut\n", None)),
     ("list --allow-cut cut", prints("")), ("list cut --allow-cut", prints("")),
     ("blocks a", prints(BLOCKS)), ("blocks --allow-cut - < cut", prints(BLOCKS[:BLOCKS.index("block 3")])),
     ("diff a b", prints(SAME)), ("diff a carried", prints(SAME)), ("diff carried - < b", prints(SAME)), ("diff --explain a b", prints(SAME)),
-    ("diff - --allow-cut cut", differs(f"differ packet 1 end\n- {listed(1, 60)}+ end\n")), ("diff - -", INPUT),
+    ("diff - --allow-cut cut", differs(f"differ packet 1 end\n- {listed(1, 60)}+ end cut\n")), ("diff - -", INPUT),
+    ("diff cut --allow-cut - < cut", prints("same packets 0 cut A cut B\n")), ("diff --allow-cut a b", prints(SAME)),
+    ("diff --allow-cut rest a", prints("same packets 1 cut A\n")), ("diff --allow-cut a rest", prints("same packets 1 cut B\n")),
     ("diff a cut", (1, b"", b"refused: file 2 offset 60 rule 3 cut\n", None)), ("diff none a", (1, b"", b"fault: open file 1\n", None)),
     ("diff a later", differs(f"differ packet 1 time data at 3\n- {listed(1, 60)}+ {LATER_LINE}")),
     ("diff --ignore link --ignore=original a later", differs(f"differ packet 1 time data at 3\n- {listed(1, 60)}+ {LATER_LINE}")),
     ("diff --ignore time a later", differs(f"differ packet 1 data at 3\n- {listed(1, 60)}+ {LATER_LINE}")),
     ("diff a moved", differs(f"differ packet 1 time\n- {listed(1, 60)}+ {listed(1, 24, '2+500001/1000000')}")),
-    ("diff --ignore time a moved", prints(SAME)), ("diff a --ignore=time --ignore time --json moved", prints('{"type":"same","packets":1}\n')),
+    ("diff --ignore time a moved", prints(SAME)), ("diff a --ignore=time --ignore time --json moved", prints(SAME_WHOLE_JSON)),
     ("diff --json --ignore=time a later", differs(LATER_JSON.replace('"time",', ""))),
-    ("diff --json a carried", prints('{"type":"same","packets":1}\n')), ("diff a --json later", differs(LATER_JSON)),
+    ("diff --json a carried", prints(SAME_WHOLE_JSON)), ("diff a --json later", differs(LATER_JSON)),
     ("diff --json --allow-cut a cut", differs(ENDED_JSON)),
-    ("diff --json --data 4 a b", prints('{"type":"same","packets":1}\n')), ("diff --data 0 --json a later", differs(data_of(LATER_JSON, 0))),
+    ("diff --json --allow-cut rest a", prints(SAME_JSON % (1, "true", "false"))),
+    ("diff --json --allow-cut a rest", prints(SAME_JSON % (1, "false", "true"))),
+    ("diff --json --allow-cut cut cut", prints(SAME_JSON % (0, "true", "true"))), ("diff --json --allow-cut a b", prints(SAME_WHOLE_JSON)),
+    ("diff --json --data 4 a b", prints(SAME_WHOLE_JSON)), ("diff --data 0 --json a later", differs(data_of(LATER_JSON, 0))),
     ("diff --json --data=3 a later", differs(data_of(LATER_JSON, 3))), ("diff --json --data 262144 a later", differs(LATER_JSON)),
     ("diff --json a cut", (1, b"", b'{"type":"refused","file":2,"offset":60,"rule":3,"name":"cut","path":"cut"}\n', None)),
     ("info a b", prints(TWO)), ("info --allow-cut - < cut", prints(TOLD_CUT)), ("info - a -", INPUT),
     ("digest a b", prints(digests([CARRIED_TEXT] * 2, [1, 1]))), ("digest -", prints(digests([CARRIED_TEXT], [1]))), ("digest - -", INPUT),
     ("digest --allow-cut - < cut", prints(digests([""], [0], " cut"))),
-    ("digest --json --allow-cut cut", prints(DIGEST_JSON.replace(hashlib.sha256(bytes.fromhex(CARRIED_TEXT)).hexdigest(), hashlib.sha256().hexdigest())
-                                             .replace('"packets":1,"cut":false', '"packets":0,"cut":true') % 1)),
-    ("digest a cut b", (1, digests([CARRIED_TEXT], [1]).encode(), b"refused: file 2 offset 60 rule 3 cut\n", None)),
-    ("digest a none", (1, b"", b"fault: open file 2\n", None)), ("digest --json a b", prints(DIGEST_JSON % 1 + DIGEST_JSON % 2)),
+    (f"digest {'a ' * 33}", prints(digested(*["whole"] * 33))), (f"digest {'a ' * 33}- -", INPUT),
+    ("digest a cut b", (1, digested("whole", CUT_AT_60, "whole").encode(), b"", None)),
+    ("digest none a", (1, digested("open", "whole").encode(), b"", None)),
+    ("digest --names a b", prints(digested("whole", "whole", names=("a", "b")))), ("digest - --names", prints(digested("whole", names="-"))),
+    ("digest a --names cut none", (1, digested("whole", CUT_AT_60, "open", names=("a", "cut", "none")).encode(), b"", None)),
+    ("digest --json a b", prints(DIGEST_JSON % (1, "a") + DIGEST_JSON % (2, "b"))),
+    ("digest --json --allow-cut cut", prints(DIGEST_CUT_JSON % (1, "cut"))),
+    ("digest --names --json cut none", (1, (DIGEST_REFUSED_JSON % (1, "cut") + DIGEST_OPEN_JSON % (2, "none")).encode(), b"", None)),
     ("check a b", prints(checked("whole", "whole"))), ("check -", prints(checked("whole"))), ("check - -", INPUT),
     ("check --allow-cut - < cut", prints(checked("whole cut"))), (f"check {'a ' * 33}", prints(checked(*["whole"] * 33))),
     (f"check {'a ' * 33}- -", INPUT), ("check a cut b", (1, checked("whole", CUT_AT_60, "whole").encode(), b"", None)),
@@ -730,6 +809,11 @@ LINES = [
     ("check a --names cut none", (1, checked("whole", CUT_AT_60, "open", names=("a", "cut", "none")).encode(), b"", None)),
     ("check --names --json a none", (1, (CHECK_JSON % (1, "a") + OPEN_JSON % (2, "none")).encode(), b"", None)),
     ("check --json --explain -", prints(CHECK_JSON % (1, "-"))),
+    ("check --digest a b", prints(checked("whole", "whole", has_digest=True))), ("check - --digest", prints(checked("whole", has_digest=True))),
+    ("check --digest --allow-cut cut", prints(checked("whole cut", has_digest=True))),
+    ("check --names cut --digest a none", (1, checked(CUT_AT_60, "whole", "open", names=("cut", "a", "none"), has_digest=True).encode(), b"", None)),
+    ("check --digest --json a none", (1, ((CHECK_JSON % (1, "a")).replace(*DIGEST_IN_CHECK)
+                                          + (OPEN_JSON % (2, "none")).replace(*NO_DIGEST_IN_CHECK)).encode(), b"", None)),
     ("report a b", prints(f"{TWO}total packets 2 bytes 8 truncated 0\n{frames(short=2)}")), ("report - -", INPUT),
     ("report - --allow-cut < cut", prints(f"{TOLD_CUT}total packets 0 bytes 0 truncated 0\n{frames()}")),
     ("convert --to pcap -o c a", writes(CARRIED)), ("convert --order little --to pcap -o - -", gives(CARRIED)),
@@ -741,6 +825,8 @@ LINES = [
     ("merge -o c - -", INPUT), ("merge -o a a b", OUTPUT), ("merge -o a a - -", INPUT), (f"merge -o a a - - {'a ' * 30}", FILES),
     ("list --explain a", prints(listed(1, 60))), ("merge --output c a b -", writes(THRICE)), ("merge a b - --output=c", writes(THRICE)),
     ("list --explain cut", (1, b"", b"refused: file 1 offset 60 rule 3 cut\n  cut: it is cut off: --allow-cut drops a last record or block\n", None)),
+    ("list --class a", prints(f"{listed(1, 60)[:-1]} class short\n")),
+    ("list --json --class --data 2 a", prints((LISTED_JSON % "0102").replace('"}', '","class":"short"}'))),
     ("list --json a", prints(LISTED_JSON % "01020304")), ("list --data 0 --json a", prints(LISTED_JSON % "")),
     ("list --json --data=3 -", prints(LISTED_JSON % "010203")), ("list --json --data 00262144 a", prints(LISTED_JSON % "01020304")),
     ("info --json --allow-cut - < cut", prints(INFO_JSON)), ("blocks a --json", prints(BLOCKS_JSON)),
@@ -757,7 +843,9 @@ LINES = [
         "digest --ignore time a", "diff --json --data +4 a b", "diff --json --data 262145 a b", "diff --json --json a b",
         "list --allow-cut=yes a", "list --order big a", "list -x a", "blocks", "blocks a b", "digest", "digest -o c a", "check", "check -o c a",
         "check --whole a", "check --order big a", "check --data 4 a",
-        "check --names", "check --names=yes a", "check --names --names a", "list --names a", "info --names a", "merge --names -o c a", "info", "info -o c a",
+        "check --names", "check --names=yes a", "check --names --names a", "digest --names=yes a", "digest --names --names a",
+        "check --digest=yes a", "check --digest --digest a", "digest --digest a", "info --digest a", "list --names a", "info --names a",
+        "merge --names -o c a", "info", "info -o c a",
         "report", "report -o c a",
         "convert -o c a", "convert --to pcap a", "convert --to pcap -o c", "convert --to tar -o c a", "convert --to pcap -o c a b",
         "convert --order middle --to pcap -o c a", "convert --to pcap --to pcap -o c a", "merge a b", "merge -o c", "merge --to tar -o c a",
@@ -765,6 +853,7 @@ LINES = [
         "merge --to pcap --to pcap -o c a", "report --to pcap a",
         "list --data 4 a", "list --data 4 --allow-cut a", "list --json --data", "list --json --data= a", "list --json --data +4 a",
         "list --json --data 4.0 a", "list --json --data -4 a", "list --json --data 262145 a", "list --json --data 4 --data 4 a",
+        "list --class", "list --class=yes a", "list --class --class a", "blocks --class a", "report --class a", "merge --class -o c a",
         "list --json --json a", "list --json=yes a", "blocks --json --data 4 a", "digest --json --data 4 a", "check --json --data 4 a",
         "info --json --data 4 a",
         "report --json --data 4 a",
@@ -775,14 +864,15 @@ LINES = [
 def is_json(count, bench, contents):
     """Holds what is printed of captures as JSON Lines, as Python reads it, to their text lines."""
     rows = [(task, [content]) for content in contents for task in ("list", "blocks")]
-    rows += [(task, contents) for task in ("check", "info", "report")]
+    rows += [(task, contents) for task in SURVEYS]
+    rows += [(task, contents) for task in ("info", "report") if len(contents) <= 32]
     for task, files in rows + [("diff", files) for files in (contents, [contents[0]] * 2) if len(files) == 2]:
         names = [bench.name(content) for content in files]
         for allow_cut in ([], ["--allow-cut"]):
-            status, text, error = run([task, *allow_cut, *names], bench.program)
-            seen = run([task, "--json", *allow_cut, *names], bench.program)
+            status, text, error = run([*words_of(task, []), *allow_cut, *names], bench.program)
+            seen = run([*words_of(task, []), "--json", *allow_cut, *names], bench.program)
             wanted = all_objects(text.decode())
-            if task == "check":
+            if task in SURVEYS:
                 wanted = [{**told, "path": name} for told, name in zip(wanted, names)]
             found = re.fullmatch(r"refused: file (\d+) offset (\d+) rule (\d+) (\S+)\n", error.decode())
             refused = [{"type": "refused", **dict(zip(("file", "offset", "rule"), map(int, found.groups()[:3]))), "name": found[4],
@@ -844,9 +934,9 @@ def main():
         for contents, texts, packets in DIGESTED:
             wanted = digests(texts, packets).encode()
             holds(contents, "digest", contents, False, lambda *seen: seen == (0, wanted, b""))
-        for contents, printed, told in NOT_DIGESTED:
-            ended = (1, digests([CARRIED_TEXT] * printed, [1] * printed).encode(), f"refused: {told}\n".encode())
-            holds(contents, "digest", contents, False, lambda *seen: seen == ended)
+        for contents, ends in NOT_DIGESTED:
+            wanted = digested(*ends).encode()
+            holds([content[:200] for content in contents], "digest", contents, False, lambda *seen: seen == (1, wanted, b""))
         for contents, allow_cut, lines in CHECKED:
             wanted = "".join(f"check {n} {line}\n" for n, line in enumerate(lines, 1)).encode()
             status = 0 if all(" whole" in line for line in lines) else 1
@@ -864,6 +954,11 @@ def main():
         for content, text in REPORTED:
             holds(content[:200], "report", [content], False,
                   lambda status, out, error: (status, error) == (0, b"") and out.endswith(text.encode()))
+        for content, told in DESCRIBED:
+            holds(content[:200], "classed", [content], False, lambda status, out, error: (status, error) == (0, b"")
+                  and [line.partition(" class ")[2] for line in out.decode().splitlines()] == told)
+            lines = wanted_of("classed", [bytes.fromhex(content)])[1].decode().splitlines()
+            count.check(f"the model's classes of {content[:200]}", [line.partition(" class ")[2] for line in lines] == told, lines)
 
         for contents in captures:
             is_json(count, bench, [bytes.fromhex(content) for content in contents])
@@ -878,7 +973,8 @@ def main():
         work = os.path.join(folder, "work")
         os.mkdir(work)
         carried = vector("CARRY_PCAPNG")
-        kept = {"cut": carried[:-1], "carried": bytes.fromhex(CARRIED), "later": bytes.fromhex(LATER)[:-1] + b"\5", "moved": bytes.fromhex(LATER)}
+        kept = {"cut": carried[:-1], "rest": carried + b"\6", "carried": bytes.fromhex(CARRIED), "later": bytes.fromhex(LATER)[:-1] + b"\5",
+                "moved": bytes.fromhex(LATER)}
         for name in ("a", "b", "--allow-cut", *kept):
             with open(os.path.join(work, name), "wb") as file:
                 file.write(kept.get(name, carried))

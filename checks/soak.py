@@ -10,9 +10,9 @@ from concurrent.futures import ProcessPoolExecutor
 import model
 from captures import PROGRAM, VECTORS, WRITING, Bench, datagram, make_shim, run, udp, vector, wanted_of, words_of
 
-TASKS = ["list", "blocks", "diff", "info", "report", "digest", "check", "merge", "join", "pcap", "pcapng", "merge-pcap",
-         "join-pcap"]
-MANY = ("info", "report", "digest", "check", "merge", "join", "merge-pcap", "join-pcap")
+TASKS = ["list", "classed", "blocks", "diff", "info", "report", "digest", "check", "check-digest", "merge", "join", "pcap", "pcapng",
+         "merge-pcap", "join-pcap"]
+MANY = ("info", "report", "digest", "check", "check-digest", "merge", "join", "merge-pcap", "join-pcap")
 NUMBERS = [0, 1, 2, 3, 4, 28, 32, 262_144, 262_145, 524_288, 524_292, 2**31, 2**32 - 4, 2**32 - 1]
 LINE = re.compile(rb"refused: file \d+ offset \d+ rule \d+ [a-z-]+\n|fault: (read file \d+ offset \d+|write|memory|open file \d+|create output)\n|")
 MOST_MEMORY = 16 * 1024     # KiB
@@ -165,21 +165,21 @@ def some_faults(rng):
     return {"WRITE": f"{rng.randrange(400)}-{rng.randrange(2)}", "PIECE": rng.choice([1, 4_096])}
 
 
-def is_unread(contents, text, wanted):
-    """Whether one line of `check` is that of a file of which a read failed, and the others are as they are wanted."""
+def is_unread(task, contents, text, wanted):
+    """Whether one line of `digest` or `check` is that of a file of which a read failed, and the others are as they are wanted."""
     lines, wanted = text.decode().splitlines(True), wanted.decode().splitlines(True)
     other = [n for n, (line, want) in enumerate(zip(lines, wanted)) if line != want]
     if len(lines) != len(wanted) or len(other) != 1:
         return False
     number, line = other[0] + 1, lines[other[0]]
     place = re.search(r" read offset (\d+)\n", line)
-    return place is not None and line == model.unread(number, contents[number - 1], int(place[1]))
+    return place is not None and line == model.unread(number, contents[number - 1], int(place[1]), task)
 
 
 def complaint(task, contents, seen, wanted, faults):
     """What is wrong with a run, or None."""
     status, text, error, told, memory, blocks = seen
-    is_told = error != b"" or task == "check" and any(b" whole" not in line for line in text.splitlines())
+    is_told = error != b"" or task in model.SURVEYS and model.status_of(task, text.decode(), None) == 1
     if status not in (0, 1, 3) or not LINE.fullmatch(error) or (status == 1) != is_told:
         return "no defined end"
     if memory > MOST_MEMORY or memory == 0:
@@ -190,8 +190,8 @@ def complaint(task, contents, seen, wanted, faults):
         return None if (status, text, error) == wanted else "not as the model has it"
     if (status, text, error) == wanted:
         return None
-    if task == "check" and "READ" in faults:
-        return None if error == b"" and is_unread(contents, text, wanted[1]) else "a read that failed isn't on its line"
+    if task in model.SURVEYS and "READ" in faults:
+        return None if error == b"" and is_unread(task, contents, text, wanted[1]) else "a read that failed isn't on its line"
     if not error.startswith({"GROWTHS": b"fault: memory", "READ": b"fault: read", "WRITE": b"fault: write"}[next(iter(faults))]):
         return "another fault than was made"
     if task in ("diff", "report", "info") and text and "WRITE" not in faults:
@@ -223,7 +223,7 @@ def case(rng, bench, shim, out, counts):
         seen = bench.run(task, contents, allow_cut, order, out, (shim, variables))
         wrong = complaint(task, contents, seen, wanted, faults)
         counts["runs"] += 1
-        refusal = seen[1] if task == "check" else seen[2]
+        refusal = seen[1] if task in model.SURVEYS else seen[2]
         counts["refused"] += b"refused" in refusal
         rule = re.search(rb" rule (\d+) ", refusal)
         if rule:

@@ -22,6 +22,7 @@ TOP = pathlib.Path(__file__).resolve().parent.parent
 PRINTS, TELLS = "cap_bytes.Printing.Prints", "cap_talks.talks.Telling.Tells"
 ROOTS = {
     "list": ["cap_commands.ListText.list_text", "cap_commands.ListText.list_json", "cap_commands.ListText.list_refusal", PRINTS],
+    "list --class": ["cap_commands.ClassText.list_by", "cap_commands.ListText.list_refusal", PRINTS],
     "blocks": ["cap_commands.BlockText.block_list", "cap_commands.BlockText.block_list_json", "cap_commands.BlockText.block_refusal", PRINTS],
     "diff": ["cap_commands.DiffText.comparison_of", "cap_commands.DiffText.diff_text_in", "cap_commands.DiffText.diff_refusal", "cap_commands.DiffText.is_same", TELLS],
     "info": ["cap_talks.talks.InfoText.info_text_in", "cap_talks.talks.InfoText.first_refusal", TELLS],
@@ -29,7 +30,7 @@ ROOTS = {
         "cap_laws.InOrder.text_by_places_in", "cap_laws.InOrder.refusal_by_places", "cap_merge.Files.clocked_run",
         "cap_merge.Files.endings_of_files", TELLS,
     ],
-    "digest": ["cap_commands.DigestsText.digests_text", "cap_talks.talks.InfoText.first_refusal", PRINTS],
+    "digest": ["cap_tool.CheckedNames.ChecksNames"],
     "check": ["cap_tool.CheckedNames.ChecksNames"],
     "convert": ["cap_commands.Converted.convert_text", "cap_commands.Converted.convert_refusal", PRINTS],
     "merge": ["cap_commands.MergeText.merge_text_in", "cap_commands.MergeText.merge_refusal_in", PRINTS],

@@ -21,9 +21,10 @@ _capt() {
     case ${COMP_WORDS[1]} in
         help) mapfile -t COMPREPLY < <(compgen -W "$commands" -- "$word"); return ;;
         convert | merge | join) options='--allow-cut --explain --order --output --to --whole -o --help' ;;
-        list) options='--allow-cut --explain --json --data --help' ;;
+        list) options='--allow-cut --explain --class --json --data --help' ;;
         diff) options='--allow-cut --explain --ignore --json --data --help' ;;
-        check) options='--allow-cut --explain --json --names --help' ;;
+        digest) options='--allow-cut --explain --json --names --files0-from --help' ;;
+        check) options='--allow-cut --explain --digest --json --names --files0-from --help' ;;
         *) options='--allow-cut --explain --json --help' ;;
     esac
     if [[ $word == -* ]]; then

@@ -8,10 +8,10 @@
 //! }
 //! println!("{}", capt::report(&[&bytes], false).unwrap());
 //! ```
-use std::borrow::Cow;
 use std::ffi::c_void;
 use std::fmt;
 use std::io;
+use std::sync::Arc;
 
 const DONE: u32 = 0;
 const PACKET: u32 = 1;
@@ -298,7 +298,9 @@ fn packet_of(_: &mut RawReader, raw: RawPacket) -> Packet<'_> {
 /// The packets of a capture in memory, one by one.
 pub struct Capture<'a> {
     reader: RawReader,
-    bytes: Cow<'a, [u8]>,
+    // it isn't shared: unlike a box it may be moved while the reader has the address of what is in it
+    owner: Arc<dyn AsRef<[u8]> + Send + Sync + 'a>,
+    len: usize,
 }
 
 // SAFETY: what a reader holds is its own, and its bytes are only read
@@ -307,19 +309,23 @@ unsafe impl Send for Capture<'_> {}
 impl<'a> Capture<'a> {
     /// Opens the capture of those bytes. With `allow_cut` a last record or block that is cut off is dropped.
     pub fn open(bytes: &'a [u8], allow_cut: bool) -> Result<Capture<'a>, Error> {
-        Capture::over(Cow::Borrowed(bytes), allow_cut)
+        Capture::from_owner(bytes, allow_cut)
     }
 
     /// The same of bytes that the capture owns, so that it can be kept and passed on.
     pub fn from_vec(bytes: Vec<u8>, allow_cut: bool) -> Result<Capture<'static>, Error> {
-        Capture::over(Cow::Owned(bytes), allow_cut)
+        Capture::from_owner(bytes, allow_cut)
     }
 
-    fn over(bytes: Cow<'a, [u8]>, allow_cut: bool) -> Result<Capture<'a>, Error> {
-        let mut capture = Capture { reader: CLOSED, bytes };
-        // SAFETY: the bytes stay where they are until the reader is closed, as a vector's do that is moved; the reader begins
-        // as zero
-        match unsafe { capt_open(&mut capture.reader, capture.bytes.as_ptr(), capture.bytes.len(), allow_cut) } {
+    /// The same of whatever has the bytes, as an `Arc<[u8]>` or a mapped file, which the capture owns. It is asked for
+    /// them once.
+    pub fn from_owner(owner: impl AsRef<[u8]> + Send + Sync + 'a, allow_cut: bool) -> Result<Capture<'a>, Error> {
+        let mut capture = Capture { reader: CLOSED, owner: Arc::new(owner), len: 0 };
+        let bytes = (*capture.owner).as_ref();
+        capture.len = bytes.len();
+        // SAFETY: the bytes stay as and where they are until the reader is closed, since until then their owner is neither
+        // moved, changed nor dropped; the reader begins as zero
+        match unsafe { capt_open(&mut capture.reader, bytes.as_ptr(), bytes.len(), allow_cut) } {
             DONE => Ok(capture),
             _ => Err(Error::Memory),
         }
@@ -347,7 +353,7 @@ impl<'a> Capture<'a> {
 
 impl fmt::Debug for Capture<'_> {
     fn fmt(&self, out: &mut fmt::Formatter<'_>) -> fmt::Result {
-        out.debug_struct("Capture").field("bytes", &self.bytes.len()).finish_non_exhaustive()
+        out.debug_struct("Capture").field("bytes", &self.len).finish_non_exhaustive()
     }
 }
 

@@ -1,12 +1,14 @@
 -- The parts of a line are the line.
-use Rattle.std.proofs.Common.{◌≡◌, ℕ, List, [], ◌∷◌, ◌++◌, codes, drop, map, refl, sym, ap, ◌∙◌, arith, append_assoc}
+use Rattle.std.proofs.Common.{◌≡◌, ℕ, List, [], ◌∷◌, ◌++◌, codes, drop, map, refl, ap, ◌∙◌, arith, append_assoc}
 use Rattle.cap_print.specs.Facts.{Fact, Field, Value, begin_in, close_in, end_in, fact_in, facts_in, fields_in, open_in}
 use Rattle.cap_print.specs.Facts.{coded, flag, group, hex, moment, number, one, value_in, word}
 use Rattle.cap_print.specs.declared.forms.Form.{Form}
 use Rattle.cap_print.specs.declared.forms.Form.TheVariants.{Text, Json}
-use Rattle.cap_check.specs.CheckText.{check_line_in, held_facts, odd_fields}
-use Rattle.cap_check.specs.inner.Parts.{held_in, odd_in, unnamed_in}
+use Rattle.cap_check.specs.CheckText.{check_facts, check_line_in, digest_fields, held_facts, odd_fields}
+use Rattle.cap_check.specs.inner.Parts.{counts_in, odd_in, unnamed_in}
 use Rattle.cap_check.specs.declared.checked.Check.{Check}
+use Rattle.cap_check.specs.declared.checked.CheckLine.{CheckLine}
+use Rattle.cap_check.specs.declared.checked.CheckLine.TheVariants.{Counts, CountsAndDigest, Digest}
 
 -- a value, and then two texts
 value-then : (form : Form) (label key : List ℕ) (value : Value) (text rest : List ℕ)
@@ -81,13 +83,30 @@ begin-then : (form : Form) (kind text rest : List ℕ)
 begin-then Text kind text rest = grind (arith, append_assoc)
 begin-then Json kind text rest = grind (arith, append_assoc)
 
-pub line-parts : (form : Form) (file : ℕ) (name : List ℕ) (check : Check)
-    → check_line_in form file name check ≡ unnamed_in form file check ++ (name ++ end_in form)
-line-parts form file name check =
+-- a line of what is counted, in two parts
+pub counts-parts : (which : CheckLine) (form : Form) (file : ℕ) (check : Check)
+    → begin_in form (codes "check") (fields_in form (map one (held_facts file check) ++ odd_fields which check) [])
+    ≡ counts_in which form file check
+counts-parts which form file check =
     let facts = held_facts file check in
-    let odd = odd_in form check in
+    let odd = odd_in which form check in
+    ap (begin_in form (codes "check"))
+    (facts-fields form facts (odd_fields which check) [] ∙ facts-then form facts [] odd)
+    ∙ begin-then form (codes "check") (facts_in form facts []) odd
+
+-- a line, and its end
+pub line-parts : (which : CheckLine) (form : Form) (file : ℕ) (name : List ℕ) (check : Check)
+    → check_line_in which form file name check ≡ unnamed_in which form file check ++ (name ++ end_in form)
+line-parts which form file name check =
+    let facts = check_facts which file check in
     let rest = name ++ end_in form in
-    ap (begin_in form (codes "check")) (facts-fields form facts (odd_fields check) rest
-    ∙ (ap (facts_in form facts) (fields-then form (odd_fields check) rest) ∙ facts-then form facts [] (odd ++ rest)))
-    ∙ (begin-then form (codes "check") (facts_in form facts []) (odd ++ rest)
-    ∙ sym (append_assoc (held_in form file check) odd rest))
+    ap (begin_in form facts.kind) (fields-then form facts.fields rest)
+    ∙ begin-then form facts.kind (fields_in form facts.fields []) rest
+
+-- the digest's field, and those behind it
+pub digest-then : (which : CheckLine) (form : Form) (check : Check) (fields : List Field)
+    → fields_in form (digest_fields which check ++ fields) []
+    ≡ fields_in form (digest_fields which check) (fields_in form fields [])
+digest-then Counts form check fields = refl
+digest-then CountsAndDigest form check fields = refl
+digest-then Digest form check fields = refl

@@ -1,8 +1,10 @@
 -- What is counted of the packets of a file that is checked, and how the file ends.
-use Rattle.std.specs.Prelude.{◌≡◌, ℕ, ◌+◌, ◌≤◌, nat_lt, Bool, true, false, List, [], ◌∷◌, length, take, Option}
-use Rattle.std.specs.Prelude.{Some, None, is_none, if◌then◌else◌, IsTrue}
+use Rattle.std.specs.Prelude.{◌≡◌, ℕ, ◌+◌, ◌≤◌, nat_lt, Bool, true, false, List, [], ◌∷◌, length, take}
+use Rattle.std.specs.Prelude.{Option, Some, None, is_none, if◌then◌else◌, IsTrue}
 use Rattle.std.specs.List.{list_all}
 use Rattle.cap_bytes.specs.declared.faults.Tail.{Tail}
+use Rattle.cap_digest.specs.Canonical.{canonical_text}
+use Rattle.cap_digest.specs.DigestText.{digest_if}
 use Rattle.cap_source.specs.Feed.{Item, packet, refused, refusal_of}
 use Rattle.cap_source.specs.Items.{file_ending, file_items}
 use Rattle.cap_source.specs.Times.{meta_time}
@@ -89,19 +91,29 @@ IsCounted tail file bytes counts (Refusing refusal end) =
 IsCounted tail file bytes counts (Reading offset end) = IsReadTo tail file bytes counts offset end
 IsCounted tail file bytes counts Opening = ⊥
 
--- The file of that number was checked, whether it could be opened or not.
-abbrev pub IsChecked : Tail → ℕ → Option Opened → Check → Type 0
-IsChecked tail file (Some opened) check =
-    FailsIf opened.can_fail check.end × (IsTrue opened.told → IsCounted tail file opened.bytes check.counts check.end)
-IsChecked tail file None check = check ≡ record { counts = nothing_checked; end = Opening }
+-- The digest of the packets of a file that ends so, if one is asked for. A file that isn't whole has none.
+abbrev pub end_digest : Bool → List Item → CheckEnd → Option (List ℕ)
+end_digest is_asked items (Whole end) = digest_if is_asked (canonical_text items)
+end_digest is_asked items (Refusing refusal end) = None
+end_digest is_asked items (Reading offset end) = None
+end_digest is_asked items Opening = None
+
+-- The file of that number was checked, whether it could be opened or not, with a digest or without.
+abbrev pub IsChecked : Tail → Bool → ℕ → Option Opened → Check → Type 0
+IsChecked tail is_asked file (Some opened) check =
+    FailsIf opened.can_fail check.end
+    × (IsTrue opened.told → IsCounted tail file opened.bytes check.counts check.end)
+    × (IsTrue opened.told → check.digest ≡ end_digest is_asked (file_items tail file opened.bytes) check.end)
+IsChecked tail is_asked file None check =
+    check ≡ record { counts = nothing_checked; digest = None; end = Opening }
 
 -- Files that have the numbers from that one on were checked, each by itself.
-abbrev pub AreChecked : Tail → ℕ → List (Option Opened) → List Check → Type 0
-AreChecked tail file [] [] = Unit {0}
-AreChecked tail file [] (check ∷ checks) = ⊥
-AreChecked tail file (opened ∷ files) [] = ⊥
-AreChecked tail file (opened ∷ files) (check ∷ checks) =
-    IsChecked tail file opened check × AreChecked tail (file + 1) files checks
+abbrev pub AreChecked : Tail → Bool → ℕ → List (Option Opened) → List Check → Type 0
+AreChecked tail is_asked file [] [] = Unit {0}
+AreChecked tail is_asked file [] (check ∷ checks) = ⊥
+AreChecked tail is_asked file (opened ∷ files) [] = ⊥
+AreChecked tail is_asked file (opened ∷ files) (check ∷ checks) =
+    IsChecked tail is_asked file opened check × AreChecked tail is_asked (file + 1) files checks
 
 -- whether a file was read whole
 abbrev pub is_whole_end : CheckEnd → Bool

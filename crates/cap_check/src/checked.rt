@@ -1,5 +1,6 @@
 //! What is counted of the packets of a file that is checked.
-ghost use Rattle.std.specs.Prelude.{◌≡◌, ◌<◌, ◌≤◌, ◌*◌, ◌^◌, ◌+◌, Some, true};
+ghost use Rattle.std.specs.Prelude.{◌≡◌, ◌<◌, ◌≤◌, ◌*◌, ◌^◌, ◌+◌, None, Some, true};
+ghost use Rattle.cap_check.specs.CheckText.{asks_digest};
 ghost use Rattle.cap_check.specs.Checking.{is_whole_end, nothing_checked, with_checked};
 ghost use Rattle.cap_check.specs.inner.Taking.{are_least_first};
 ghost use Rattle.cap_time.specs.Clock.{earlier, is_backward, later};
@@ -59,6 +60,8 @@ impl CheckEnd {
 pub struct Check {
     /// What is counted of its packets.
     pub counts: Checked,
+    /// The digest of its packets, as `PacketDigest` gives it; `None` if none is asked for, or the file isn't whole.
+    pub digest: Option<[u8; 32]>,
     /// How it ends.
     pub end: CheckEnd,
 }
@@ -67,11 +70,36 @@ impl Check {
     /// What a check of a file finds that could not be opened.
     pub fn unopened() -> Check
         ensures counts { result.counts ≡ nothing_checked }
+        ensures digest { result.digest ≡ None }
         ensures end { result.end ≡ CheckEnd.Opening }
     {
         Check {
             counts: Checked::new(),
+            digest: None,
             end: CheckEnd::Opening,
+        }
+    }
+}
+
+/// Which line is printed of a file that is checked.
+#[derive(Clone, Copy, Debug, PartialEq, Eq)]
+pub enum CheckLine {
+    /// What is counted of its packets: the line of `check`.
+    Counts,
+    /// The same, with the digest of its packets: the line of `check --digest`.
+    CountsAndDigest,
+    /// The digest and how many packets there are, without what else is counted: the line of `digest`.
+    Digest,
+}
+
+impl CheckLine {
+    /// Whether the line has a digest.
+    pub fn asks_digest(self) -> bool
+        ensures { result ≡ asks_digest self }
+    {
+        match self {
+            CheckLine::Counts => false,
+            CheckLine::CountsAndDigest | CheckLine::Digest => true,
         }
     }
 }

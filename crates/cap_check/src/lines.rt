@@ -1,13 +1,14 @@
 //! The line of a file that was checked.
-ghost use Rattle.std.specs.Prelude.{◌≡◌, ◌≤◌, ◌++◌, [], is_err, option_map, IsOkUnless, IsTrue};
+ghost use Rattle.std.specs.Prelude.{◌≡◌, ◌≤◌, ◌+◌, ◌++◌, [], is_err, option_map, IsOkUnless, IsTrue};
 ghost use Rattle.cap_bytes.specs.Device.{Puts, WriterKeeps, writer_of};
-ghost use Rattle.cap_print.specs.Facts.{end_in, fields_in};
+ghost use Rattle.cap_digest.specs.DigestText.{digest_fact, whole_fields};
+ghost use Rattle.cap_print.specs.Facts.{end_in, fact_in, fields_in};
 ghost use Rattle.cap_print.specs.Lines.{room_in, text_in};
-ghost use Rattle.cap_check.specs.CheckText.{check_line_in, end_fields, end_format_name, end_interfaces, end_skipped};
-ghost use Rattle.cap_check.specs.CheckText.{known_end};
-ghost use Rattle.cap_check.specs.inner.Parts.{held_in, odd_in, unnamed_in};
+ghost use Rattle.cap_check.specs.CheckText.{check_line_in, digest_fields, end_fields, end_format_name, end_interfaces};
+ghost use Rattle.cap_check.specs.CheckText.{end_skipped, known_end};
+ghost use Rattle.cap_check.specs.inner.Parts.{counts_in, held_in, odd_in, unnamed_in};
 
-use crate::checked::{Check, CheckEnd};
+use crate::checked::{Check, CheckEnd, CheckLine};
 use cap_bytes::{Fault, Sink, put_all};
 use cap_print::{Form, Line};
 use cap_source::FileEnd;
@@ -94,11 +95,36 @@ fn held_part(form: Form, file: u32, check: &Check) -> Line
     line
 }
 
+// Puts a digest, ` sha256 HEX`, or ` sha256 -` if there is none.
+fn put_digest(line: &mut Line, form: Form, digest: &Option<[u8; 32]>)
+    requires { 80 ≤ room_in line.old }
+    ensures text { text_in line.new ≡ fact_in form (digest_fact digest.now) (text_in line.old) }
+    ensures room { room_in line.old ≤ room_in line.new + 80 }
+{
+    match digest {
+        Some(digest) => line.put_hex(form, b"sha256", digest),
+        None => line.put_word_as(form, b" sha256 ", b"sha256", None),
+    }
+}
+
+// Puts the digest of a file into a line of what is counted, if that has it.
+fn put_digest_in(line: &mut Line, which: CheckLine, form: Form, check: &Check)
+    requires { 80 ≤ room_in line.old }
+    ensures text { text_in line.new ≡ fields_in form (digest_fields which check.now) (text_in line.old) }
+    ensures room { room_in line.old ≤ room_in line.new + 80 }
+{
+    match which {
+        CheckLine::CountsAndDigest => put_digest(line, form, &check.digest),
+        CheckLine::Counts | CheckLine::Digest => {}
+    }
+}
+
 // What is odd about it, and how it ends, the second part of its line.
-fn odd_part(form: Form, check: &Check) -> Line
-    ensures { text_in result ≡ odd_in form check.now }
+fn odd_part(which: CheckLine, form: Form, check: &Check) -> Line
+    ensures { text_in result ≡ odd_in which form check.now }
 {
     let mut line = end_of(form, &check.end);
+    put_digest_in(&mut line, which, form, check);
     line.put_number(form, b"interfaces", interfaces_of(&check.end));
     line.put_number(form, b"skipped", skipped_of(&check.end));
     line.put_number(form, b"truncated", check.counts.truncated);
@@ -107,17 +133,94 @@ fn odd_part(form: Form, check: &Check) -> Line
     line
 }
 
-// Writes the line of a file without its end.
-fn put_fields<W: Sink>(writer: &mut W, form: Form, file: u32, check: &Check) -> Result<(), Fault>
+// Writes a line of what is counted, without its end.
+fn put_counts<W: Sink>(
+    writer: &mut W,
+    which: CheckLine,
+    form: Form,
+    file: u32,
+    check: &Check,
+) -> Result<(), Fault>
     ensures text { IsTrue (W.tells_held writer.old)
-        → Puts (W.held writer.old) result (W.held writer.new) (unnamed_in form file check.now) }
+        → Puts (W.held writer.old) result (W.held writer.new) (counts_in which form file check.now) }
     ensures writer { WriterKeeps (writer_of W.Sink writer.old) (is_err result) (writer_of W.Sink writer.new) }
     ensures fault { IsOkUnless result Fault.Write }
 {
     let held = held_part(form, file, check);
-    let odd = odd_part(form, check);
+    let odd = odd_part(which, form, check);
     put_all(writer, held.as_slice())?;
     put_all(writer, odd.as_slice())
+}
+
+// What a whole file has: ` sha256 HEX packets P`, and ` cut` if a rest of it was dropped.
+fn whole_part(form: Form, digest: &Option<[u8; 32]>, packets: u64, was_cut: bool) -> Line
+    ensures text { text_in result ≡ fields_in form (whole_fields digest.now packets was_cut) [] }
+    ensures room { 380 ≤ room_in result }
+{
+    let mut line = Line::new();
+    line.put_flag(form, b"cut", was_cut);
+    line.put_number(form, b"packets", packets);
+    put_digest(&mut line, form, digest);
+    line
+}
+
+// The line of a digest, without its end: `digest N` before what a whole file has, or before how it ends.
+fn digest_part(form: Form, file: u32, check: &Check) -> Line
+    ensures { text_in result ≡ unnamed_in CheckLine.Digest form file check.now }
+{
+    let mut line = match &check.end {
+        CheckEnd::Whole(end) => {
+            whole_part(
+                form,
+                &check.digest,
+                check.counts.packets,
+                end.ending.was_cut,
+            )
+        }
+        CheckEnd::Refusing(_, _) | CheckEnd::Reading(_, _) | CheckEnd::Opening => end_of(
+            form, &check.end,
+        ),
+    };
+    line.put_number_as(form, b" ", b"file", file);
+    line.put_kind(form, b"digest");
+    line
+}
+
+// Writes the line of a digest, without its end.
+fn put_digest_part<W: Sink>(
+    writer: &mut W,
+    form: Form,
+    file: u32,
+    check: &Check,
+) -> Result<(), Fault>
+    ensures text { IsTrue (W.tells_held writer.old)
+        → Puts (W.held writer.old) result (W.held writer.new) (unnamed_in CheckLine.Digest form file check.now) }
+    ensures writer { WriterKeeps (writer_of W.Sink writer.old) (is_err result) (writer_of W.Sink writer.new) }
+    ensures fault { IsOkUnless result Fault.Write }
+{
+    let part = digest_part(form, file, check);
+    put_all(writer, part.as_slice())
+}
+
+// Writes the line of a file without its end.
+fn put_fields<W: Sink>(
+    writer: &mut W,
+    which: CheckLine,
+    form: Form,
+    file: u32,
+    check: &Check,
+) -> Result<(), Fault>
+    ensures text { IsTrue (W.tells_held writer.old)
+        → Puts (W.held writer.old) result (W.held writer.new) (unnamed_in which form file check.now) }
+    ensures writer { WriterKeeps (writer_of W.Sink writer.old) (is_err result) (writer_of W.Sink writer.new) }
+    ensures fault { IsOkUnless result Fault.Write }
+{
+    match which {
+        CheckLine::Digest => put_digest_part(writer, form, file, check),
+        CheckLine::Counts | CheckLine::CountsAndDigest => {
+            put_counts(writer, which, form, file, check)
+        }
+    }
 }
 
 // Writes the field of a name, and the end of a line.
@@ -132,25 +235,29 @@ fn put_line_end<W: Sink>(writer: &mut W, form: Form, name: &[u8]) -> Result<(), 
     put_all(writer, end.as_slice())
 }
 
-/// Writes the line of a file of that number that was checked, in a form. In text it is
+/// Writes one line of a file of that number that was checked, in a form. In text `CheckLine::Counts` is
 /// `check N FORMAT packets P bytes B first T last T backward K untimed U truncated Q skipped S interfaces I`, and then
 /// `whole`, with ` cut` after it if a rest of the file was dropped, `refused offset O rule R NAME`, `read offset O` or
 /// `open`. Skipped blocks and interfaces are those that the file has up to there. If it is refused, or a read fails, in
-/// its header or in its first block, none are, and the format is `-`; so are the times if no packet has one. The last
-/// field of the line is `name`, as it is: what names the file in that form, or nothing. Returns `Fault::Write`, and no
-/// other fault, if the writer failed: a prefix of the line is written then.
+/// its header or in its first block, none are, and the format is `-`; so are the times if no packet has one.
+/// `CheckLine::CountsAndDigest` has ` sha256 HEX` behind the interfaces, 64 digits, or `-` if the check has no digest.
+/// `CheckLine::Digest` is `digest N sha256 HEX packets P`, with ` cut` if a rest was dropped; or, if the file isn't
+/// whole, `digest N` and then `refused offset O rule R NAME`, `read offset O` or `open`. The last field of the line is
+/// `name`, as it is: what names the file in that form, or nothing. Returns `Fault::Write`, and no other fault, if the
+/// writer failed: a prefix of the line is written then.
 pub fn put_check_line<W: Sink>(
     writer: &mut W,
+    which: CheckLine,
     form: Form,
     file: u32,
     name: &[u8],
     check: &Check,
 ) -> Result<(), Fault>
     ensures text { IsTrue (W.tells_held writer.old)
-        → Puts (W.held writer.old) result (W.held writer.new) (check_line_in form file name.now check.now) }
+        → Puts (W.held writer.old) result (W.held writer.new) (check_line_in which form file name.now check.now) }
     ensures writer { WriterKeeps (writer_of W.Sink writer.old) (is_err result) (writer_of W.Sink writer.new) }
     ensures fault { IsOkUnless result Fault.Write }
 {
-    put_fields(writer, form, file, check)?;
+    put_fields(writer, which, form, file, check)?;
     put_line_end(writer, form, name)
 }

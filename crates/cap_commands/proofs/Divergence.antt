@@ -1,8 +1,8 @@
 -- Two feeds, compared packet by packet.
-use Rattle.std.proofs.Common.{◌≡◌, ℕ, ◌+◌, ◌≤◌, List, ◌∷◌, drop, true, false, IsTrue, Option}
+use Rattle.std.proofs.Common.{◌≡◌, ℕ, ◌+◌, ◌≤◌, List, ◌∷◌, drop, true, false, Bool, IsTrue, Option}
 use Rattle.std.proofs.Common.{Some, None, Ok, Err, Result, refl, sym, ap, ◌∙◌, subst, arith}
 use Rattle.std.proofs.lemmas.Bool.{false≢true}
-use Rattle.std.specs.Prelude.{IsOkUnless, ◌++◌, ◌&&◌, is_none}
+use Rattle.std.specs.Prelude.{IsNone, IsOkUnless, ◌++◌, ◌&&◌, is_none}
 use Rattle.cap_bytes.proofs.Putting.{Prints-head}
 use Rattle.cap_bytes.specs.Device.{Puts}
 use Rattle.cap_bytes.specs.Printing.{Prints}
@@ -10,12 +10,16 @@ use Rattle.cap_bytes.specs.declared.faults.Fault.{Fault}
 use Rattle.cap_bytes.specs.declared.faults.Fault.TheVariants.{Refused, Read, Write, Memory}
 use Rattle.cap_source.proofs.Onward.{Keeps-refl, Keeps-trans}
 use Rattle.cap_source.specs.Feed.{Feed, FeedKeeps, FeedPasses, Item, packet}
-use Rattle.cap_source.specs.inner.Walk.{GivesPacket, ShowsItem}
+use Rattle.cap_source.specs.inner.Walk.{GivesPacket, SameEndings, ShowsItem}
 use Rattle.cap_source.specs.declared.packets.Meta.{Meta}
 use Rattle.cap_line.specs.declared.jobs.Ignored.{Ignored}
-use Rattle.cap_commands.specs.DiffText.{TellsDiff, compared, diff_text_in}
+use Rattle.cap_bytes.specs.declared.faults.Tail.{Tail}
+use Rattle.cap_source.specs.Items.{file_ending, file_items}
+use Rattle.cap_source.specs.declared.feeds.FileEnd.{FileEnd}
+use Rattle.cap_commands.specs.DiffText.{TellsDiff, compared, comparison_of, cuts_of, diff_text_in}
 use Rattle.cap_commands.specs.DiffText.{other_packet, same_packets}
-use Rattle.cap_commands.specs.inner.DiffWalk.{FailsOne, Parts, are_alike, compared_of, parted}
+use Rattle.cap_commands.specs.inner.DiffWalk.{FailsOne, Parts, are_alike, compared_of, ended_cut, parted}
+use Rattle.cap_commands.specs.declared.diff.CutEnds.{CutEnds}
 use Rattle.cap_commands.specs.declared.diff.DiffOptions.{DiffOptions}
 use Rattle.cap_commands.specs.declared.diff.Divergence.{Divergence}
 
@@ -24,6 +28,8 @@ pub record Matched (ignored : Ignored) (a b c d : Feed) (n : ℕ) : Type 0 where
   pub number : n + c.left ≤ a.left
   pub first : FeedKeeps a c
   pub second : FeedKeeps b d
+  pub ends_first : IsTrue a.told → SameEndings a c
+  pub ends_second : IsTrue b.told → SameEndings b d
   pub same : IsTrue a.told → IsTrue b.told → compared ignored 0 a.items b.items ≡ compared ignored n c.items d.items
 
 pub Matched-none : (ignored : Ignored) (a b : Feed) → Matched ignored a b a b 0
@@ -31,6 +37,8 @@ Matched-none ignored a b = record {
   number = omega arith;
   first = Keeps-refl a;
   second = Keeps-refl b;
+  ends_first = λ t file. refl;
+  ends_second = λ t file. refl;
   same = λ t u. refl;
 }
 
@@ -84,6 +92,12 @@ Matched-more ignored a b c d shown seen v w n m o i asked shows asks sees like p
   number = omega (arith, i.number, asked.left, passed.left);
   first = Keeps-trans a c v i.first (Keeps-trans c shown v asked keeps);
   second = Keeps-trans b d w i.second (Keeps-trans d seen w asks holds);
+  ends_first = λ t file.
+      passed.endings (asked.told (i.first.told t)) file
+      ∙ ((shows (i.first.told t)).0.endings file ∙ i.ends_first t file);
+  ends_second = λ t file.
+      passes.endings (asks.told (i.second.told t)) file
+      ∙ ((sees (i.second.told t)).0.endings file ∙ i.ends_second t file);
   same = λ t u.
       let ct = i.first.told t in
       let du = i.second.told u in
@@ -171,40 +185,106 @@ Prints-more old new head rest Write is p = Prints-head None old new head rest Wr
 Prints-more old new head rest Memory is p = grind arith
 
 -- both have ended
-pub Tells-same : (options : DiffOptions) (n : ℕ) (one other : Option Meta) (f g old new : List ℕ)
+pub Tells-same : (options : DiffOptions) (cuts : CutEnds) (n : ℕ) (one other : Option Meta) (f g old new : List ℕ)
     → (is_none one && is_none other) ≡ true
-    → Prints {A = Unit {0}} (diff_text_in options (same_packets n)) None old (Ok tt) new
-    → TellsDiff options (parted n (compared_of one f) (compared_of other g)) old (Ok true) new
-Tells-same options n None None f g old new h p = (refl, refl, p.1)
-Tells-same options n None (Some o) f g old new h p = absurd (false≢true h)
-Tells-same options n (Some m) other f g old new h p = absurd (false≢true h)
+    → Prints {A = Unit {0}} (diff_text_in options cuts (same_packets n)) None old (Ok tt) new
+    → TellsDiff options cuts (parted n (compared_of one f) (compared_of other g)) old (Ok true) new
+Tells-same options cuts n None None f g old new h p = (refl, refl, p.1)
+Tells-same options cuts n None (Some o) f g old new h p = absurd (false≢true h)
+Tells-same options cuts n (Some m) other f g old new h p = absurd (false≢true h)
 
-pub Tells-same-fault : (options : DiffOptions) (n : ℕ) (one other : Option Meta)
+pub Tells-same-fault : (options : DiffOptions) (cuts : CutEnds) (n : ℕ) (one other : Option Meta)
     (f g old new : List ℕ) (fault : Fault)
     → (is_none one && is_none other) ≡ true → fault ≡ Write
-    → Prints {A = Unit {0}} (diff_text_in options (same_packets n)) None old (Err fault) new
-    → TellsDiff options (parted n (compared_of one f) (compared_of other g)) old (Err fault) new
-Tells-same-fault options n None None f g old new fault h is p = rw is ((refl, rw is at p))
-Tells-same-fault options n None (Some o) f g old new fault h is p = absurd (false≢true h)
-Tells-same-fault options n (Some m) other f g old new fault h is p = absurd (false≢true h)
+    → Prints {A = Unit {0}} (diff_text_in options cuts (same_packets n)) None old (Err fault) new
+    → TellsDiff options cuts (parted n (compared_of one f) (compared_of other g)) old (Err fault) new
+Tells-same-fault options cuts n None None f g old new fault h is p = rw is ((refl, rw is at p))
+Tells-same-fault options cuts n None (Some o) f g old new fault h is p = absurd (false≢true h)
+Tells-same-fault options cuts n (Some m) other f g old new fault h is p = absurd (false≢true h)
 
 -- one of them has a packet
-pub Tells-other : (options : DiffOptions) (n : ℕ) (one other : Option Meta) (f g old new : List ℕ)
+pub Tells-other : (options : DiffOptions) (cuts : CutEnds) (n : ℕ) (one other : Option Meta) (f g old new : List ℕ)
     → (is_none one && is_none other) ≡ false
-    → Prints {A = Unit {0}} (diff_text_in options (other_packet (n + 1) (compared_of one f) (compared_of other g)))
+    → Prints {A = Unit {0}} (diff_text_in options cuts (other_packet (n + 1) (compared_of one f) (compared_of other g)))
     None old (Ok tt) new
-    → TellsDiff options (parted n (compared_of one f) (compared_of other g)) old (Ok false) new
-Tells-other options n None None f g old new h p = absurd (false≢true (sym h))
-Tells-other options n None (Some o) f g old new h p = (refl, refl, p.1)
-Tells-other options n (Some m) other f g old new h p = (refl, refl, p.1)
+    → TellsDiff options cuts (parted n (compared_of one f) (compared_of other g)) old (Ok false) new
+Tells-other options cuts n None None f g old new h p = absurd (false≢true (sym h))
+Tells-other options cuts n None (Some o) f g old new h p = (refl, refl, p.1)
+Tells-other options cuts n (Some m) other f g old new h p = (refl, refl, p.1)
 
-pub Tells-other-fault : (options : DiffOptions) (n : ℕ) (one other : Option Meta)
+pub Tells-other-fault : (options : DiffOptions) (cuts : CutEnds) (n : ℕ) (one other : Option Meta)
     (f g old new : List ℕ) (fault : Fault)
     → (is_none one && is_none other) ≡ false → fault ≡ Write
     → Prints {A = Unit {0}}
-    (diff_text_in options (other_packet (n + 1) (compared_of one f) (compared_of other g))) None old
+    (diff_text_in options cuts (other_packet (n + 1) (compared_of one f) (compared_of other g))) None old
     (Err fault) new
-    → TellsDiff options (parted n (compared_of one f) (compared_of other g)) old (Err fault) new
-Tells-other-fault options n None None f g old new fault h is p = absurd (false≢true (sym h))
-Tells-other-fault options n None (Some o) f g old new fault h is p = rw is ((refl, rw is at p))
-Tells-other-fault options n (Some m) other f g old new fault h is p = rw is ((refl, rw is at p))
+    → TellsDiff options cuts (parted n (compared_of one f) (compared_of other g)) old (Err fault) new
+Tells-other-fault options cuts n None None f g old new fault h is p = absurd (false≢true (sym h))
+Tells-other-fault options cuts n None (Some o) f g old new fault h is p = rw is ((refl, rw is at p))
+Tells-other-fault options cuts n (Some m) other f g old new fault h is p = rw is ((refl, rw is at p))
+
+-- how the files of the feeds end is told where they part
+pub Matched-ends : (ignored : Ignored) (a b c d shown seen : Feed) (n : ℕ) (one other : Option Meta)
+    → Matched ignored a b c d n
+    → (IsTrue c.told → ShowsItem c (Ok one) shown) → (IsTrue d.told → ShowsItem d (Ok other) seen)
+    → (IsTrue a.told → SameEndings a shown) × (IsTrue b.told → SameEndings b seen)
+Matched-ends ignored a b c d shown seen n one other i shows sees = (
+  λ t file. same_at c shown one (shows (i.first.told t)) file ∙ i.ends_first t file,
+  λ t file. same_at d seen other (sees (i.second.told t)) file ∙ i.ends_second t file,
+)
+  where
+    same_at : (old new : Feed) (found : Option Meta) → ShowsItem old (Ok found) new → (file : ℕ)
+        → new.endings file ≡ old.endings file
+    same_at old new None s file = s.0.endings file
+    same_at old new (Some meta) s file = s.0.endings file
+
+same-cuts : (cuts ends : CutEnds) → cuts.first ≡ ends.first → cuts.second ≡ ends.second → cuts ≡ ends
+same-cuts cuts ends first second =
+    ap (λ c. record { first = c; second = cuts.second }) first
+    ∙ ap (λ c. record { first = ends.first; second = c }) second
+
+-- what is told of files where they part is told by how they end, of a file that has a packet nothing
+pub told-as : (options : DiffOptions) (cuts ends : CutEnds) (n : ℕ) (one other : Option Meta) (f g old new : List ℕ)
+    (result : Result Bool Fault)
+    → (IsNone one → cuts.first ≡ ends.first) → (IsNone other → cuts.second ≡ ends.second)
+    → TellsDiff options cuts (parted n (compared_of one f) (compared_of other g)) old result new
+    → TellsDiff options ends (parted n (compared_of one f) (compared_of other g)) old result new
+told-as options cuts ends n None None f g old new result first second t =
+    subst (λ c. TellsDiff options c (same_packets n) old result new) (same-cuts cuts ends (first refl) (second refl)) t
+told-as options cuts ends n None (Some o) f g old new result first second t =
+    subst (λ c. TellsDiff options (record { first = c; second = ends.second })
+    (other_packet (n + 1) None (Some (record { meta = o; frame = g }))) old result new) (first refl) t
+told-as options cuts ends n (Some m) None f g old new result first second t =
+    subst (λ c. TellsDiff options (record { first = ends.first; second = c })
+    (other_packet (n + 1) (Some (record { meta = m; frame = f })) None) old result new) (second refl) t
+told-as options cuts ends n (Some m) (Some o) f g old new result first second t = t
+
+-- how a file was cut that has ended is how it ends
+ended : (packet : Option Meta) (end other : FileEnd) → IsNone packet → end ≡ other
+    → ended_cut packet end ≡ other.ending.was_cut
+ended None end other none is = ap (λ e. e.ending.was_cut) is
+ended (Some meta) end other none is = absurd (cc)
+
+-- what is told where the feeds of two files part is told of the files
+pub told-diff : (options : DiffOptions) (tail : Tail) (first second : List ℕ) (a b shown seen : Feed) (p : Divergence)
+    (cut cuts : Bool) (old new : List ℕ) (result : Result Bool Fault)
+    → a.items ≡ file_items tail 1 first → b.items ≡ file_items tail 2 second
+    → ((file : ℕ) → a.endings file ≡ file_ending tail 1 first)
+    → ((file : ℕ) → b.endings file ≡ file_ending tail 2 second)
+    → Parts (compared options.ignored 0 a.items b.items) (Ok p) shown.frame seen.frame
+    → SameEndings a shown → SameEndings b seen
+    → cut ≡ ended_cut p.first (shown.endings 1) → cuts ≡ ended_cut p.second (seen.endings 2)
+    → TellsDiff options (record { first = cut; second = cuts })
+    (parted p.passed (compared_of p.first shown.frame) (compared_of p.second seen.frame)) old result new
+    → TellsDiff options (cuts_of tail first second) (comparison_of options.ignored tail first second) old result new
+told-diff options tail first second a b shown seen p cut cuts old new result items_a items_b ends_a ends_b parts same_a
+    same_b cut_is cuts_is told =
+    let parted_is : comparison_of options.ignored tail first second
+    ≡ parted p.passed (compared_of p.first shown.frame) (compared_of p.second seen.frame) =
+    sym (ap (λ l. compared options.ignored 0 l b.items) items_a
+    ∙ ap (compared options.ignored 0 (file_items tail 1 first)) items_b) ∙ parts in
+    subst (λ k. TellsDiff options (cuts_of tail first second) k old result new) (sym parted_is)
+    (told-as options (record { first = cut; second = cuts }) (cuts_of tail first second) p.passed p.first p.second
+    shown.frame seen.frame old new result
+    (λ none. cut_is ∙ ended p.first _ _ none (same_a 1 ∙ ends_a 1))
+    (λ none. cuts_is ∙ ended p.second _ _ none (same_b 2 ∙ ends_b 2)) told)

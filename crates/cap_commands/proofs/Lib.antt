@@ -4,7 +4,6 @@ pub mod FirstDifference
 mod Merging
 mod Leaving
 pub mod BlockListing
-pub mod DigestFiles
 pub mod BlockWalking
 pub mod Listing
 pub mod Telling

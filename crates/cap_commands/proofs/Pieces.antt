@@ -1,6 +1,6 @@
 -- The bytes of a packet, written as digits in pieces.
 use Rattle.std.proofs.Common.{◌≡◌, ◌<◌, ℕ, nat_cmp, List, [], ◌∷◌, ◌++◌, codes, decimal, length, take, drop}
-use Rattle.std.proofs.Common.{Bool, IsTrue, Result}
+use Rattle.std.proofs.Common.{IsTrue, Result}
 use Rattle.std.proofs.Common.{Ok, Err, refl, sym, ap, ◌∙◌, subst, arith, append_assoc, append-nil, length-append}
 use Rattle.std.proofs.Common.{take-append-drop, take_at, drop_at}
 use Rattle.std.proofs.lemmas.Grind.{common_steps}
@@ -16,7 +16,8 @@ use Rattle.cap_print.specs.declared.forms.Form.TheVariants.{Json, Text}
 use Rattle.cap_print.specs.inner.Parts.{quote_in}
 use Rattle.cap_source.specs.declared.packets.Meta.{Meta}
 use Rattle.cap_commands.specs.ListText.{printed_in}
-use Rattle.cap_commands.specs.inner.PacketParts.{object_end, packet_head, packet_rest, packet_text}
+use Rattle.cap_commands.specs.inner.PacketParts.{behind_in, packet_head, packet_rest, packet_text}
+use Rattle.cap_commands.specs.declared.lines.Behind.{Behind}
 
 encoded-append : (digits xs ys : List ℕ)
     → encode_with digits (xs ++ ys) ≡ encode_with digits xs ++ encode_with digits ys
@@ -25,12 +26,12 @@ encoded-append digits [] ys = refl
 encoded-append digits (x ∷ xs) ys = cc (encoded-append digits xs ys)
 
 -- a piece of the digits, and what is left
-pub rest-piece : (form : Form) (is_inner : Bool) (piece behind : List ℕ)
-    → packet_rest form is_inner (piece ++ behind) ≡ encode_lower piece ++ packet_rest form is_inner behind
-rest-piece form is_inner piece behind =
-    let end = quote_in form (object_end form is_inner) in
-    ap (λ l. l ++ end) (encoded-append lower_digits piece behind)
-    ∙ append_assoc (encode_lower piece) (encode_lower behind) end
+pub rest-piece : (form : Form) (behind : Behind) (piece others : List ℕ)
+    → packet_rest form behind (piece ++ others) ≡ encode_lower piece ++ packet_rest form behind others
+rest-piece form behind piece others =
+    let end = quote_in form (behind_in form behind) in
+    ap (λ l. l ++ end) (encoded-append lower_digits piece others)
+    ∙ append_assoc (encode_lower piece) (encode_lower others) end
 
 -- some parts of a text, one after the other, and then the rest
 abbrev pub joined : List (List ℕ) → List ℕ → List ℕ
@@ -43,25 +44,25 @@ joined-more (part ∷ parts) rest more = ap (λ l. part ++ l) (joined-more parts
     ∙ sym (append_assoc part (joined parts rest) more)
 
 -- the two parts are a packet's line, if it shows some bytes
-pub packet-parts : (form : Form) (is_inner : Bool) (n : ℕ) (meta : Meta) (shown : List ℕ) → 0 < length shown
-    → packet_head form n meta ++ packet_rest form is_inner shown ≡ packet_text form is_inner n meta shown
-packet-parts form is_inner n meta [] some = absurd (omega (arith, some))
-packet-parts Text is_inner n meta (byte ∷ bytes) some =
+pub packet-parts : (form : Form) (behind : Behind) (n : ℕ) (meta : Meta) (shown : List ℕ) → 0 < length shown
+    → packet_head form n meta ++ packet_rest form behind shown ≡ packet_text form behind n meta shown
+packet-parts form behind n meta [] some = absurd (omega (arith, some))
+packet-parts Text behind n meta (byte ∷ bytes) some =
     let parts =
     codes "packet" ∷ codes " " ∷ decimal n ∷ codes " offset " ∷ decimal meta.offset ∷ codes " time "
     ∷ time_text (printed_in meta.units meta.interface) ∷ codes " captured " ∷ decimal meta.captured
     ∷ codes " original " ∷ decimal meta.original ∷ codes " link " ∷ decimal meta.interface.link ∷ [] in
-    sym (joined-more parts (codes " data ") (packet_rest Text is_inner (byte ∷ bytes)))
-packet-parts Json is_inner n meta (byte ∷ bytes) some =
+    sym (joined-more parts (codes " data ") (packet_rest Text behind (byte ∷ bytes)))
+packet-parts Json behind n meta (byte ∷ bytes) some =
     let digits = encode_lower (byte ∷ bytes) in
     let parts =
     codes "{\"type\":\"packet\",\"n\":" ∷ decimal n ∷ codes ",\"offset\":" ∷ decimal meta.offset
     ∷ codes ",\"time\":" ∷ time_json (printed_in meta.units meta.interface) ∷ codes ",\"captured\":"
     ∷ decimal meta.captured ∷ codes ",\"original\":" ∷ decimal meta.original ∷ codes ",\"link\":"
     ∷ decimal meta.interface.link ∷ [] in
-    sym (joined-more parts (codes ",\"data\":\"") (packet_rest Json is_inner (byte ∷ bytes)))
+    sym (joined-more parts (codes ",\"data\":\"") (packet_rest Json behind (byte ∷ bytes)))
     ∙ ap (λ l. joined parts (codes ",\"data\":\"" ++ l))
-    (sym (append_assoc digits (codes "\"") (object_end Json is_inner)))
+    (sym (append_assoc digits (codes "\"") (behind_in Json behind)))
 
 -- the first bytes, as many as there are of those that are wanted
 pub min-taken : (n : ℕ) (bytes : List ℕ) → take (ord_min nat_cmp (length bytes) n) bytes ≡ take n bytes

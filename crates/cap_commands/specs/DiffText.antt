@@ -8,17 +8,19 @@ use Rattle.cap_bytes.specs.declared.faults.Fault.{Fault}
 use Rattle.cap_bytes.specs.declared.faults.Fault.TheVariants.{Refused, Read, Write, Memory}
 use Rattle.cap_bytes.specs.declared.faults.Refusal.{Refusal}
 use Rattle.cap_bytes.specs.declared.faults.Tail.{Tail}
-use Rattle.cap_print.specs.Facts.{begin_in, close_in, end_in, fact_in, fields_in, line_in, named, number, one}
+use Rattle.cap_print.specs.Facts.{Fact, begin_in, close_in, end_in, fact_in, fields_in, flag, flagged, line_in, named}
+use Rattle.cap_print.specs.Facts.{number, one}
 use Rattle.cap_print.specs.declared.forms.Form.{Form}
 use Rattle.cap_print.specs.declared.forms.Form.TheVariants.{Json, Text}
 use Rattle.cap_source.specs.Feed.{Item, packet, refused}
-use Rattle.cap_source.specs.Items.{file_items}
+use Rattle.cap_source.specs.Items.{file_ending, file_items}
 use Rattle.cap_source.specs.Times.{meta_time}
 use Rattle.cap_source.specs.declared.packets.Meta.{Meta}
 use Rattle.cap_time.specs.Stamp.{stamp_eq}
 use Rattle.cap_time.specs.declared.stamps.Stamp.{Stamp}
 use Rattle.cap_line.specs.declared.jobs.Ignored.{Ignored}
 use Rattle.cap_commands.specs.ListText.{facts_showing}
+use Rattle.cap_commands.specs.declared.diff.CutEnds.{CutEnds}
 use Rattle.cap_commands.specs.declared.diff.DiffOptions.{DiffOptions}
 use Rattle.cap_commands.specs.declared.diff.Differences.{Differences}
 
@@ -146,11 +148,26 @@ quoted [] = []
 quoted (word ∷ []) = codes "\"" ++ word ++ codes "\""
 quoted (word ∷ next ∷ words) = codes "\"" ++ word ++ codes "\"," ++ quoted (next ∷ words)
 
--- the line of two captures with the same packets, so many, in a form
-abbrev pub same_line : Form → ℕ → List ℕ
-same_line form n = line_in form (record {
+-- whether each of two files of those bytes, which have the numbers 1 and 2, ends in a rest that was cut and dropped
+abbrev pub cuts_of : Tail → List ℕ → List ℕ → CutEnds
+cuts_of tail first second =
+    record {
+      first = (file_ending tail 1 first).ending.was_cut;
+      second = (file_ending tail 2 second).ending.was_cut;
+    }
+
+-- that a rest of a file was dropped, which is called so
+abbrev pub cut_fact : List ℕ → List ℕ → Bool → Fact
+cut_fact label key cut = record { label = label; key = key; value = flag cut }
+
+-- the line of two captures with the same packets, so many, in a form, and whether a rest of each was dropped
+abbrev pub same_line : Form → ℕ → CutEnds → List ℕ
+same_line form n cuts = line_in form (record {
   kind = codes "same";
-  fields = one (named (codes "packets") (number n)) ∷ [];
+  fields =
+      one (named (codes "packets") (number n))
+      ∷ one (cut_fact (codes " cut A") (codes "cut_a") cuts.first)
+      ∷ one (cut_fact (codes " cut B") (codes "cut_b") cuts.second) ∷ [];
 })
 
 -- where the captured bytes differ, if they do, and then the rest of a line in a form
@@ -189,28 +206,32 @@ packet_side form n meta shown = begin_in form (codes "packet")
     (fields_in form (facts_showing n meta shown).fields (close_in form (end_in form)))
 
 -- that there is no packet
-abbrev pub no_side : Form → List ℕ
-no_side Text = codes "end\n"
-no_side Json = codes "null}\n"
+abbrev pub nothing_in : Form → List ℕ
+nothing_in Text = codes "end"
+nothing_in Json = codes "null"
 
--- a packet in a form, with at most so many bytes from that byte on, or that there is none
-abbrev pub side_in : Form → ℕ → ℕ → ℕ → Option Compared → List ℕ
-side_in form most n from None = no_side form
-side_in form most n from (Some a) = packet_side form n a.meta (shown_from most from a.frame)
+-- that a file has ended, and whether a rest of it was dropped
+abbrev pub no_side : Form → Bool → List ℕ
+no_side form cut = nothing_in form ++ fact_in form (flagged (codes "cut") cut) (end_in form)
+
+-- a packet in a form, with at most so many bytes from that byte on, or that its file has ended, cut or not
+abbrev pub side_in : Form → ℕ → ℕ → ℕ → Bool → Option Compared → List ℕ
+side_in form most n from cut None = no_side form cut
+side_in form most n from cut (Some a) = packet_side form n a.meta (shown_from most from a.frame)
 
 -- both packets in a form, each with its sign, with at most so many bytes from that byte on
-abbrev pub sides_in : Form → ℕ → ℕ → ℕ → Option Compared → Option Compared → List ℕ
-sides_in form most n from a b = (before_side form (codes "-") from ++ side_in form most n from a)
-    ++ (before_side form (codes "+") from ++ side_in form most n from b)
+abbrev pub sides_in : Form → ℕ → ℕ → ℕ → CutEnds → Option Compared → Option Compared → List ℕ
+sides_in form most n from cuts a b = (before_side form (codes "-") from ++ side_in form most n from cuts.first a)
+    ++ (before_side form (codes "+") from ++ side_in form most n from cuts.second b)
 
--- what is printed of a comparison with these options: of packets whose captured bytes differ, their bytes from the row
--- on in which they do
-abbrev pub diff_text_in : DiffOptions → Comparison → List ℕ
-diff_text_in options (same_packets n) = same_line options.form n
-diff_text_in options (other_packet n a b) =
+-- what is printed of a comparison of two files that end so, with these options: of packets whose captured bytes differ,
+-- their bytes from the row on in which they do
+abbrev pub diff_text_in : DiffOptions → CutEnds → Comparison → List ℕ
+diff_text_in options cuts (same_packets n) = same_line options.form n cuts
+diff_text_in options cuts (other_packet n a b) =
     difference_line options.form n (difference_words options.ignored a b) (data_place a b)
-    ++ sides_in options.form options.most n (row_start (data_place a b)) a b
-diff_text_in options (stopped_by refusal) = []
+    ++ sides_in options.form options.most n (row_start (data_place a b)) cuts a b
+diff_text_in options cuts (stopped_by refusal) = []
 
 -- the refusal that is returned
 abbrev pub diff_refusal : Comparison → Option Refusal
@@ -226,10 +247,11 @@ is_same (stopped_by refusal) = false
 
 -- The comparison is printed with these options, and returned; or a refusal is returned, and nothing is printed then,
 -- nor if a read failed or a growth was refused. If the writer failed, a prefix is printed.
-abbrev pub TellsDiff : DiffOptions → Comparison → List ℕ → Result Bool Fault → List ℕ → Type 0
-TellsDiff options c old (Ok so) new =
-    (diff_refusal c ≡ None) × (so ≡ is_same c) × (new ≡ old ++ diff_text_in options c)
-TellsDiff options c old (Err (Refused r)) new = (diff_refusal c ≡ Some r) × (new ≡ old)
-TellsDiff options c old (Err (Read file offset)) new = new ≡ old
-TellsDiff options c old (Err Write) new = (diff_refusal c ≡ None) × PrintsFront (diff_text_in options c) old new
-TellsDiff options c old (Err Memory) new = new ≡ old
+abbrev pub TellsDiff : DiffOptions → CutEnds → Comparison → List ℕ → Result Bool Fault → List ℕ → Type 0
+TellsDiff options cuts c old (Ok so) new =
+    (diff_refusal c ≡ None) × (so ≡ is_same c) × (new ≡ old ++ diff_text_in options cuts c)
+TellsDiff options cuts c old (Err (Refused r)) new = (diff_refusal c ≡ Some r) × (new ≡ old)
+TellsDiff options cuts c old (Err (Read file offset)) new = new ≡ old
+TellsDiff options cuts c old (Err Write) new =
+    (diff_refusal c ≡ None) × PrintsFront (diff_text_in options cuts c) old new
+TellsDiff options cuts c old (Err Memory) new = new ≡ old

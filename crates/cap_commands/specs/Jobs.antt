@@ -8,6 +8,8 @@ use Rattle.cap_bytes.specs.declared.faults.Tail.TheVariants.{Accept, Refuse}
 use Rattle.cap_bytes.specs.declared.numbers.Order.{Order}
 use Rattle.cap_check.specs.CheckText.{WritesChecks, no_names}
 use Rattle.cap_check.specs.Checking.{Opened}
+use Rattle.cap_check.specs.declared.checked.CheckLine.{CheckLine}
+use Rattle.cap_check.specs.declared.checked.CheckLine.TheVariants as lines
 use Rattle.cap_line.specs.declared.jobs.Ignored.{Ignored}
 use Rattle.cap_line.specs.declared.jobs.Job.{Job}
 use Rattle.cap_line.specs.declared.jobs.Task.{Task}
@@ -21,13 +23,15 @@ use Rattle.cap_talks.specs.talks.InfoText.{first_refusal, info_text_in}
 use Rattle.cap_talks.specs.talks.ReportText.{report_refusal, report_text_in}
 use Rattle.cap_talks.specs.talks.Telling.{Tells}
 use Rattle.cap_commands.specs.BlockText.{block_list_in, block_refusal}
+use Rattle.cap_commands.specs.ClassText.{list_by}
 use Rattle.cap_commands.specs.Converted.{convert_refusal, convert_text}
-use Rattle.cap_commands.specs.DiffText.{Comparison, comparison_of, diff_refusal, diff_text_in, is_same}
-use Rattle.cap_commands.specs.DigestsText.{digests_text}
+use Rattle.cap_commands.specs.DiffText.{Comparison, comparison_of, cuts_of, diff_refusal, diff_text_in}
+use Rattle.cap_commands.specs.DiffText.{is_same}
 use Rattle.cap_commands.specs.JoinText.{join_refusal_in, join_text_in}
-use Rattle.cap_commands.specs.ListText.{list_in, list_refusal}
+use Rattle.cap_commands.specs.ListText.{list_refusal}
 use Rattle.cap_commands.specs.MergeText.{merge_refusal_in, merge_text_in}
 use Rattle.cap_commands.specs.Left.{nothing_left}
+use Rattle.cap_commands.specs.declared.diff.CutEnds.{CutEnds}
 use Rattle.cap_commands.specs.declared.diff.DiffOptions.{DiffOptions}
 use Rattle.cap_commands.specs.declared.jobs.Done.{Done}
 use Rattle.cap_commands.specs.declared.jobs.Finding.{Finding}
@@ -49,6 +53,11 @@ abbrev pub comparison_in : Ignored → Tail → List (List ℕ) → Comparison
 comparison_in ignored tail [] = comparison_of ignored tail [] []
 comparison_in ignored tail (first ∷ files) = comparison_of ignored tail first (only_of files)
 
+-- whether a rest of each was dropped
+abbrev pub cuts_in : Tail → List (List ℕ) → CutEnds
+cuts_in tail [] = cuts_of tail [] []
+cuts_in tail (first ∷ files) = cuts_of tail first (only_of files)
+
 -- the format that `merge` and `join` write
 abbrev pub format_in : Option Format → Format
 format_in to = unwrap_or to Pcapng
@@ -57,6 +66,16 @@ format_in to = unwrap_or to Pcapng
 abbrev pub form_by : Bool → Form
 form_by true = Json
 form_by false = Text
+
+-- which line `check` prints of a file, by whether it has a digest
+abbrev pub counts_line : Bool → CheckLine
+counts_line true = lines.CountsAndDigest
+counts_line false = lines.Counts
+
+-- which line `digest` or `check` prints of a file
+abbrev pub line_by : Task → Bool → CheckLine
+line_by tasks.Digest digests = lines.Digest
+line_by _ digests = counts_line digests
 
 -- how many bytes of a packet are shown at most: 16 in text, and in JSON unless the job says how many
 abbrev pub shown_by : Form → Option ℕ → ℕ
@@ -74,7 +93,7 @@ opened_files (fails ∷ others) [] = []
 opened_files (fails ∷ others) (bytes ∷ files) =
     Some (record { told = true; bytes = bytes; can_fail = fails }) ∷ opened_files others files
 
--- what `check` returns, by what it finds
+-- what `check` or `digest` returns, by what it finds
 abbrev pub whole_by : Result Unit Fault → Finding → Result Bool Fault
 whole_by (Ok done) Nothing = Ok true
 whole_by (Ok done) Difference = Ok false
@@ -83,37 +102,40 @@ whole_by (Err fault) finding = Err fault
 
 -- What is written, found and returned by a task over files of those bytes, of which a read can fail or not: `list`,
 -- `blocks` and `convert` are of one file, `diff` is of two.
-abbrev pub DoesTask : Task → Ignored → Tail → Form → ℕ → Order → Option Format → List Bool → List (List ℕ) → Finding
-    → List ℕ → Result Unit Fault → List ℕ → Type 0
-DoesTask tasks.List ignored tail form shown order to fails files finding =
-    Prints (list_in form shown tail (only_of files)) (list_refusal tail (only_of files))
-DoesTask tasks.Blocks ignored tail form shown order to fails files finding =
+abbrev pub DoesTask : Task → Ignored → Tail → Form → ℕ → Bool → Order → Option Format → Bool → List Bool
+    → List (List ℕ) → Finding → List ℕ → Result Unit Fault → List ℕ → Type 0
+DoesTask tasks.List ignored tail form shown classed order to digests fails files finding =
+    Prints (list_by classed form shown tail (only_of files)) (list_refusal tail (only_of files))
+DoesTask tasks.Blocks ignored tail form shown classed order to digests fails files finding =
     Prints (block_list_in form tail (only_of files)) (block_refusal tail (only_of files))
-DoesTask tasks.Diff ignored tail form shown order to fails files finding =
-    Tells (diff_text_in (diff_options ignored form shown) (comparison_in ignored tail files))
+DoesTask tasks.Diff ignored tail form shown classed order to digests fails files finding =
+    Tells (diff_text_in (diff_options ignored form shown) (cuts_in tail files) (comparison_in ignored tail files))
     (diff_refusal (comparison_in ignored tail files))
-DoesTask tasks.Digest ignored tail form shown order to fails files finding =
-    Prints (digests_text form tail files) (first_refusal tail 1 files)
-DoesTask tasks.Check ignored tail form shown order to fails files finding =
-    λ old result new. WritesChecks form tail no_names (opened_files fails files) old (whole_by result finding) new
-DoesTask tasks.Info ignored tail form shown order to fails files finding =
+DoesTask tasks.Digest ignored tail form shown classed order to digests fails files finding =
+    λ old result new. WritesChecks lines.Digest form tail no_names (opened_files fails files) old
+    (whole_by result finding) new
+DoesTask tasks.Check ignored tail form shown classed order to digests fails files finding =
+    λ old result new. WritesChecks (counts_line digests) form tail no_names (opened_files fails files) old
+    (whole_by result finding) new
+DoesTask tasks.Info ignored tail form shown classed order to digests fails files finding =
     Tells (info_text_in form tail files) (first_refusal tail 1 files)
-DoesTask tasks.Report ignored tail form shown order to fails files finding =
+DoesTask tasks.Report ignored tail form shown classed order to digests fails files finding =
     Tells (report_text_in form (length files) (endings_of_files tail files) (clocked_run tail files))
     (report_refusal (clocked_run tail files))
-DoesTask tasks.Convert ignored tail form shown order None fails files finding = λ old result new. ⊥
-DoesTask tasks.Convert ignored tail form shown order (Some format) fails files finding =
+DoesTask tasks.Convert ignored tail form shown classed order None digests fails files finding = λ old result new. ⊥
+DoesTask tasks.Convert ignored tail form shown classed order (Some format) digests fails files finding =
     Prints (convert_text format order tail (only_of files)) (convert_refusal format tail (only_of files))
-DoesTask tasks.Merge ignored tail form shown order to fails files finding =
+DoesTask tasks.Merge ignored tail form shown classed order to digests fails files finding =
     Prints (merge_text_in (format_in to) order tail files) (merge_refusal_in (format_in to) tail files)
-DoesTask tasks.Join ignored tail form shown order to fails files finding =
+DoesTask tasks.Join ignored tail form shown classed order to digests fails files finding =
     Prints (join_text_in (format_in to) order tail files) (join_refusal_in (format_in to) tail files)
 
--- What is written, found and returned by a job: what its task is, with its tail, its form, its order and its format.
+-- What is written, found and returned by a job: what its task is, with its tail, its form, its order, its format, and
+-- whether the lines of `list` have the class of their packet and those of `check` a digest.
 abbrev pub Does : Job → List Bool → List (List ℕ) → Finding → List ℕ → Result Unit Fault → List ℕ → Type 0
 Does job =
     DoesTask job.task job.ignored (tail_of job.allow_cut) (form_by job.json) (shown_by (form_by job.json) job.data)
-    job.order job.to
+    job.class job.order job.to job.digests
 
 -- what is found by whether two captures have the same packets
 abbrev pub finding_by : Bool → Finding
@@ -125,10 +147,11 @@ abbrev pub whole_finding : Bool → Finding
 whole_finding true = Nothing
 whole_finding false = NotWhole
 
--- What a task finds in files of those bytes: `diff` by whether they differ; `check` by whether all are whole, which
--- also hangs on the reads.
+-- What a task finds in files of those bytes: `diff` by whether they differ; `digest` and `check` by whether all are
+-- whole, which also hangs on the reads.
 abbrev pub FindsTask : Task → Ignored → Tail → List (List ℕ) → Finding → Type 0
 FindsTask tasks.Diff ignored tail files found = found ≡ finding_by (is_same (comparison_in ignored tail files))
+FindsTask tasks.Digest ignored tail files found = (are_whole : Bool) × (found ≡ whole_finding are_whole)
 FindsTask tasks.Check ignored tail files found = (are_whole : Bool) × (found ≡ whole_finding are_whole)
 FindsTask _ ignored tail files found = found ≡ Nothing
 

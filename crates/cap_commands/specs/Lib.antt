@@ -3,6 +3,7 @@ pub mod JoinText
 pub mod MergeText
 pub mod BlockText
 pub mod ListText
+pub mod ClassText
 pub mod FaultText
 pub mod Jobs
 pub mod RunText
@@ -10,4 +11,3 @@ pub mod Left
 pub mod JobLeft
 pub mod inner
 pub mod DiffText
-pub mod DigestsText

@@ -29,12 +29,16 @@ packet_fields n meta =
     ∷ one (named (codes "link") (number meta.interface.link))
     ∷ []
 
+-- the facts of the packet number n, with these of its captured bytes, and then these fields
+abbrev pub facts_before : List Field → ℕ → Meta → List ℕ → Facts
+facts_before behind n meta shown = record {
+  kind = codes "packet";
+  fields = packet_fields n meta ++ one (named (codes "data") (hex shown)) ∷ behind;
+}
+
 -- the facts of the packet number n, with these of its captured bytes
 abbrev pub facts_showing : ℕ → Meta → List ℕ → Facts
-facts_showing n meta shown = record {
-  kind = codes "packet";
-  fields = packet_fields n meta ++ one (named (codes "data") (hex shown)) ∷ [];
-}
+facts_showing n meta shown = facts_before [] n meta shown
 
 -- the line of the packet number n in a form, with at most `shown` of its captured bytes, the first of them
 abbrev pub packet_line : Form → ℕ → ℕ → Meta → List ℕ → List ℕ

@@ -1,24 +1,26 @@
 //! `capt diff`: whether two captures have the same packets.
 ghost use Rattle.std.specs.Prelude.{◌≡◌, ℕ, ◌+◌, ◌≤◌, ◌++◌, ◌∷◌, ◌^◌, [], false, codes, None, Some};
-ghost use Rattle.std.specs.Prelude.{IsSome, IsTrue};
+ghost use Rattle.std.specs.Prelude.{IsNone, IsSome, IsTrue, OnOk};
 ghost use Rattle.std.specs.Prelude.{IfOk, IsOkUnless, is_none, is_some, length, not, ◌&&◌};
 ghost use Rattle.cap_bytes.specs.Device.{WriterKeeps, writer_of};
 ghost use Rattle.cap_bytes.specs.Printing.{Prints, is_write};
 ghost use Rattle.cap_print.specs.Lines.{text_in};
-ghost use Rattle.cap_source.specs.Feed.{FeedKeeps, IsPacket};
+ghost use Rattle.cap_source.specs.Feed.{FeedKeeps, HasFile, IsPacket};
 ghost use Rattle.cap_source.specs.ReadFaults.{FailsOf};
-ghost use Rattle.cap_source.specs.inner.Walk.{GivesPacket, ShowsItem};
+ghost use Rattle.cap_source.specs.inner.Walk.{GivesPacket, SameEndings, ShowsItem};
+ghost use Rattle.cap_source.specs.declared.feeds.Head.{Head};
 ghost use Rattle.cap_source.specs.Times.{meta_time};
 ghost use Rattle.cap_commands.specs.DiffText.{TellsDiff, before_side, compared, comparison_of, counted_differences};
+ghost use Rattle.cap_commands.specs.DiffText.{cuts_of};
 ghost use Rattle.cap_commands.specs.DiffText.{data_place, default_options, diff_text_in, difference_line};
 ghost use Rattle.cap_commands.specs.DiffText.{difference_words, differences_of, do_differ, first_difference, is_same};
-ghost use Rattle.cap_commands.specs.DiffText.{is_same_time, no_side, nothing_ignored, other_packet, packet_side};
+ghost use Rattle.cap_commands.specs.DiffText.{is_same_time, nothing_ignored, other_packet, packet_side};
 ghost use Rattle.cap_commands.specs.DiffText.{place_of, row_start, shown_from, side_in, sides_in};
-ghost use Rattle.cap_commands.specs.inner.DiffWalk.{FailsOne, KnowsPackets, Parts, are_alike, compared_of, given};
-ghost use Rattle.cap_commands.specs.inner.DiffWalk.{known_packet, parted};
+ghost use Rattle.cap_commands.specs.inner.DiffWalk.{FailsOne, KnowsPackets, Parts, are_alike, compared_of, ended_cut};
+ghost use Rattle.cap_commands.specs.inner.DiffWalk.{given, known_packet, parted};
 
-use crate::diff_lines::{differ_line, end_line, same_line, side_head};
-use crate::lines::{MOST_SHOWN, write_side};
+use crate::diff_lines::{differ_line, end_line, no_packet_line, same_line, side_head};
+use crate::lines::{Behind, MOST_SHOWN, write_side};
 use crate::list::put_long_packet;
 use cap_bytes::{Fault, Sink, Source, Tail, put_all};
 use cap_line::{Ignored, NOTHING_IGNORED};
@@ -133,6 +135,14 @@ fn do_count(ignored: Ignored, it: Differences) -> bool
     false
 }
 
+/// Of two files: whether each ends in a rest that was cut, and that was dropped. Nothing is known of one that hasn't
+/// ended: then it isn't.
+#[derive(Clone, Copy)]
+pub(crate) struct CutEnds {
+    pub(crate) first: bool,
+    pub(crate) second: bool,
+}
+
 // Where two feeds are no longer the same: after how many packets, and which packet each of them has there.
 #[derive(Clone, Copy)]
 struct Divergence {
@@ -186,6 +196,12 @@ fn part<F: PacketFeed>(ignored: Ignored, first: &mut F, second: &mut F) -> Resul
         → Parts (compared ignored 0 (F.feed first.old).items (F.feed second.old).items) result (F.feed first.new).frame
         (F.feed second.new).frame }
     ensures known { IfOk result (λ p. KnowsPackets p (F.feed first.new) (F.feed second.new)) }
+    ensures keeps_first { FeedKeeps (F.feed first.old) (F.feed first.new) }
+    ensures keeps_second { FeedKeeps (F.feed second.old) (F.feed second.new) }
+    ensures ends_first { OnOk result (IsTrue (F.feed first.old).told
+        → SameEndings (F.feed first.old) (F.feed first.new)) }
+    ensures ends_second { OnOk result (IsTrue (F.feed second.old).told
+        → SameEndings (F.feed second.old) (F.feed second.new)) }
     ensures few { IfOk result (λ p. p.passed ≤ 2 ^ 40) }
     ensures write { is_write result ≡ false }
     ensures fails { FailsOne (F.feed first.old) (F.feed second.old) result }
@@ -207,6 +223,18 @@ fn part<F: PacketFeed>(ignored: Ignored, first: &mut F, second: &mut F) -> Resul
     }
 }
 
+// Whether a rest of a file of that number was dropped, if it has ended.
+fn was_cut<F: PacketFeed>(feed: &F, file: u32, packet: Option<Meta>) -> bool
+    requires end { IsNone packet → (F.feed feed.now).known ≡ Some Head.End }
+    requires file { HasFile (F.feed feed.now).files file }
+    ensures { result ≡ ended_cut packet ((F.feed feed.now).endings file) }
+{
+    match packet {
+        None => feed.ending(file).was_cut,
+        Some(_) => false,
+    }
+}
+
 // Which of a packet's bytes are shown: at most so many, from that byte on.
 #[derive(Clone, Copy)]
 struct Shown {
@@ -221,18 +249,6 @@ fn shown_of(shown: Shown, frame: &[u8]) -> &[u8]
     let (_, rest) = frame.split_at(min(frame.len(), shown.from));
     let (front, _) = rest.split_at(min(rest.len(), shown.most as usize));
     front
-}
-
-// The line in a form that there is no packet.
-fn no_packet_line(form: Form) -> Line
-    ensures { text_in result ≡ no_side form }
-{
-    let mut line = Line::new();
-    line.prepend_text(match form {
-        Form::Text => b"end\n",
-        Form::Json => b"null}\n",
-    });
-    line
 }
 
 // Writes a line.
@@ -260,42 +276,44 @@ fn put_packet<W: Sink>(
 {
     let mut line = Line::new();
     if shown.len() > MOST_SHOWN {
-        return put_long_packet(writer, &mut line, form, true, n, meta, shown);
+        return put_long_packet(writer, &mut line, form, &Behind::ObjectEnd, n, meta, shown);
     }
     write_side(&mut line, form, n, meta, shown);
     put_line(writer, &line)
 }
 
-// Writes the packet that comes next in a form, with these of its bytes, or that there is none.
+// Writes the packet that comes next in a form, with these of its bytes, or that its file has ended, cut or not.
 fn put_next<F: PacketFeed, W: Sink>(
     writer: &mut W,
     form: Form,
     n: u64,
     shown: Shown,
+    cut: bool,
     packet: Option<Meta>,
     feed: &F,
 ) -> Result<(), Fault>
     requires packet { IsSome packet → IsPacket (F.feed feed.now).known }
     ensures text { IsTrue (W.tells_held writer.old)
-        → Prints (side_in form shown.most n shown.from (compared_of packet (F.feed feed.now).frame)) None
+        → Prints (side_in form shown.most n shown.from cut (compared_of packet (F.feed feed.now).frame)) None
         (W.held writer.old) result (W.held writer.new) }
     ensures writer { WriterKeeps (writer_of W.Sink writer.old) (is_write result) (writer_of W.Sink writer.new) }
     ensures fault { IsOkUnless result Fault.Write }
 {
     match packet {
-        None => put_line(writer, &no_packet_line(form)),
+        None => put_line(writer, &no_packet_line(form, cut)),
         Some(meta) => put_packet(writer, form, n, &meta, shown_of(shown, feed.frame())),
     }
 }
 
 // Writes one side of a difference in a form: the sign of its file, and the packet that comes next, with these of its
-// bytes, or that there is none.
+// bytes, or that the file has ended, cut or not.
 fn put_side<F: PacketFeed, W: Sink>(
     writer: &mut W,
     form: Form,
     sign: &[u8],
     n: u64,
     shown: Shown,
+    cut: bool,
     packet: Option<Meta>,
     feed: &F,
 ) -> Result<(), Fault>
@@ -303,14 +321,14 @@ fn put_side<F: PacketFeed, W: Sink>(
     requires packet { IsSome packet → IsPacket (F.feed feed.now).known }
     ensures text { IsTrue (W.tells_held writer.old)
         → Prints (before_side form sign.now shown.from
-        ++ side_in form shown.most n shown.from (compared_of packet (F.feed feed.now).frame)) None
+        ++ side_in form shown.most n shown.from cut (compared_of packet (F.feed feed.now).frame)) None
         (W.held writer.old) result (W.held writer.new) }
     ensures writer { WriterKeeps (writer_of W.Sink writer.old) (is_write result) (writer_of W.Sink writer.new) }
     ensures fault { IsOkUnless result Fault.Write }
 {
     let head = side_head(form, sign, shown.from);
     put_all(writer, head.as_slice())?;
-    put_next(writer, form, n, shown, packet, feed)
+    put_next(writer, form, n, shown, cut, packet, feed)
 }
 
 // Writes both sides in a form, with these of their bytes.
@@ -319,20 +337,39 @@ fn put_sides<F: PacketFeed, W: Sink>(
     form: Form,
     n: u64,
     shown: Shown,
+    cuts: CutEnds,
     divergence: &Divergence,
     first: &F,
     second: &F,
 ) -> Result<(), Fault>
     requires known { KnowsPackets divergence.now (F.feed first.now) (F.feed second.now) }
     ensures text { IsTrue (W.tells_held writer.old)
-        → Prints (sides_in form shown.most n shown.from (compared_of divergence.now.first (F.feed first.now).frame)
+        → Prints (sides_in form shown.most n shown.from cuts (compared_of divergence.now.first (F.feed first.now).frame)
         (compared_of divergence.now.second (F.feed second.now).frame)) None (W.held writer.old) result
         (W.held writer.new) }
     ensures writer { WriterKeeps (writer_of W.Sink writer.old) (is_write result) (writer_of W.Sink writer.new) }
     ensures fault { IsOkUnless result Fault.Write }
 {
-    put_side(writer, form, b"-", n, shown, divergence.first, first)?;
-    put_side(writer, form, b"+", n, shown, divergence.second, second)
+    put_side(
+        writer,
+        form,
+        b"-",
+        n,
+        shown,
+        cuts.first,
+        divergence.first,
+        first,
+    )?;
+    put_side(
+        writer,
+        form,
+        b"+",
+        n,
+        shown,
+        cuts.second,
+        divergence.second,
+        second,
+    )
 }
 
 // Where these captured bytes differ, if they do.
@@ -405,13 +442,14 @@ fn put_difference<F: PacketFeed, W: Sink>(
     writer: &mut W,
     options: DiffOptions,
     n: u64,
+    cuts: CutEnds,
     divergence: &Divergence,
     first: &F,
     second: &F,
 ) -> Result<(), Fault>
     requires known { KnowsPackets divergence.now (F.feed first.now) (F.feed second.now) }
     ensures text { IsTrue (W.tells_held writer.old)
-        → Prints (diff_text_in options (other_packet n (compared_of divergence.now.first (F.feed first.now).frame)
+        → Prints (diff_text_in options cuts (other_packet n (compared_of divergence.now.first (F.feed first.now).frame)
         (compared_of divergence.now.second (F.feed second.now).frame))) None (W.held writer.old) result
         (W.held writer.new) }
     ensures writer { WriterKeeps (writer_of W.Sink writer.old) (is_write result) (writer_of W.Sink writer.new) }
@@ -432,7 +470,16 @@ fn put_difference<F: PacketFeed, W: Sink>(
         from: row_start(place),
         most: options.most,
     };
-    put_sides(writer, options.form, n, shown, divergence, first, second)
+    put_sides(
+        writer,
+        options.form,
+        n,
+        shown,
+        cuts,
+        divergence,
+        first,
+        second,
+    )
 }
 
 // Whether both have ended.
@@ -446,6 +493,7 @@ fn is_end(divergence: &Divergence) -> bool
 fn put_divergence<F: PacketFeed, W: Sink>(
     writer: &mut W,
     options: DiffOptions,
+    cuts: CutEnds,
     divergence: &Divergence,
     first: &F,
     second: &F,
@@ -453,20 +501,22 @@ fn put_divergence<F: PacketFeed, W: Sink>(
     requires known { KnowsPackets divergence.now (F.feed first.now) (F.feed second.now) }
     requires few { divergence.now.passed ≤ 2 ^ 40 }
     ensures text { IsTrue (W.tells_held writer.old)
-        → TellsDiff options (parted divergence.now.passed (compared_of divergence.now.first (F.feed first.now).frame)
+        → TellsDiff options cuts
+        (parted divergence.now.passed (compared_of divergence.now.first (F.feed first.now).frame)
         (compared_of divergence.now.second (F.feed second.now).frame)) (W.held writer.old) result (W.held writer.new) }
     ensures same { IfOk result (λ so. so ≡ (is_none divergence.now.first && is_none divergence.now.second)) }
     ensures writer { WriterKeeps (writer_of W.Sink writer.old) (is_write result) (writer_of W.Sink writer.new) }
     ensures fault { IsOkUnless result Fault.Write }
 {
     if is_end(divergence) {
-        put_line(writer, &same_line(options.form, divergence.passed))?;
+        put_line(writer, &same_line(options.form, divergence.passed, cuts))?;
         return Ok(true);
     }
     put_difference(
         writer,
         options,
         divergence.passed + 1,
+        cuts,
         divergence,
         first,
         second,
@@ -478,11 +528,12 @@ fn put_divergence<F: PacketFeed, W: Sink>(
 /// and original length and captured bytes, apart from what is ignored: `same packets N`, and returns `true`; or the
 /// number and the differences of the first packet that isn't the same in both, and its line in each, as `list_to`
 /// prints it, and returns `false`. In JSON these are three objects, of which the second and the third hold the object
-/// that `list_json_to` prints, or `null`. Each line or object has at most `most` bytes of its packet. If the captured
-/// bytes differ, the place of the first byte that differs is printed, and these are the bytes from the row of 16 bytes
-/// on in which that byte is. If a file is refused before that, the refusal is returned. It returns `Read` if a read
-/// fails and `Memory` if a growth is refused; after these and a refusal nothing is printed. It returns `Write` if a
-/// write fails, after a prefix.
+/// that `list_json_to` prints, or `null`. If a file has ended, and a cut end of it was dropped, that is printed too:
+/// behind `same packets N` as `cut A` and `cut B`, behind `end` as `cut`; in JSON as `cut_a`, `cut_b` and `cut`. Each
+/// line or object has at most `most` bytes of its packet. If the captured bytes differ, the place of the first byte
+/// that differs is printed, and these are the bytes from the row of 16 bytes on in which that byte is. If a file is
+/// refused before that, the refusal is returned. It returns `Read` if a read fails and `Memory` if a growth is refused;
+/// after these and a refusal nothing is printed. It returns `Write` if a write fails, after a prefix.
 pub fn diff_in<R: Source, W: Sink>(
     alloc: Global,
     first: R,
@@ -492,7 +543,8 @@ pub fn diff_in<R: Source, W: Sink>(
     writer: &mut W,
 ) -> Result<bool, Fault>
     ensures text { IsTrue (R.tells_coming first) → IsTrue (R.tells_coming second) → IsTrue (W.tells_held writer.old)
-        → TellsDiff options (comparison_of options.ignored tail (R.coming first) (R.coming second))
+        → TellsDiff options (cuts_of tail (R.coming first) (R.coming second))
+        (comparison_of options.ignored tail (R.coming first) (R.coming second))
         (W.held writer.old) result (W.held writer.new) }
     ensures same { IsTrue (R.tells_coming first) → IsTrue (R.tells_coming second)
         → IfOk result (λ so.
@@ -503,7 +555,11 @@ pub fn diff_in<R: Source, W: Sink>(
     let mut first = Capture::new(alloc, first, 1, tail);
     let mut second = Capture::new(alloc, second, 2, tail);
     let divergence = part(options.ignored, &mut first, &mut second)?;
-    put_divergence(writer, options, &divergence, &first, &second)
+    let cuts = CutEnds {
+        first: was_cut(&first, 1, divergence.first),
+        second: was_cut(&second, 2, divergence.second),
+    };
+    put_divergence(writer, options, cuts, &divergence, &first, &second)
 }
 
 /// The options of `capt diff` without any: nothing is ignored, and text is printed, with at most 16 bytes of each
@@ -523,7 +579,8 @@ pub fn diff_to<R: Source, W: Sink>(
     writer: &mut W,
 ) -> Result<bool, Fault>
     ensures text { IsTrue (R.tells_coming first) → IsTrue (R.tells_coming second) → IsTrue (W.tells_held writer.old)
-        → TellsDiff default_options (comparison_of nothing_ignored tail (R.coming first) (R.coming second))
+        → TellsDiff default_options (cuts_of tail (R.coming first) (R.coming second))
+        (comparison_of nothing_ignored tail (R.coming first) (R.coming second))
         (W.held writer.old) result (W.held writer.new) }
     ensures same { IsTrue (R.tells_coming first) → IsTrue (R.tells_coming second)
         → IfOk result (λ so. so ≡ is_same (comparison_of nothing_ignored tail (R.coming first) (R.coming second))) }

@@ -1,12 +1,14 @@
 //! The lines of `capt diff`, in text and in JSON.
+ghost use Rattle.cap_print.specs.Facts.{fact_in};
 ghost use Rattle.std.specs.Prelude.{◌≡◌, ◌+◌, ◌≤◌, ◌++◌, ◌∷◌, [], ◌||◌, codes, if◌then◌else◌, length, None};
 ghost use Rattle.cap_print.specs.Lines.{room_in, text_in};
 ghost use Rattle.cap_print.specs.declared.forms.Form.TheVariants.{Json, Text};
-ghost use Rattle.cap_commands.specs.DiffText.{before_side, data_place_in, difference_line, from_json, same_line};
+ghost use Rattle.cap_commands.specs.DiffText.{before_side, cut_fact, data_place_in, difference_line, from_json};
+ghost use Rattle.cap_commands.specs.DiffText.{no_side, same_line};
 ghost use Rattle.cap_commands.specs.DiffText.{words_of};
 ghost use Rattle.cap_commands.specs.inner.DiffWords.{quoted_if};
 
-use crate::diff::Differences;
+use crate::diff::{CutEnds, Differences};
 use cap_print::{Form, Line};
 
 // Puts a word if that is so.
@@ -118,13 +120,42 @@ pub(crate) fn end_line(form: Form, n: u64) -> Line
     line
 }
 
-/// The line of captures with the same packets: `same packets N`.
-pub(crate) fn same_line(form: Form, n: u64) -> Line
-    ensures { text_in result ≡ same_line form n }
+// Puts whether a rest of a file was dropped, which is called so in text and in JSON.
+fn put_cut(line: &mut Line, form: Form, label: &[u8], key: &[u8], cut: bool)
+    requires label { length label.now ≤ room_in line.old }
+    requires key { length key.now + 9 ≤ room_in line.old }
+    requires shorter { length label.now ≤ length key.now + 9 }
+    ensures text { text_in line.new ≡ fact_in form (cut_fact label.now key.now cut) (text_in line.old) }
+    ensures room { room_in line.old ≤ room_in line.new + length key.now + 9 }
+{
+    match form {
+        Form::Text => prepend_if(line, cut, label),
+        Form::Json => line.put_flag(form, key, cut),
+    }
+}
+
+/// The line of captures with the same packets, and whether a rest of each was dropped: `same packets N cut B`.
+pub(crate) fn same_line(form: Form, n: u64, cuts: CutEnds) -> Line
+    ensures { text_in result ≡ same_line form n cuts }
 {
     let mut line = Line::end(form);
+    put_cut(&mut line, form, b" cut B", b"cut_b", cuts.second);
+    put_cut(&mut line, form, b" cut A", b"cut_a", cuts.first);
     line.put_number(form, b"packets", n);
     line.put_kind(form, b"same");
+    line
+}
+
+/// The line in a form that a file has ended, and whether a rest of it was dropped.
+pub(crate) fn no_packet_line(form: Form, cut: bool) -> Line
+    ensures { text_in result ≡ no_side form cut }
+{
+    let mut line = Line::end(form);
+    line.put_flag(form, b"cut", cut);
+    line.prepend_text(match form {
+        Form::Text => b"end",
+        Form::Json => b"null",
+    });
     line
 }
 

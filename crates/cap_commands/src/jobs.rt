@@ -4,9 +4,9 @@ ghost use Rattle.cap_check.specs.CheckText.{WritesChecks, no_names};
 ghost use Rattle.std.specs.List.{list_all};
 ghost use Rattle.cap_line.specs.Jobs.{IsWholeJob};
 ghost use Rattle.cap_talks.specs.talks.Telling.{Tells};
-ghost use Rattle.cap_commands.specs.DiffText.{comparison_of, diff_refusal, diff_text_in, is_same};
-ghost use Rattle.cap_commands.specs.Jobs.{Does, Finds, done_of, finding_by, form_by, format_in, found_in};
-ghost use Rattle.cap_commands.specs.Jobs.{finding_in, found_by, opened_files, printed_by, shown_by};
+ghost use Rattle.cap_commands.specs.DiffText.{comparison_of, cuts_of, diff_refusal, diff_text_in, is_same};
+ghost use Rattle.cap_commands.specs.Jobs.{Does, Finds, counts_line, done_of, finding_by, form_by, format_in, found_in};
+ghost use Rattle.cap_commands.specs.Jobs.{finding_in, found_by, line_by, opened_files, printed_by, shown_by};
 ghost use Rattle.cap_commands.specs.Jobs.{tail_of, whole_by, whole_finding, written_by};
 ghost use Rattle.cap_commands.specs.JobLeft.{JobLeaves};
 ghost use Rattle.cap_commands.specs.ListText.{list_refusal};
@@ -17,11 +17,10 @@ ghost use Rattle.cap_source.specs.ReadFaults.{FailsOf};
 use crate::blocks::blocks_in;
 use crate::counting::{convert_and_count, join_and_count, merge_and_count};
 use crate::diff::{DiffOptions, diff_in};
-use crate::digests::digests_to;
 use crate::left::{DroppedInfo, NOTHING_LEFT};
 use crate::list::list_in;
 use cap_bytes::{Fault, Sink, Source, Tail};
-use cap_check::check_all_to;
+use cap_check::{CheckLine, check_all_to};
 use cap_line::{Job, Task};
 use cap_print::Form;
 use cap_source::Format;
@@ -35,7 +34,7 @@ pub enum Finding {
     Nothing,
     /// Two captures differ.
     Difference,
-    /// A file that was checked isn't whole.
+    /// A file of `digest` or `check` isn't whole.
     NotWhole,
 }
 
@@ -64,6 +63,27 @@ pub fn form_of(json: bool) -> Form
     ensures { result ≡ form_by json }
 {
     if json { Form::Json } else { Form::Text }
+}
+
+// Which line `check` prints of a file, by whether it has a digest.
+fn counts_line(digests: bool) -> CheckLine
+    ensures { result ≡ counts_line digests }
+{
+    if digests {
+        CheckLine::CountsAndDigest
+    } else {
+        CheckLine::Counts
+    }
+}
+
+/// Which line `digest` or `check` prints of a file: `digests` says if that of `check` has a digest.
+pub fn line_of(task: Task, digests: bool) -> CheckLine
+    ensures { result ≡ line_by task digests }
+{
+    match task {
+        Task::Digest => CheckLine::Digest,
+        _ => counts_line(digests),
+    }
 }
 
 // How many bytes of a packet are shown at most: 16 in text, and in JSON unless the job says how many.
@@ -115,7 +135,8 @@ fn compare<R: Source, W: Sink>(
 ) -> Result<Finding, Fault>
     ensures text { IsTrue (R.tells_coming sources.0) → IsTrue (R.tells_coming sources.1)
         → IsTrue (W.tells_held writer.old)
-        → Tells (diff_text_in options (comparison_of options.ignored tail (R.coming sources.0) (R.coming sources.1)))
+        → Tells (diff_text_in options (cuts_of tail (R.coming sources.0) (R.coming sources.1))
+        (comparison_of options.ignored tail (R.coming sources.0) (R.coming sources.1)))
         (diff_refusal (comparison_of options.ignored tail (R.coming sources.0) (R.coming sources.1)))
         (W.held writer.old)
         (done_of result) (W.held writer.new) }
@@ -141,23 +162,25 @@ pub fn whole_finding(are_whole: bool) -> Finding
     }
 }
 
-// `check` in a form, and what it finds.
+// `check` or `digest` in a form, and what it finds.
 fn check<R: Source, W: Sink>(
     alloc: Global,
     sources: Vec<R>,
     tail: Tail,
+    which: CheckLine,
     form: Form,
     writer: &mut W,
 ) -> Result<Finding, Fault>
     requires most { vec_len sources ≤ 4294967295 }
     ensures text { IsTrue (list_all R.tells_coming sources.items) → IsTrue (W.tells_held writer.old)
-        → WritesChecks form tail no_names (opened_files (map R.can_fail sources.items) (map R.coming sources.items))
-        (W.held writer.old) (whole_by (done_of result) (found_in result)) (W.held writer.new) }
+        → WritesChecks which form tail no_names
+        (opened_files (map R.can_fail sources.items) (map R.coming sources.items)) (W.held writer.old)
+        (whole_by (done_of result) (found_in result)) (W.held writer.new) }
     ensures finding { IfOk result (λ finding. (are_whole : Bool) × (finding ≡ whole_finding are_whole)) }
     ensures writer { WriterKeeps (writer_of W.Sink writer.old) (is_write result) (writer_of W.Sink writer.new) }
     ensures read { FailsOf (map R.can_fail sources.items) result }
 {
-    let are_whole = check_all_to(alloc, sources, tail, form, writer)?;
+    let are_whole = check_all_to(alloc, sources, tail, which, form, writer)?;
     Ok(whole_finding(are_whole))
 }
 
@@ -210,12 +233,14 @@ fn written(answer: Result<DroppedInfo, Fault>) -> Result<Done, Fault>
 /// Does a job over the files that it names, of which `sources` gives the bytes in their order, and writes to what it
 /// names as its output: each task is the command of its name, with the tail, the form, the order and the format that
 /// the job has. It returns what it found: `Difference` exactly if it is `diff` of captures that differ, `NotWhole`
-/// exactly if it is `check` of files that aren't all whole. And it returns what it left out, as `convert_and_count`,
-/// `merge_and_count` and `join_and_count` say: nothing of other tasks. Packets that run backward are counted if
-/// `counts` says so. `info`, `report` and `diff` write all of their text, or nothing if they return `Refused`, `Read`
-/// or `Memory`; the others write up to the first refusal, which they return, and a prefix of their text if they return
-/// another fault. It returns `Read` if a read fails, `Write` if a write does, and `Memory` if a growth is refused. The
-/// lines of `check` don't name their files.
+/// exactly if it is `digest` or `check` of files that aren't all whole. And it returns what it left out, as
+/// `convert_and_count`, `merge_and_count` and `join_and_count` say: nothing of other tasks. Packets that run backward
+/// are counted if `counts` says so. `info`, `report` and `diff` write all of their text, or nothing if they return
+/// `Refused`, `Read` or `Memory`; `digest` and `check` have a line for a file that is refused or of which a read fails,
+/// and return neither; the others write up to the first refusal, which they return, and a prefix of their text if they
+/// return another fault. It returns `Read` if a read fails, `Write` if a write does, and `Memory` if a growth is
+/// refused. The lines of `digest` and `check` don't name their files. The job's list isn't read: over no sources
+/// `digest` and `check` write nothing, and find nothing.
 #[inline(never)]
 pub fn job_to<R: Source, W: Sink>(
     alloc: Global,
@@ -241,7 +266,8 @@ pub fn job_to<R: Source, W: Sink>(
     match job.task {
         Task::List => {
             let shown = shown_of(form, job.data);
-            printed(list_in(alloc, only(sources), tail, form, shown, writer))
+            let source = only(sources);
+            printed(list_in(alloc, source, tail, form, shown, job.class, writer))
         }
         Task::Blocks => printed(blocks_in(alloc, only(sources), tail, form, writer)),
         Task::Diff => {
@@ -252,8 +278,14 @@ pub fn job_to<R: Source, W: Sink>(
             };
             found(compare(alloc, pair(sources), tail, options, writer))
         }
-        Task::Digest => printed(digests_to(alloc, sources, tail, form, writer)),
-        Task::Check => found(check(alloc, sources, tail, form, writer)),
+        Task::Digest => {
+            let which = CheckLine::Digest;
+            found(check(alloc, sources, tail, which, form, writer))
+        }
+        Task::Check => {
+            let which = counts_line(job.digests);
+            found(check(alloc, sources, tail, which, form, writer))
+        }
         Task::Info => printed(file_lines_in(alloc, sources, tail, form, writer)),
         Task::Report => printed(report_in(alloc, sources, tail, form, writer)),
         Task::Convert => {

@@ -4,15 +4,17 @@ ghost use Rattle.cap_print.specs.Facts.{begin_in, fact_in, fields_in, line_in, n
 ghost use Rattle.cap_print.specs.Lines.{room_in, text_in};
 ghost use Rattle.cap_commands.specs.BlockText.{block_line, kind_text, order_text};
 ghost use Rattle.cap_print.specs.inner.Parts.{quote_in};
-ghost use Rattle.cap_commands.specs.inner.PacketParts.{object_end, packet_head};
+ghost use Rattle.cap_commands.specs.inner.PacketParts.{behind_in, packet_head};
 ghost use Rattle.cap_time.specs.Stamp.{printed_of};
 ghost use Rattle.cap_commands.specs.DiffText.{packet_side};
-ghost use Rattle.cap_commands.specs.ListText.{facts_showing, packet_fields, printed_in};
+ghost use Rattle.cap_commands.specs.ListText.{facts_before, facts_showing, packet_fields, printed_in};
+ghost use Rattle.cap_talks.specs.table.Descriptions.{description_fields};
 
 use cap_blocks::Block;
 use cap_bytes::Order;
 use cap_print::{Form, Line};
 use cap_source::Meta;
+use cap_talks::{Description, put_description};
 use cap_time::Stamp;
 
 // The time of a packet, if it has one, as it is printed.
@@ -52,16 +54,58 @@ pub(crate) fn write_packet(line: &mut Line, form: Form, n: u64, meta: &Meta, sho
     put_packet(line, form, n, meta);
 }
 
-/// Makes a line the end of a packet's line in a form, after the digits of its bytes; in JSON also the end of the object
-/// that it stands in, if it does.
-pub(crate) fn write_packet_end(line: &mut Line, form: Form, is_inner: bool)
-    ensures text { text_in line.new ≡ quote_in form (object_end form is_inner) }
-    ensures room { 508 ≤ room_in line.new }
+/// The most bytes of a packet that its line holds as digits, if it says of which class the packet is.
+pub(crate) const MOST_SHOWN_CLASSED: usize = 60;
+
+/// Makes a line that of the packet number n, from 1, in a form, with these bytes of it, and what it is by itself.
+pub(crate) fn write_classed(
+    line: &mut Line,
+    form: Form,
+    n: u64,
+    meta: &Meta,
+    shown: &[u8],
+    description: &Description,
+)
+    requires { length shown.now ≤ 60 }
+    ensures { text_in line.new
+        ≡ line_in form (facts_before (description_fields description.now) n meta.now shown.now) }
 {
     line.clear_to_end(form);
-    if is_inner {
-        line.put_group_end(form);
+    put_description(line, form, description);
+    line.put_hex(form, b"data", shown);
+    put_packet(line, form, n, meta);
+}
+
+/// What stands behind the digits of a packet's bytes, up to the end of the line.
+#[derive(Clone, Copy)]
+pub(crate) enum Behind {
+    /// The end of the line.
+    LineEnd,
+    /// In JSON the end of the object that the packet's object stands in, and the end of the line.
+    ObjectEnd,
+    /// What the packet is by itself, and the end of the line.
+    Described(Description),
+}
+
+// Makes a line its end, and what is behind the bytes of a packet before it.
+fn write_behind(line: &mut Line, form: Form, behind: &Behind)
+    ensures text { text_in line.new ≡ behind_in form behind.now }
+    ensures room { 376 ≤ room_in line.new }
+{
+    line.clear_to_end(form);
+    match behind {
+        Behind::LineEnd => {}
+        Behind::ObjectEnd => line.put_group_end(form),
+        Behind::Described(description) => put_description(line, form, description),
     }
+}
+
+/// Makes a line the end of a packet's line in a form, after the digits of its bytes, with what is behind them.
+pub(crate) fn write_packet_end(line: &mut Line, form: Form, behind: &Behind)
+    ensures text { text_in line.new ≡ quote_in form (behind_in form behind.now) }
+    ensures room { 375 ≤ room_in line.new }
+{
+    write_behind(line, form, behind);
     line.put_quote(form);
 }
 

@@ -1,19 +1,26 @@
 //! `capt list`, in text and in JSON: one line for each packet, as it is found.
 ghost use Rattle.std.specs.Prelude.{◌≡◌, ◌<◌, ◌≤◌, ◌^◌, ◌∷◌, [], None, IsTrue, length};
 ghost use Rattle.std.specs.Prelude.{IsOkUnless, is_err};
-ghost use Rattle.cap_commands.specs.ListText.{list_in, list_json, list_lines, list_refusal, list_text, packet_line};
+ghost use Rattle.cap_commands.specs.ClassText.{line_by, list_by};
+ghost use Rattle.cap_commands.specs.ListText.{facts_before, list_json, list_lines, list_refusal, list_text};
 ghost use Rattle.cap_commands.specs.inner.PacketParts.{packet_rest, packet_text};
 ghost use Rattle.cap_bytes.specs.Device.{Puts, WriterKeeps, writer_of};
 ghost use Rattle.cap_bytes.specs.Printing.{Prints, is_write};
+ghost use Rattle.cap_print.specs.Facts.{line_in};
 ghost use Rattle.cap_source.specs.Feed.{refusal_of};
 ghost use Rattle.cap_source.specs.ReadFaults.{FailsOf};
 ghost use Rattle.cap_source.specs.inner.Walk.{Walks};
 ghost use Rattle.cap_source.specs.inner.Growing.{IfMemory};
+ghost use Rattle.cap_talks.specs.table.Descriptions.{describe_of, description_fields};
 
-use crate::lines::{MOST_SHOWN, write_packet, write_packet_end, write_packet_head};
+use crate::lines::{
+    Behind, MOST_SHOWN, MOST_SHOWN_CLASSED, write_classed, write_packet, write_packet_end,
+    write_packet_head,
+};
 use cap_bytes::{Fault, Sink, Source, Tail, put_all};
 use cap_print::{Form, Line};
 use cap_source::{Capture, Meta, PacketFeed};
+use cap_talks::describe;
 use std::alloc::Global;
 use std::cmp::min;
 
@@ -22,85 +29,117 @@ fn put_rest<W: Sink>(
     writer: &mut W,
     line: &mut Line,
     form: Form,
-    is_inner: bool,
+    behind: &Behind,
     bytes: &[u8],
 ) -> Result<(), Fault>
     ensures bytes { IsTrue (W.tells_held writer.old)
-        → Puts (W.held writer.old) result (W.held writer.new) (packet_rest form is_inner bytes.now) }
+        → Puts (W.held writer.old) result (W.held writer.new) (packet_rest form behind.now bytes.now) }
     ensures writer { WriterKeeps (writer_of W.Sink writer.old) (is_err result) (writer_of W.Sink writer.new) }
     ensures fault { IsOkUnless result Fault.Write }
 {
     let mut rest = bytes;
     while rest.len() > MOST_SHOWN {
-        let (piece, behind) = rest.split_at(MOST_SHOWN);
+        let (piece, others) = rest.split_at(MOST_SHOWN);
         line.clear();
         line.prepend_hex(b"", piece);
         put_all(writer, line.as_slice())?;
-        rest = behind;
+        rest = others;
     }
-    write_packet_end(line, form, is_inner);
+    write_packet_end(line, form, behind);
     line.prepend_hex(b"", rest);
     put_all(writer, line.as_slice())
 }
 
-/// Writes the packet number n, from 1, in a form, with these of its captured bytes, which are more than a line holds.
-/// In JSON its object ends the one that it stands in, if it does. It returns `Write` if that fails, after a prefix.
+/// Writes the packet number n, from 1, in a form, in pieces, with these of its captured bytes, of which there are some,
+/// and that behind them. It returns `Write` if that fails, after a prefix.
 #[inline(never)]
 pub(crate) fn put_long_packet<W: Sink>(
     writer: &mut W,
     line: &mut Line,
     form: Form,
-    is_inner: bool,
+    behind: &Behind,
     n: u64,
     meta: &Meta,
     shown: &[u8],
 ) -> Result<(), Fault>
-    requires { 128 < length shown.now }
+    requires { 0 < length shown.now }
     ensures bytes { IsTrue (W.tells_held writer.old)
-        → Puts (W.held writer.old) result (W.held writer.new) (packet_text form is_inner n meta.now shown.now) }
+        → Puts (W.held writer.old) result (W.held writer.new) (packet_text form behind.now n meta.now shown.now) }
     ensures writer { WriterKeeps (writer_of W.Sink writer.old) (is_err result) (writer_of W.Sink writer.new) }
     ensures fault { IsOkUnless result Fault.Write }
 {
     write_packet_head(line, form, n, meta);
     put_all(writer, line.as_slice())?;
-    put_rest(writer, line, form, is_inner, shown)
+    put_rest(writer, line, form, behind, shown)
 }
 
-// Writes the packet number n, from 1, in a form, with at most `most` of its captured bytes.
+// Writes the packet number n, from 1, in a form, with these of its captured bytes, and what it is by itself.
+#[inline(never)]
+fn put_classed_packet<W: Sink>(
+    writer: &mut W,
+    line: &mut Line,
+    form: Form,
+    n: u64,
+    meta: &Meta,
+    bytes: &[u8],
+    shown: &[u8],
+) -> Result<(), Fault>
+    ensures bytes { IsTrue (W.tells_held writer.old)
+        → Puts (W.held writer.old) result (W.held writer.new)
+        (line_in form (facts_before (description_fields (describe_of meta.now bytes.now)) n meta.now shown.now)) }
+    ensures writer { WriterKeeps (writer_of W.Sink writer.old) (is_err result) (writer_of W.Sink writer.new) }
+    ensures fault { IsOkUnless result Fault.Write }
+{
+    let description = describe(meta, bytes);
+    if shown.len() > MOST_SHOWN_CLASSED {
+        let behind = Behind::Described(description);
+        return put_long_packet(writer, line, form, &behind, n, meta, shown);
+    }
+    write_classed(line, form, n, meta, shown, &description);
+    put_all(writer, line.as_slice())
+}
+
+// Writes the packet number n, from 1, in a form, with at most `most` of its captured bytes, and with what it is by
+// itself if that is asked for.
 #[inline(always)]
 fn put_packet<W: Sink>(
     writer: &mut W,
     line: &mut Line,
     form: Form,
     most: u32,
+    classed: bool,
     n: u64,
     meta: &Meta,
     bytes: &[u8],
 ) -> Result<(), Fault>
     ensures bytes { IsTrue (W.tells_held writer.old)
-        → Puts (W.held writer.old) result (W.held writer.new) (packet_line form most n meta.now bytes.now) }
+        → Puts (W.held writer.old) result (W.held writer.new) (line_by classed form most n meta.now bytes.now) }
     ensures writer { WriterKeeps (writer_of W.Sink writer.old) (is_err result) (writer_of W.Sink writer.new) }
     ensures fault { IsOkUnless result Fault.Write }
 {
     let (shown, _) = bytes.split_at(min(bytes.len(), most as usize));
+    if classed {
+        return put_classed_packet(writer, line, form, n, meta, bytes, shown);
+    }
     if shown.len() > MOST_SHOWN {
-        return put_long_packet(writer, line, form, false, n, meta, shown);
+        return put_long_packet(writer, line, form, &Behind::LineEnd, n, meta, shown);
     }
     write_packet(line, form, n, meta, shown);
     put_all(writer, line.as_slice())
 }
 
 // Prints the packets that a feed still gives in a form, the first of which has the number 1, with at most `most` bytes
-// of each.
+// of each, and what each is by itself, if that is asked for.
 fn list_packets<F: PacketFeed, W: Sink>(
     feed: &mut F,
     form: Form,
     most: u32,
+    classed: bool,
     writer: &mut W,
 ) -> Result<(), Fault>
     requires { (F.feed feed.old).left ≤ 2 ^ 40 }
     ensures text { IsTrue (F.feed feed.old).told → IsTrue (W.tells_held writer.old)
-        → Prints (list_lines (packet_line form most) 1 (F.feed feed.old).items) (refusal_of (F.feed feed.old).items)
+        → Prints (list_lines (line_by classed form most) 1 (F.feed feed.old).items) (refusal_of (F.feed feed.old).items)
         (W.held writer.old) result (W.held writer.new) }
     ensures writer { WriterKeeps (writer_of W.Sink writer.old) (is_write result) (writer_of W.Sink writer.new) }
     ensures walks { Walks (F.feed feed.old) result (F.feed feed.new) }
@@ -110,30 +149,41 @@ fn list_packets<F: PacketFeed, W: Sink>(
     let mut number = 1u64;
     while feed.peek()? {
         let packet = feed.packet();
-        put_packet(writer, &mut line, form, most, number, packet, feed.frame())?;
+        put_packet(
+            writer,
+            &mut line,
+            form,
+            most,
+            classed,
+            number,
+            packet,
+            feed.frame(),
+        )?;
         feed.pass();
         number += 1;
     }
     Ok(())
 }
 
-/// Does what `list_to` or `list_json_to` does, by the form, with at most `most` bytes of each packet.
+/// Does what `list_to` or `list_json_to` does, by the form, with at most `most` bytes of each packet; behind them it
+/// also prints what the packet is by itself, as `put_description` does, if `classed` says so.
 pub(crate) fn list_in<R: Source, W: Sink>(
     alloc: Global,
     source: R,
     tail: Tail,
     form: Form,
     most: u32,
+    classed: bool,
     writer: &mut W,
 ) -> Result<(), Fault>
     ensures text { IsTrue (R.tells_coming source) → IsTrue (W.tells_held writer.old)
-        → Prints (list_in form most tail (R.coming source)) (list_refusal tail (R.coming source))
+        → Prints (list_by classed form most tail (R.coming source)) (list_refusal tail (R.coming source))
         (W.held writer.old) result (W.held writer.new) }
     ensures writer { WriterKeeps (writer_of W.Sink writer.old) (is_write result) (writer_of W.Sink writer.new) }
     ensures read { FailsOf (R.can_fail source ∷ []) result }
 {
     let mut capture = Capture::new(alloc, source, 1, tail);
-    list_packets(&mut capture, form, most, writer)
+    list_packets(&mut capture, form, most, classed, writer)
 }
 
 /// Prints a line for each packet of a capture file of either format, each as it is found, up to the first refusal,
@@ -151,7 +201,7 @@ pub fn list_to<R: Source, W: Sink>(
     ensures writer { WriterKeeps (writer_of W.Sink writer.old) (is_write result) (writer_of W.Sink writer.new) }
     ensures read { FailsOf (R.can_fail source ∷ []) result }
 {
-    list_in(alloc, source, tail, Form::Text, 16, writer)
+    list_in(alloc, source, tail, Form::Text, 16, false, writer)
 }
 
 /// Prints a JSON object on a line of its own for each packet of a capture file of either format, each as it is found,
@@ -170,5 +220,5 @@ pub fn list_json_to<R: Source, W: Sink>(
     ensures writer { WriterKeeps (writer_of W.Sink writer.old) (is_write result) (writer_of W.Sink writer.new) }
     ensures read { FailsOf (R.can_fail source ∷ []) result }
 {
-    list_in(alloc, source, tail, Form::Json, shown, writer)
+    list_in(alloc, source, tail, Form::Json, shown, false, writer)
 }

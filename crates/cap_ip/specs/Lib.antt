@@ -1,6 +1,7 @@
 pub mod Fields
 pub mod Header
 pub mod Read
+pub mod Reasons
 pub mod Transport
 pub mod Checksum
 pub mod Written

@@ -14,13 +14,13 @@ use crate::fields::{
 use std::marker::Model;
 
 // The length of the shortest header, in bytes.
-const LEAST_HEADER: u16 = 20;
+pub(crate) const LEAST_HEADER: u16 = 20;
 // The version of an IPv4 packet.
-const VERSION: u8 = 4;
+pub(crate) const VERSION: u8 = 4;
 // A fragment's data begins at a multiple of that many bytes, and ends at one if more follow.
-const BLOCK: u32 = 8;
+pub(crate) const BLOCK: u32 = 8;
 // The most data of a datagram: 65,535 bytes less the shortest header.
-const LONGEST_DATA: u32 = 65_515;
+pub(crate) const LONGEST_DATA: u32 = 65_515;
 
 /// What names a datagram among those on the way: its fragments have the same (RFC 791, 3.2).
 #[derive(Clone, Copy, Debug, PartialEq, Eq, Hash)]
@@ -152,7 +152,7 @@ fn lacks_data(bytes: &[u8]) -> bool
 
 // A packet that was captured whole is shorter than it says.
 #[tactic(auto, unfolding(crate::specs::Read::is_overstated))]
-fn is_overstated(bytes: &[u8], captured_whole: bool) -> bool
+pub(crate) fn is_overstated(bytes: &[u8], captured_whole: bool) -> bool
     requires { 20 ≤ length bytes.now }
     ensures { result ≡ is_overstated bytes.now captured_whole }
 {

@@ -6,13 +6,13 @@ use crate::transports::Transport;
 use cap_bytes::{Order, u16_at};
 
 // The protocol's number of UDP.
-const UDP: u8 = 17;
+pub(crate) const UDP: u8 = 17;
 // The protocol's number of TCP.
 const TCP: u8 = 6;
 // The length of a UDP header, in bytes.
-const UDP_HEADER: u32 = 8;
+pub(crate) const UDP_HEADER: u32 = 8;
 // The length of the shortest TCP header, in bytes.
-const LEAST_TCP_HEADER: u32 = 20;
+pub(crate) const LEAST_TCP_HEADER: u32 = 20;
 
 #[tactic(auto, unfolding(crate::specs::Transport::ports_of))]
 fn ports(captured: &[u8]) -> Transport

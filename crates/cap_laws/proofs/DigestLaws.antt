@@ -1,5 +1,5 @@
 -- Lists of packets with the same canonical text, and files that are converted.
-use Rattle.std.proofs.Common.{◌≡◌, ℕ, List, [], ◌∷◌, ◌++◌, length, map, Option, None, refl, sym, ap}
+use Rattle.std.proofs.Common.{◌≡◌, ℕ, List, [], ◌∷◌, ◌++◌, length, map, Option, None, Some, refl, sym, ap}
 use Rattle.std.proofs.Common.{◌∙◌, Bool, subst, arith, length-append}
 use Rattle.std.proofs.lemmas.Option.{none-some}
 use Rattle.std.specs.List.{AllByRecursion, AllZip}
@@ -9,10 +9,10 @@ use Rattle.cap_bytes.specs.declared.faults.Tail.{Tail}
 use Rattle.cap_digest.proofs.Injective.{SameHead, head-bytes, head-some, text-alike}
 use Rattle.cap_digest.proofs.Times.{canonical-same, same-canonical}
 use Rattle.cap_digest.specs.Canonical.{canonical_form, canonical_text, canonical_head}
-use Rattle.cap_digest.specs.DigestText.{digest_facts, digest_line, digest_text}
+use Rattle.cap_digest.specs.DigestText.{digest_facts, digest_line, digest_text, whole_fields}
 use Rattle.cap_bytes.specs.declared.faults.Tail.TheVariants.{Refuse}
 use Rattle.cap_laws.proofs.NeverCut.{never-cut}
-use Rattle.std.specs.Prelude.{if◌then◌else◌, is_none, false}
+use Rattle.std.specs.Prelude.{false}
 use Rattle.cap_laws.proofs.FileNumbers.{file-numbered}
 use Rattle.cap_laws.proofs.Twins.{IsTwin, TwinItems, twins}
 use Rattle.cap_laws.specs.Diffs.{SameExactly}
@@ -176,7 +176,7 @@ numbered-alike n (refused r ∷ xs) none = never r xs none
 same-line : (form : Form) (number : ℕ) (was_cut : Bool) (xs ys : List Item) → AreAlike xs ys
     → digest_line form number xs was_cut ≡ digest_line form number ys was_cut
 same-line form number was_cut xs ys a =
-    λ i. line_in form (digest_facts number (sha256 (a.text i)) (a.count i) was_cut)
+    λ i. line_in form (digest_facts number (whole_fields (Some (sha256 (a.text i))) (a.count i) was_cut))
 
 -- the items of a file that isn't refused, under any number and under 1
 alike-of : (tail : Tail) (number : ℕ) (bytes : List ℕ) → refusal_of (file_items tail 1 bytes) ≡ None
@@ -205,13 +205,11 @@ same-files tail tail_again number bytes again h =
           ∙ same-line form number was_cut xs ys alike),
     )
 
--- of one that isn't refused and loses no end, that line is printed
-printed-line : (form : Form) (number : ℕ) (again : List ℕ) → refusal_of (file_items Refuse number again) ≡ None
+-- a file loses no end that is refused if it is cut
+printed-line : (form : Form) (number : ℕ) (again : List ℕ)
     → digest_text form Refuse number again ≡ digest_line form number (file_items Refuse number again) false
-printed-line form number again none =
-    ap (λ r. if is_none r then digest_line form number (file_items Refuse number again)
-    (file_ending Refuse number again).ending.was_cut else []) none
-    ∙ ap (digest_line form number (file_items Refuse number again)) (never-cut number again)
+printed-line form number again =
+    ap (digest_line form number (file_items Refuse number again)) (never-cut number again)
 
 -- both
 both-lines : (tail tail_again : Tail) (number : ℕ) (bytes again : List ℕ)
@@ -228,7 +226,7 @@ both-lines tail tail_again number bytes again h k =
     let whole = same-files tail Refuse number bytes again k in (
       one.0,
       one.1,
-      λ form. printed-line form number again whole.0 ∙ whole.1 form false,
+      λ form. printed-line form number again ∙ whole.1 form false,
     )
 
 pub converted-digest : PcapngAgain → PcapAgain → DigestOfConverted

@@ -1,5 +1,6 @@
 mod Alike
 mod CheckedPackets
+mod Described
 mod Diffs
 mod DigestLaws
 mod ExactTimes

@@ -1,5 +1,6 @@
 pub mod again
 pub mod CheckedPackets
+pub mod Described
 pub mod Diffs
 pub mod Digests
 pub mod ExactTimes

@@ -1,6 +1,7 @@
 //! Laws, each the contract of a function that does nothing.
 ghost use Rattle.std.specs.Prelude.{List};
 ghost use Rattle.cap_laws.specs.CheckedPackets.{CheckedByPlaces};
+ghost use Rattle.cap_laws.specs.Described.{DescribedAlone, DescribedTogether};
 ghost use Rattle.cap_laws.specs.Diffs.{SameAsConverted, SameButIgnored, SameExactly};
 ghost use Rattle.cap_laws.specs.ExactTimes.{TimesReadBack};
 ghost use Rattle.cap_laws.specs.FirstDifferences.{DifferencePlaced, DifferencesNamed, FirstDifference};
@@ -154,6 +155,14 @@ pub fn report_totals()
 pub fn report_sums()
     ensures sums { ReportSums }
     ensures alone { LoneClasses }
+{}
+
+/// What `list --class` says of a packet is the class that it has in a report over it alone, a fragment being unjoined
+/// there (`alone`). If none of some packets is a fragment, it is the class that each has in the report over all of them
+/// (`together`): so the packets that the report counts as bad are those that `list --class` calls bad.
+pub fn described_classes()
+    ensures alone { DescribedAlone }
+    ensures together { DescribedTogether }
 {}
 
 /// A line that is printed with `--json` of a capture is the text of an object of JSON (RFC 8259) whose members are the

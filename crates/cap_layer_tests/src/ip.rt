@@ -7,7 +7,8 @@ use crate::ip::vectors::{
     WHOLE_PACKET,
 };
 use cap_ip::{
-    Fragment, Header, HeaderOr, Key, Transport, checksum_law, header_checksum, transport,
+    Fragment, Header, HeaderOr, Key, Reason, Transport, checksum_law, header_checksum,
+    header_reason, transport, transport_reason,
 };
 use std::process::Abort;
 
@@ -68,6 +69,91 @@ fn ports(rt: HostRuntime) {
     same!(&rt; transport(17, &udp, 10), ports);
     same!(&rt; transport(6, &tcp, 20), ports);
     same!(&rt; transport(1, &[], 0), Transport::NoPorts);
+}
+
+// The beginning of a header, up to its fragment offset, of a packet of 28 bytes; how many of them there are; whether it
+// was captured whole; and why it is bad or cut.
+const HEADERS: [([u8; 8], usize, bool, Reason); 13] = [
+    ([0x45, 0, 0, 28, 0, 7, 0, 0], 19, true, Reason::HeaderShort),
+    ([0x45, 0, 0, 28, 0, 7, 0, 0], 19, false, Reason::HeaderShort),
+    ([0x55, 0, 0, 28, 0, 7, 0, 0], 28, true, Reason::Version),
+    (
+        [0x44, 0, 0, 28, 0, 7, 0, 0],
+        28,
+        false,
+        Reason::HeaderLength,
+    ),
+    ([0x45, 0, 0, 0, 0, 7, 0, 0], 28, true, Reason::LengthZero),
+    ([0x46, 0, 0, 23, 0, 7, 0, 0], 28, false, Reason::LengthShort),
+    ([0x48, 0, 0, 32, 0, 7, 0, 0], 28, false, Reason::HeaderShort),
+    ([0x45, 0, 0, 29, 0, 7, 0, 0], 28, true, Reason::BeyondFrame),
+    (
+        [0x45, 0, 0, 20, 0, 7, 0x20, 1],
+        28,
+        true,
+        Reason::FragmentEmpty,
+    ),
+    (
+        [0x45, 0, 0, 27, 0, 7, 0x20, 1],
+        28,
+        true,
+        Reason::FragmentBlock,
+    ),
+    (
+        [0x45, 0, 0, 24, 0, 7, 0x1f, 0xfd],
+        28,
+        true,
+        Reason::FragmentBeyond,
+    ),
+    (
+        [0x45, 0, 0, 36, 0, 7, 0x20, 1],
+        28,
+        true,
+        Reason::BeyondFrame,
+    ),
+    (
+        [0x45, 0, 0, 36, 0, 7, 0x20, 1],
+        28,
+        false,
+        Reason::FragmentCut,
+    ),
+];
+
+// Why a packet is bad or cut that begins so, by its first bytes.
+fn has_reason(rt: &impl Abort, front: &[u8; 8], captured: usize, whole: bool, why: Reason) {
+    let mut packet = LAST_FRAGMENT;
+    let (head, _) = packet.split_at_mut(8);
+    head.copy_from_slice(front);
+    let found = packet
+        .get(..captured)
+        .map(|bytes| header_reason(bytes, whole));
+    same!(rt; found, Some(why));
+}
+
+#[test]
+fn header_reasons(rt: HostRuntime) {
+    for (front, captured, whole, why) in &HEADERS {
+        has_reason(&rt, front, *captured, *whole, *why);
+    }
+    same!(&rt; Reason::FragmentBeyond.name(), "fragment-beyond");
+}
+
+// A protocol, how much was captured of a datagram's data, how long that is, and why the datagram is bad or cut.
+const TRANSPORTS: [(u8, usize, u32, Reason); 6] = [
+    (17, 7, 7, Reason::UdpShort),
+    (17, 7, 10, Reason::UdpShort),
+    (17, 8, 10, Reason::UdpLength),
+    (6, 19, 19, Reason::TcpShort),
+    (6, 19, 20, Reason::TcpShort),
+    (6, 20, 20, Reason::TcpOffset),
+];
+
+#[test]
+fn transport_reasons(rt: HostRuntime) {
+    for &(protocol, captured, length, why) in &TRANSPORTS {
+        let found = WHOLE_PACKET.get(..captured);
+        same!(&rt; found.map(|data| transport_reason(protocol, data, length)), Some(why));
+    }
 }
 
 #[test]

@@ -1,6 +1,6 @@
 -- How many files a job has at most.
-use Rattle.std.proofs.Common.{◌≡◌, ◌≤◌, vec_len, refl, arith}
-use Rattle.cap_line.specs.Jobs.{IsWholeJob, most_files}
+use Rattle.std.proofs.Common.{◌≤◌, vec_len, arith, IsFalse}
+use Rattle.cap_line.specs.Jobs.{IsWholeJob, is_surveying, most_files}
 use Rattle.cap_line.specs.declared.jobs.Job.{Job}
 use Rattle.cap_line.specs.declared.jobs.Task.{Task}
 use Rattle.cap_line.specs.declared.jobs.Task.TheVariants as tasks
@@ -22,19 +22,19 @@ most_files-any tasks.Join = omega arith
 pub IsWholeJob-any : (job : Job) → IsWholeJob job → vec_len job.files ≤ 4294967295
 IsWholeJob-any job whole = omega (arith, whole.most, most_files-any job.task)
 
--- a task other than `check` takes at most 32
-pub most_files-few : (task : Task) → (task ≡ tasks.Check → ⊥) → most_files task ≤ 32
+-- a task other than `digest` and `check` takes at most 32
+pub most_files-few : (task : Task) → IsFalse (is_surveying task) → most_files task ≤ 32
 most_files-few tasks.List other = omega arith
 most_files-few tasks.Blocks other = omega arith
 most_files-few tasks.Diff other = omega arith
-most_files-few tasks.Digest other = omega arith
-most_files-few tasks.Check other = absurd (other refl)
+most_files-few tasks.Digest other = absurd (cc)
+most_files-few tasks.Check other = absurd (cc)
 most_files-few tasks.Info other = omega arith
 most_files-few tasks.Report other = omega arith
 most_files-few tasks.Convert other = omega arith
 most_files-few tasks.Merge other = omega arith
 most_files-few tasks.Join other = omega arith
 
--- a job of a task other than `check` has at most 32 files
-pub IsWholeJob-few : (job : Job) → IsWholeJob job → (job.task ≡ tasks.Check → ⊥) → vec_len job.files ≤ 32
+-- a job of a task other than `digest` and `check` has at most 32 files
+pub IsWholeJob-few : (job : Job) → IsWholeJob job → IsFalse (is_surveying job.task) → vec_len job.files ≤ 32
 IsWholeJob-few job whole other = omega (arith, whole.most, most_files-few job.task other)

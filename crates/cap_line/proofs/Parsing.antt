@@ -1,6 +1,6 @@
 -- From clap's answer to capt's.
-use Rattle.std.proofs.Common.{◌≡◌, ◌⊎◌, List, [], Option, Some, None, Result, Ok, Err, IfOk, IfSome, IsSome, true}
-use Rattle.std.proofs.Common.{false, refl, sym, ap, ◌∙◌, subst, inl, inr, arith}
+use Rattle.std.proofs.Common.{◌≡◌, ◌⊎◌, List, [], Option, Some, None, Result, Ok, Err, IfOk, IfSome, IsOkAnd, IsSome}
+use Rattle.std.proofs.Common.{true, false, refl, sym, ap, ◌∙◌, subst, inl, inr, arith}
 use Rattle.clap.specs.Words.{AddsArg, App, Rule, Text, Row, IsAmong, app_of, fault_of, is_simple, is_simple_and_free}
 use Rattle.clap.specs.Words.{subcommand_of, with_rule, with_subcommand}
 use Rattle.clap.proofs.OnLiterals.{clap_on_literals}
@@ -13,7 +13,7 @@ use Rattle.clap.specs.declared.builder.arg.Arg.{Arg}
 use Rattle.clap.specs.declared.builder.command.Command.{Command}
 use Rattle.clap.specs.declared.builder.command.Command.TheViews.{out-Command}
 use Rattle.cap_line.specs.Command.{AddsMade, AddsRule, IsCapt, IsConvert, IsDiff, IsJoin, IsMerge, IsPrinting}
-use Rattle.cap_line.specs.Command.{printing_app}
+use Rattle.cap_line.specs.Command.{printing_app, surveying_app}
 use Rattle.cap_line.specs.CommandLine.{Parses, IsJobOf, IsNoJob, IsRefused, fault_by}
 use Rattle.cap_line.specs.Jobs.{IsWholeJob}
 use Rattle.cap_line.specs.declared.jobs.Job.{Job}
@@ -126,6 +126,24 @@ pub AddsRule-is : (made all : Result Command AllocError) (rule known : Rule) (be
 AddsRule-is made all rule known before is rule_is =
     AddsRule-weaker (λ app. app ≡ before) (λ app. app ≡ with_rule before known) made all rule is
     (λ app e. rw (e, rule_is) refl)
+
+-- a command with one more argument, behind what was added to one before
+pub AddsRule-behind : (made mid all : Result Command AllocError) (f : App → App) (rule known : Rule)
+    → IfOk mid (λ c. IsOkAnd made (λ b. app_of c ≡ f (app_of b))) → rule ≡ known
+    → IfOk all (λ c. AddsRule mid rule (app_of c))
+    → IfOk all (λ c. IsOkAnd made (λ b. app_of c ≡ with_rule (f (app_of b)) known))
+AddsRule-behind (Ok b) (Ok m) all f rule known is rule_is =
+    IfOk-weaker all _ _ (λ c added.
+    added ∙ (ap (λ app. with_rule app rule) is ∙ ap (λ r. with_rule (f (app_of b)) r) rule_is))
+AddsRule-behind (Err e) (Ok m) all f rule known is rule_is = absurd is
+AddsRule-behind made (Err e) all f rule known is rule_is = IfOk-weaker all _ _ (λ c added. absurd added)
+
+-- a command that takes any number of captures, of a known one
+pub surveys : (made all : Result Command AllocError) (before : App) → IfOk made (λ c. app_of c ≡ before)
+    → IfOk all (λ c. IsOkAnd made (λ b. app_of c ≡ surveying_app (app_of b)))
+    → IfOk all (λ c. app_of c ≡ surveying_app before)
+surveys (Ok b) all before is = IfOk-weaker all _ _ (λ c added. added ∙ ap surveying_app is)
+surveys (Err e) all before is = IfOk-weaker all _ _ (λ c added. absurd added)
 
 -- what a command with one more subcommand is
 pub AddsMade-weaker : (P S Q : App → Type 0) (made sub all : Result Command AllocError) → IfOk made (λ c. P (app_of c))

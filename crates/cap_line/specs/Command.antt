@@ -87,6 +87,13 @@ files_rule =
       range = Some (record { start_inclusive = 1; end_inclusive = usize_max });
     }
 
+-- the arguments FILE.., of which there may be none
+abbrev pub listed_rule : Rule
+listed_rule =
+    record (new_rule (codes "FILE")) {
+      range = Some (record { start_inclusive = 1; end_inclusive = usize_max });
+    }
+
 -- the subcommand of that name with `[--allow-cut]`, and with `[--explain]` too, which each has before its other
 -- arguments
 abbrev pub cutting_app : Text → App
@@ -95,17 +102,26 @@ cutting_app name = with_rule (new_app name) (flag_rule (codes "allow-cut"))
 abbrev pub reading_app : Text → App
 reading_app name = with_rule (cutting_app name) (flag_rule (codes "explain"))
 
--- the option `--data`, which takes a text
+-- the option of that name, which takes a text
+abbrev pub option_rule : Text → Rule
+option_rule name = record (new_rule name) { long = Some name; value_names = 1 }
+
+-- the option `--data`
 abbrev pub data_rule : Rule
-data_rule = record (new_rule (codes "data")) { long = Some (codes "data"); value_names = 1 }
+data_rule = option_rule (codes "data")
+
+-- the option `--files0-from`
+abbrev pub list_rule : Rule
+list_rule = option_rule (codes "files0-from")
 
 -- the subcommand of that name with `[--allow-cut] [--explain] [--json]`, before its other arguments: one that prints
 abbrev pub showing_app : Text → App
 showing_app name = with_rule (reading_app name) (flag_rule (codes "json"))
 
--- `list [--data N] FILE`
+-- `list [--class] [--data N] FILE`
 abbrev pub list_app : App
-list_app = with_rule (with_rule (showing_app (codes "list")) data_rule) file_rule
+list_app =
+    with_rule (with_rule (with_rule (showing_app (codes "list")) (flag_rule (codes "class"))) data_rule) file_rule
 
 -- `blocks FILE`
 abbrev pub blocks_app : App
@@ -121,13 +137,18 @@ pub record IsDiff (app : App) : Type 0 where
   pub kinds_are : AreNames kinds (codes "time" ∷ codes "link" ∷ codes "original" ∷ [])
   pub app_is : app ≡ diff_app kinds
 
--- `digest FILE..`
-abbrev pub digest_app : App
-digest_app = with_rule (showing_app (codes "digest")) files_rule
+-- a command that takes any number of captures, with `[--names] [--files0-from LIST] [FILE..]` behind its other
+-- arguments
+abbrev pub surveying_app : App → App
+surveying_app before = with_rule (with_rule (with_rule before (flag_rule (codes "names"))) list_rule) listed_rule
 
--- `check [--names] FILE..`
+-- `digest [--names] [--files0-from LIST] [FILE..]`
+abbrev pub digest_app : App
+digest_app = surveying_app (showing_app (codes "digest"))
+
+-- `check [--digest] [--names] [--files0-from LIST] [FILE..]`
 abbrev pub check_app : App
-check_app = with_rule (with_rule (showing_app (codes "check")) (flag_rule (codes "names"))) files_rule
+check_app = surveying_app (with_rule (showing_app (codes "check")) (flag_rule (codes "digest")))
 
 -- `info FILE..`
 abbrev pub info_app : App

@@ -6,8 +6,8 @@ use Rattle.clap.specs.declared.error.kind.ErrorKind.{ErrorKind}
 use Rattle.clap.specs.declared.error.kind.ErrorKind.TheVariants as kind
 use Rattle.cap_line.specs.Command.{IsCapt}
 use Rattle.cap_bytes.specs.declared.formats.Format.{Format}
-use Rattle.cap_line.specs.Jobs.{IsShownJob, IsWholeJob, can_replace, can_show, data_by, files_fault, format_by}
-use Rattle.cap_line.specs.Jobs.{ignored_by, is_whole_task, order_by, task_by}
+use Rattle.cap_line.specs.Jobs.{IsShownJob, IsWholeJob, can_replace, can_show, data_by, format_by}
+use Rattle.cap_line.specs.Jobs.{ignored_by, inputs_fault, is_whole_task, order_by, task_by}
 use Rattle.cap_line.specs.declared.jobs.Job.{Job}
 use Rattle.cap_line.specs.declared.jobs.Task.{Task}
 use Rattle.cap_line.specs.declared.faults.LineFault.{LineFault}
@@ -30,6 +30,9 @@ files_in rows = names_in (codes "FILE") rows ++ names_in (codes "A") rows ++ nam
 
 abbrev pub out_in : List Row → Option Text
 out_in rows = first_of (codes "out") rows
+
+abbrev pub list_in : List Row → Option Text
+list_in rows = first_of (codes "files0-from") rows
 
 abbrev pub to_in : List Row → Option Format
 to_in rows = format_by (first_of (codes "to") rows)
@@ -62,7 +65,8 @@ CannotShow name rows =
 -- The files or the output are refused by that fault.
 abbrev pub RefusesFiles : Text → List Row → LineFault → Type 0
 RefusesFiles name rows fault =
-    (task : Task) × (task_by name ≡ Some task) × (files_fault task (files_in rows) (out_in rows) ≡ Err fault)
+    (task : Task) × (task_by name ≡ Some task)
+    × (inputs_fault task (files_in rows) (list_in rows) (out_in rows) ≡ Err fault)
 
 -- The job is what the rows say.
 pub record HasRows (task : Task) (rows : List Row) (job : Job) : Type 0 where
@@ -75,7 +79,10 @@ pub record HasRows (task : Task) (rows : List Row) (job : Job) : Type 0 where
   pub explain : Flags job.explain (codes "explain") rows
   pub whole : Flags job.whole (codes "whole") rows
   pub json : Flags job.json (codes "json") rows
+  pub class : Flags job.class (codes "class") rows
+  pub digests : Flags job.digests (codes "digest") rows
   pub names : Flags job.names (codes "names") rows
+  pub list : option_map (λ l. l.now) job.list ≡ list_in rows
   pub count : data_in rows ≡ Ok job.data
   pub ignored : job.ignored ≡ ignored_by (names_in (codes "ignore") rows)
 
@@ -84,7 +91,8 @@ pub record HasRows (task : Task) (rows : List Row) (job : Job) : Type 0 where
 -- line.
 abbrev pub IsJobBy : Text → List Row → Result Job LineFault → Type 0
 IsJobBy name rows (Ok job) =
-    (task : Task) × (task_by name ≡ Some task) × (files_fault task (files_in rows) (out_in rows) ≡ Ok tt)
+    (task : Task) × (task_by name ≡ Some task)
+    × (inputs_fault task (files_in rows) (list_in rows) (out_in rows) ≡ Ok tt)
     × HasRows task rows job × IsWholeJob job × IsShownJob job
 IsJobBy name rows (Err Help) = ⊥
 IsJobBy name rows (Err Line) =

@@ -1,7 +1,7 @@
 -- What a job has, and what a command line's words name in one.
 use Rattle.std.specs.Prelude.{◌&&◌, ◌||◌, ◌==◌, ◌≤◌, ℕ, not, Bool, true, false, List, length, codes, count_by, Option}
 use Rattle.std.specs.Prelude.{Some, None, is_some, Result, Ok, Err, if◌then◌else◌, nat_le, nat_lt, option_map, vec_len}
-use Rattle.std.specs.Prelude.{IsTrue, IfSome}
+use Rattle.std.specs.Prelude.{IsTrue, IfSome, IsSome}
 use Rattle.std.specs.Char.{is_ascii_digit}
 use Rattle.std.specs.Str.{bytes_eq}
 use Rattle.std.specs.Str.Parse.{digits_value}
@@ -52,7 +52,7 @@ abbrev pub most_files : Task → ℕ
 most_files tasks.List = 32
 most_files tasks.Blocks = 32
 most_files tasks.Diff = 32
-most_files tasks.Digest = 32
+most_files tasks.Digest = 4294967295
 most_files tasks.Check = 4294967295
 most_files tasks.Info = 32
 most_files tasks.Report = 32
@@ -68,6 +68,23 @@ files_fault task files out =
     if nat_lt (most_files task) (length files) then Err Files else
     if nat_lt 1 (count_by (λ f. bytes_eq f (codes "-")) files) then Err Input else
     if is_also_file out files then Err Output else Ok tt
+
+-- whether a task takes any number of files, one after another, and a list of them in place of their names
+abbrev pub is_surveying : Task → Bool
+is_surveying tasks.Digest = true
+is_surveying tasks.Check = true
+is_surveying _ = false
+
+-- what these are refused by where a list may stand in place of the files: a list with files, or of a task that takes
+-- none
+abbrev pub inputs_fault : Task → List (List ℕ) → Option (List ℕ) → Option (List ℕ) → Result (Unit {0}) LineFault
+inputs_fault task files None out = files_fault task files out
+inputs_fault task files (Some list) out = if is_surveying task && (length files == 0) then Ok tt else Err Line
+
+-- how many files a job names at least, which may have a list in their place
+abbrev pub least_files : Option (List ℕ) → ℕ
+least_files None = 1
+least_files (Some list) = 0
 
 -- whether a task has what it takes, with that many files: one file if it is of one, two for `diff`, a format for
 -- `convert`, an output if it writes one
@@ -135,9 +152,11 @@ abbrev pub can_show : Task → Bool → Option ℕ → Bool
 can_show task json None = not json || is_printing task
 can_show task json (Some count) = json && is_listing task
 
--- A job has 1 file or more, at most as many as its task takes, and all else that its task takes.
+-- A job has 1 file or more, or a list of files if its task takes one, at most as many files as its task takes, and all
+-- else that its task takes.
 pub record IsWholeJob (job : Job) : Type 0 where
-  pub some : 1 ≤ vec_len job.files
+  pub some : least_files (option_map (λ l. l.now) job.list) ≤ vec_len job.files
+  pub listed : IsSome job.list → IsTrue (is_surveying job.task)
   pub most : vec_len job.files ≤ most_files job.task
   pub taken : IsTrue (is_whole_task job.task (vec_len job.files) job.to (option_map (λ o. o.now) job.out))
   pub replaced : IsTrue (can_replace job.whole (option_map (λ o. o.now) job.out))

@@ -6,8 +6,9 @@ ghost use Rattle.cap_line.specs.Command.{AddsMade, AddsRule, IsCapt, IsComparing
 ghost use Rattle.cap_line.specs.Command.{IsIgnoreRule, IsJoin, IsMerge, IsOrderRule, IsPrinting, IsRequiredToRule};
 ghost use Rattle.cap_line.specs.Command.{IsToRule, IsWriting, blocks_app, capt_alone, check_app, choice_rule};
 ghost use Rattle.cap_line.specs.Command.{cutting_app, data_rule, digest_app, file_rule, files_rule, flag_rule};
-ghost use Rattle.cap_line.specs.Command.{info_app, list_app, listing_app, out_rule, reading_app, report_app};
-ghost use Rattle.cap_line.specs.Command.{required_rule, showing_app};
+ghost use Rattle.cap_line.specs.Command.{info_app, list_app, list_rule, listed_rule, listing_app, option_rule};
+ghost use Rattle.cap_line.specs.Command.{out_rule, reading_app, report_app, required_rule, showing_app};
+ghost use Rattle.cap_line.specs.Command.{surveying_app};
 
 use crate::texts;
 use crate::usage::USAGE;
@@ -65,15 +66,47 @@ fn names<'a>(alloc: Global) -> Arg<'a>
     flag(alloc, "names", texts::NAMES_HELP)
 }
 
+// `--class`
+fn class<'a>(alloc: Global) -> Arg<'a>
+    ensures rule { rule_of result ≡ flag_rule (codes "class") }
+    ensures local { result.global ≡ false }
+{
+    flag(alloc, "class", texts::CLASS_HELP)
+}
+
+// `--digest`
+fn digests<'a>(alloc: Global) -> Arg<'a>
+    ensures rule { rule_of result ≡ flag_rule (codes "digest") }
+    ensures local { result.global ≡ false }
+{
+    flag(alloc, "digest", texts::DIGESTS_HELP)
+}
+
+// The option of that name, which takes a text
+fn option<'a>(alloc: Global, name: &'a str, value_name: &'a str, help: &'a str) -> Arg<'a>
+    ensures rule { rule_of result ≡ option_rule name.entry.now }
+    ensures local { result.global ≡ false }
+{
+    Arg::new(alloc, name)
+        .long(name)
+        .value_name(value_name)
+        .help(help)
+}
+
 // `--data`
 fn data<'a>(alloc: Global) -> Arg<'a>
     ensures rule { rule_of result ≡ data_rule }
     ensures local { result.global ≡ false }
 {
-    Arg::new(alloc, "data")
-        .long("data")
-        .value_name("N")
-        .help(texts::DATA_HELP)
+    option(alloc, "data", "N", texts::DATA_HELP)
+}
+
+// `--files0-from`
+fn list_of_files<'a>(alloc: Global) -> Arg<'a>
+    ensures rule { rule_of result ≡ list_rule }
+    ensures local { result.global ≡ false }
+{
+    option(alloc, "files0-from", "LIST", texts::LIST_OF_FILES_HELP)
 }
 
 // `--whole`
@@ -108,12 +141,14 @@ fn files<'a>(alloc: Global) -> Arg<'a>
     file(alloc).num_args(1..).help(texts::FILES_HELP)
 }
 
-// `FILE..` of `check`, which takes more of them
-fn checked_files<'a>(alloc: Global) -> Arg<'a>
-    ensures rule { rule_of result ≡ files_rule }
+// `FILE..` of a command that takes any number of them, or a list in their place
+fn listed_files<'a>(alloc: Global) -> Arg<'a>
+    ensures rule { rule_of result ≡ listed_rule }
     ensures local { result.global ≡ false }
 {
-    files(alloc).help(texts::CHECKED_FILES_HELP)
+    Arg::new(alloc, "FILE")
+        .num_args(1..)
+        .help(texts::LISTED_FILES_HELP)
 }
 
 // The option of that name, which takes one of those names
@@ -292,7 +327,8 @@ fn list<'a>(alloc: Global) -> Result<Command<'a>, AllocError>
     ensures local { IfOk result (λ c. (fields_of c).has_globals ≡ false) }
 {
     let before = showing(alloc, "list", texts::LIST_ABOUT, texts::LIST_HELP);
-    with_argument(with_argument(before, data(alloc)), file(alloc))
+    let classed = with_argument(before, class(alloc));
+    with_argument(with_argument(classed, data(alloc)), file(alloc))
 }
 
 // `blocks`
@@ -321,14 +357,31 @@ fn diff<'a>(alloc: Global) -> Result<Command<'a>, AllocError>
     )
 }
 
+// A command that takes any number of captures, with `[--names] [--files0-from LIST] [FILE..]` behind its other
+// arguments
+fn surveying<'a>(
+    alloc: Global,
+    before: Result<Command<'a>, AllocError>,
+) -> Result<Command<'a>, AllocError>
+    requires local { IfOk before (λ c. (fields_of c).has_globals ≡ false) }
+    ensures app { IfOk result (λ c. IsOkAnd before.entry (λ b. app_of c ≡ surveying_app (app_of b))) }
+    ensures local { IfOk result (λ c. (fields_of c).has_globals ≡ false) }
+{
+    let named = with_argument(before, names(alloc));
+    with_argument(
+        with_argument(named, list_of_files(alloc)),
+        listed_files(alloc),
+    )
+}
+
 // `digest`
 fn digest<'a>(alloc: Global) -> Result<Command<'a>, AllocError>
     ensures app { IfOk result (λ c. app_of c ≡ digest_app) }
     ensures local { IfOk result (λ c. (fields_of c).has_globals ≡ false) }
 {
-    with_argument(
+    surveying(
+        alloc,
         showing(alloc, "digest", texts::DIGEST_ABOUT, texts::DIGEST_HELP),
-        files(alloc),
     )
 }
 
@@ -338,7 +391,7 @@ fn check<'a>(alloc: Global) -> Result<Command<'a>, AllocError>
     ensures local { IfOk result (λ c. (fields_of c).has_globals ≡ false) }
 {
     let before = showing(alloc, "check", texts::CHECK_ABOUT, texts::CHECK_HELP);
-    with_argument(with_argument(before, names(alloc)), checked_files(alloc))
+    surveying(alloc, with_argument(before, digests(alloc)))
 }
 
 // `info`

@@ -11,7 +11,7 @@ pub enum LineFault {
     /// The words aren't a command line of capt, or aren't all UTF-8.
     #[error("no command line of capt")]
     Line,
-    /// More files are named than the task takes: more than 32, of `check` more than 4,294,967,295.
+    /// More files are named than the task takes: more than 32, of `digest` and `check` more than 4,294,967,295.
     #[error("fault: files")]
     Files,
     /// Standard input, `-`, is named twice.

@@ -4,16 +4,16 @@ ghost use Rattle.std.specs.Char.{is_ascii_digit};
 ghost use Rattle.std.specs.List.{list_all, list_any};
 ghost use Rattle.std.specs.Str.{bytes_eq};
 ghost use Rattle.cap_line.specs.Jobs.{can_replace, can_show, count_in, data_by, files_fault, format_by};
-ghost use Rattle.cap_line.specs.Jobs.{ignored_by, is_also_file, is_digits, is_whole_task, most_files, order_by};
-ghost use Rattle.cap_line.specs.Jobs.{task_by};
+ghost use Rattle.cap_line.specs.Jobs.{ignored_by, inputs_fault, is_also_file, is_digits, is_surveying};
+ghost use Rattle.cap_line.specs.Jobs.{is_whole_task, most_files, order_by, task_by};
 
 use crate::faults::LineFault;
 use cap_bytes::{Format, Order};
 
-// How many files a command reads at most, and how many `check` does, which reads one after the other.
+// How many files a command reads at most, and how many `digest` and `check` do, which read one after the other.
 const FILES_LIMIT: usize = 32;
 
-const CHECKED_LIMIT: usize = 4_294_967_295;
+const SURVEY_LIMIT: usize = 4_294_967_295;
 
 // How many bytes of a packet are shown at most.
 const DATA_LIMIT: u32 = 262_144;
@@ -67,8 +67,12 @@ pub const NOTHING_IGNORED: Ignored = Ignored {
 pub struct Job<'a> {
     /// What is to be done.
     pub task: Task,
-    /// The capture files, as they were named: from 1 to 32, of `Check` to 4,294,967,295. `-` is standard input.
+    /// The capture files, as they were named: from 1 to 32, of `Digest` and `Check` to 4,294,967,295; none if a list
+    /// names them. `-` is standard input.
     pub files: Vec<&'a str>,
+    /// The file that lists the captures in place of `files`, for `Digest` and `Check`: a NUL ends the name of each. `-`
+    /// is standard input.
+    pub list: Option<&'a str>,
     /// Whether a cut end of a file is dropped, and not refused.
     pub allow_cut: bool,
     /// The byte order of what is written.
@@ -87,7 +91,11 @@ pub struct Job<'a> {
     pub data: Option<u32>,
     /// In what packets that are compared may differ.
     pub ignored: Ignored,
-    /// Whether each line of `Check` names its file, also in text.
+    /// Whether each line of `List` says of which class its packet is, and why.
+    pub class: bool,
+    /// Whether each line of `Check` has the digest of its file's packets.
+    pub digests: bool,
+    /// Whether each line of `Digest` and `Check` names its file, also in text.
     pub names: bool,
 }
 
@@ -209,8 +217,8 @@ pub fn can_show(task: Task, json: bool, count: Option<u32>) -> bool
     }
 }
 
-// How many of the files are standard input.
-fn standard_inputs(files: &[&str]) -> usize
+/// How many of some files are standard input, `-`.
+pub fn standard_inputs(files: &[&str]) -> usize
     ensures { result ≡ count_by (λ f. bytes_eq f (codes "-")) (map (λ f. f.now) files.now) }
 {
     files.iter().filter(|file| **file == "-").count()
@@ -250,20 +258,20 @@ fn is_input(out: Option<&str>, files: &[&str]) -> bool
     }
 }
 
-// How many files a task takes at most: 32, of `check` 4,294,967,295.
-fn files_limit(task: Task) -> usize
+/// How many files a task takes at most: 32, of `digest` and `check` 4,294,967,295.
+pub fn files_limit(task: Task) -> usize
     ensures { result ≡ most_files task }
 {
     match task {
-        Task::Check => CHECKED_LIMIT,
-        Task::List | Task::Blocks | Task::Diff | Task::Digest | Task::Info => FILES_LIMIT,
-        Task::Report | Task::Convert | Task::Merge | Task::Join => FILES_LIMIT,
+        Task::Digest | Task::Check => SURVEY_LIMIT,
+        Task::List | Task::Blocks | Task::Diff | Task::Info | Task::Report => FILES_LIMIT,
+        Task::Convert | Task::Merge | Task::Join => FILES_LIMIT,
     }
 }
 
 /// Tests the files and the output that a task is given. Returns the first of these faults: `Line` if there is no file,
-/// `Files` if there are more than the task takes, 32 or of `check` 4,294,967,295, `Input` if standard input, `-`, is
-/// named twice, `Output` if the output, other than `-`, is one of the files. Texts are compared.
+/// `Files` if there are more than the task takes, 32 or of `digest` and `check` 4,294,967,295, `Input` if standard
+/// input, `-`, is named twice, `Output` if the output, other than `-`, is one of the files. Texts are compared.
 pub fn check_files(task: Task, files: &[&str], out: Option<&str>) -> Result<(), LineFault>
     ensures { result ≡ files_fault task (map (λ f. f.now) files.now) (option_map (λ o. o.now) out.entry) }
 {
@@ -280,4 +288,37 @@ pub fn check_files(task: Task, files: &[&str], out: Option<&str>) -> Result<(), 
         return Err(LineFault::Output);
     }
     Ok(())
+}
+
+/// Whether a task takes any number of files, one after another, and a list of them in place of their names: `Digest`
+/// and `Check` do.
+pub fn is_surveying(task: Task) -> bool
+    ensures { result ≡ is_surveying task }
+{
+    match task {
+        Task::Digest | Task::Check => true,
+        Task::List | Task::Blocks | Task::Diff | Task::Info | Task::Report => false,
+        Task::Convert | Task::Merge | Task::Join => false,
+    }
+}
+
+/// Tests the files, the list of files and the output that a task is given: without a list as `check_files` does. With a
+/// list `Line` comes if there is a file too, or if the task isn't `Digest` or `Check`.
+pub fn check_inputs(
+    task: Task,
+    files: &[&str],
+    list: Option<&str>,
+    out: Option<&str>,
+) -> Result<(), LineFault>
+    ensures { result ≡ inputs_fault task (map (λ f. f.now) files.now) (option_map (λ l. l.now) list.entry)
+        (option_map (λ o. o.now) out.entry) }
+{
+    if list.is_none() {
+        return check_files(task, files, out);
+    }
+    if is_surveying(task) && files.is_empty() {
+        Ok(())
+    } else {
+        Err(LineFault::Line)
+    }
 }

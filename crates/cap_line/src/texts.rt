@@ -47,8 +47,15 @@ O is where its record or block begins, C and G are its captured and original
 length, L its link type, X at most 16 of its bytes in hex. If the capture is
 refused, the lines before are printed. A time T is SEC+NUM/DEN:
 2+500000/1000000 is 2.5 seconds after 1970 began; - is no time.
+With --class, one of these follows X, as report counts the packet by itself:
+  class counted PROTO A B  it counts in the conversation that report prints so
+  class fragment identification I fragment-offset O
+  class bad reason R       R names what is wrong with its headers
+  class cut reason R       R names what wasn't captured
+  class other-link, class not-ipv4, class short
 
 Examples: capt list --allow-cut trace.pcap
+          set -o pipefail; capt list --class trace.pcap | grep 'class bad'
           set -o pipefail; zcat trace.pcap.gz | capt list -";
 
 pub(crate) const BLOCKS_ABOUT: &str = "Prints a line for each block of a pcapng file";
@@ -64,7 +71,7 @@ Example: capt blocks trace.pcapng";
 pub(crate) const DIFF_ABOUT: &str = "Compares the packets of two captures";
 
 pub(crate) const DIFF_HELP: &str = "Prints, if both have the same packets in the same order:
-  same packets N
+  same packets N [cut A] [cut B]
 or, of the first packet that isn't the same in both:
   differ packet N WHAT
   - LINE
@@ -77,6 +84,7 @@ bytes of its row: bytes 48 to 63 if P is 60. Times are compared exactly.
 Formats, byte orders, time units, interfaces and offsets may differ. If a
 capture is refused before that, nothing is printed. The status is 3 if the
 packets differ. --ignore KIND, which may be repeated, lets packets differ in it.
+If --allow-cut dropped the end of a capture, cut A, cut B or end cut says so.
 
 Examples: capt diff trace.pcap trace.pcapng
           capt diff --ignore time --ignore link sent.pcap received.pcap
@@ -86,14 +94,19 @@ pub(crate) const DIGEST_ABOUT: &str = "Prints the SHA-256 of the packets of each
 
 pub(crate) const DIGEST_HELP: &str = "Prints, for each capture, as soon as it is read:
   digest I sha256 HEX packets P [cut]
+or, if it can't be read to its end, how it ends, as check prints it:
+  digest I refused offset O rule R NAME
+  digest I read offset O
+  digest I open
 HEX is the SHA-256 of the packets in a canonical form: the link type, the
 captured and the original length, the exact time and the bytes of each. So
 captures with the same packets in the same order have the same digest, in
 whatever format, byte order and time units. The word cut follows if --allow-cut
-dropped a cut end. If a capture is refused, the lines of those before are
-printed.
+dropped a cut end. With --names, name and the file's name end the line. The
+status is 1 if any capture has no digest.
 
 Examples: capt digest trace.pcap trace.pcapng
+          set -o pipefail; find . -type f -print0 | capt digest --files0-from -
           set -o pipefail; zcat trace.pcap.gz | capt digest -";
 
 pub(crate) const CHECK_ABOUT: &str = "Tests each capture to its end";
@@ -101,10 +114,11 @@ pub(crate) const CHECK_ABOUT: &str = "Tests each capture to its end";
 pub(crate) const CHECK_HELP: &str = "Prints, for each capture, as soon as it is read:
   check I FORMAT packets P bytes B first T last T backward K untimed U
     truncated Q skipped S interfaces N END
-With --names, name and the file's name follow END. FORMAT, B and the times T are
-as info prints them. Of the P packets K have a time below the greatest before
-them, U have no time, and Q were captured in part. S blocks are skipped; the
-capture has N interfaces. END is one of:
+With --digest, sha256 and the digest that capt digest prints stand before END,
+or - unless it is whole. With --names, name and the file's name follow END.
+FORMAT, B and the times T are as info prints them. Of the P packets K have a
+time below the greatest before them, U have no time, and Q were captured in
+part. S blocks are skipped; the capture has N interfaces. END is one of:
   whole                         it is read to its end
   whole cut                     likewise; --allow-cut dropped a cut rest
   refused offset O rule R NAME  the record or block at O breaks rule R
@@ -116,6 +130,7 @@ any capture isn't whole. A capture that was cut exactly between two records or
 blocks is whole: nothing in it says that more came.
 
 Examples: capt check morning.pcap evening.pcapng
+          set -o pipefail; find . -type f -print0 | capt check --files0-from -
           set -o pipefail; zcat trace.pcap.gz | capt check -";
 
 pub(crate) const CONVERT_ABOUT: &str = "Writes the packets of a capture in either format";
@@ -175,7 +190,14 @@ pub(crate) const EXPLAIN_HELP: &str = "Name the file of a fault, and why, as at 
 
 pub(crate) const JSON_HELP: &str = "Print JSON Lines: the same facts, an object a line";
 
-pub(crate) const NAMES_HELP: &str = "Name each file at the end of its line, as JSON Lines do";
+pub(crate) const NAMES_HELP: &str = "Name each file at the end of its line";
+
+pub(crate) const CLASS_HELP: &str = "Say of which class each packet is, and why";
+
+pub(crate) const DIGESTS_HELP: &str = "Print the SHA-256 of each capture's packets too";
+
+pub(crate) const LIST_OF_FILES_HELP: &str = "Read the names of captures, each ended by a NUL,
+from the file LIST, or - for standard input";
 
 pub(crate) const DATA_HELP: &str = "With --json, show at most N bytes of a packet, from
 0 to 262144, default 16";
@@ -205,5 +227,5 @@ pub(crate) const B_HELP: &str = "The capture that it is compared with, or -";
 
 pub(crate) const FILES_HELP: &str = "1 to 32 captures, of which one may be - for standard input";
 
-pub(crate) const CHECKED_FILES_HELP: &str =
+pub(crate) const LISTED_FILES_HELP: &str =
     "1 capture or more, of which one may be - for standard input";

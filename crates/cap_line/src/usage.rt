@@ -6,11 +6,11 @@ compares and checks them, and converts, merges and joins them.
 
 Usage: capt report [--allow-cut] [--json] FILE...
        capt info [--allow-cut] [--json] FILE...
-       capt list [--allow-cut] [--json [--data N]] FILE
+       capt list [--allow-cut] [--class] [--json [--data N]] FILE
        capt blocks [--allow-cut] [--json] FILE
        capt diff [--allow-cut] [--ignore KIND]... [--json [--data N]] A B
-       capt digest [--allow-cut] [--json] FILE...
-       capt check [--allow-cut] [--json] [--names] FILE...
+       capt digest [--allow-cut] [--json] [--names] FILE...
+       capt check [--allow-cut] [--digest] [--json] [--names] FILE...
        capt convert [--allow-cut] [--order ORDER] --to FORMAT -o OUT FILE
        capt merge [--allow-cut] [--order ORDER] [--to FORMAT] -o OUT FILE...
        capt join [--allow-cut] [--order ORDER] [--to FORMAT] -o OUT FILE...
@@ -43,7 +43,12 @@ Options:
       --ignore KIND
                  Of diff: let packets differ in KIND, which is time, link or
                  original
-      --names    Of check: name each file at the end of its line
+      --class    Of list: say of which class each packet is, and why
+      --digest   Of check: print the SHA-256 of the packets too
+      --names    Of digest and check: name each file at the end of its line
+      --files0-from LIST
+                 Of digest and check: read the names of captures, each ended
+                 by a NUL, from the file LIST, or - for standard input
       --whole    Of convert, merge and join: leave OUT as it was until all is
                  done
 
@@ -79,6 +84,21 @@ For more information, try '--help'.
 
 // What is printed for `--whole` with standard output.
 pub(crate) const WHOLE_DASH: &str = "error: the argument '--whole' cannot be used with '--output -'
+
+For more information, try '--help'.
+";
+
+// What is printed for `digest` and `check` without a capture, and with captures beside a list of them.
+pub(crate) const NO_FILES: &str = "error: the following required arguments were not provided:
+  <FILE>...
+
+  tip: '--files0-from <LIST>' names captures too
+
+For more information, try '--help'.
+";
+
+pub(crate) const FILES_BESIDE_LIST: &str =
+    "error: the argument '--files0-from <LIST>' cannot be used with '[FILE]...'
 
 For more information, try '--help'.
 ";

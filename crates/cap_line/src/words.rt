@@ -11,11 +11,13 @@ ghost use Rattle.cap_line.specs.Shown.{IsSeenOrLine};
 use crate::command::capt;
 use crate::faults::LineFault;
 use crate::jobs::{
-    Ignored, Job, NOTHING_IGNORED, can_replace, can_show, check_files, data_of, format_of,
+    Ignored, Job, NOTHING_IGNORED, can_replace, can_show, check_inputs, data_of, format_of,
     ignored_of, is_whole, order_of, task_of,
 };
 use crate::shown::{escape, escape_lines};
-use crate::usage::{DATA_ALONE, DATA_NUMBER, TALKS_TIP, WHOLE_DASH, WRITE_TIP};
+use crate::usage::{
+    DATA_ALONE, DATA_NUMBER, FILES_BESIDE_LIST, NO_FILES, TALKS_TIP, WHOLE_DASH, WRITE_TIP,
+};
 use clap::error::ErrorKind;
 use clap::{ArgMatches, Error};
 use std::alloc::{AllocError, Global};
@@ -93,34 +95,36 @@ fn said_by<S: AsStr>(alloc: Global, error: Error, words: &[S]) -> Option<String>
     escape_lines(alloc, text.as_str()).ok()
 }
 
-// What is wrong with a line that clap takes and that gives no job, by the text of `--data`: it is no number; or it is
-// one, without `--json`; or there is none, and standard output can't take its name once all is done.
-fn line_text(data: Option<&str>) -> &'static str {
-    match data {
-        Some(text) => {
-            if data_of(Some(text)).is_ok() {
-                DATA_ALONE
-            } else {
-                DATA_NUMBER
-            }
-        }
-        None => WHOLE_DASH,
+// What is wrong with a line that clap takes and that gives no job, by the matches of its subcommand: the text of
+// `--data` is no number, or is one without `--json`; standard output can't take its name once all is done; there are
+// files beside a list of them; or there is neither.
+fn line_text(matches: &ArgMatches<'_>) -> &'static str {
+    if let Some(text) = text_of(matches, "data") {
+        return if data_of(Some(text)).is_ok() {
+            DATA_ALONE
+        } else {
+            DATA_NUMBER
+        };
+    }
+    if is_set(text_of(matches, "whole")) {
+        return WHOLE_DASH;
+    }
+    match text_of(matches, "files0-from") {
+        Some(_) => FILES_BESIDE_LIST,
+        None => NO_FILES,
     }
 }
 
-// The text of `--data` at the subcommand that was entered.
-fn data_text<'a>(matches: &ArgMatches<'a>) -> Option<&'a str> {
-    let (_, inner) = matches.subcommand()?;
-    text_of(inner, "data")
-}
-
 // What is said of words that clap takes and that give no job.
-fn said_of_line(alloc: Global, fault: LineFault, data: Option<&str>) -> Option<String>
+fn said_of_line(alloc: Global, fault: LineFault, matches: &ArgMatches<'_>) -> Option<String>
     ensures line { IsSome result → fault ≡ LineFault.Line }
     ensures seen { IfSome result (λ text. All IsSeenOrLine (chars (string_bytes text))) }
 {
     match fault {
-        LineFault::Line => escape_lines(alloc, line_text(data)).ok(),
+        LineFault::Line => {
+            let (_, inner) = matches.subcommand()?;
+            escape_lines(alloc, line_text(inner)).ok()
+        }
         _ => None,
     }
 }
@@ -197,10 +201,12 @@ fn job_of<'a>(alloc: Global, name: &str, matches: &ArgMatches<'a>) -> Result<Job
     if !can_show(task, json, data) {
         return Err(LineFault::Line);
     }
-    check_files(task, files.as_slice(), out)?;
+    let list = text_of(matches, "files0-from");
+    check_inputs(task, files.as_slice(), list, out)?;
     Ok(Job {
         task,
         files,
+        list,
         allow_cut: is_set(text_of(matches, "allow-cut")),
         order: order_of(text_of(matches, "order")),
         to,
@@ -210,6 +216,8 @@ fn job_of<'a>(alloc: Global, name: &str, matches: &ArgMatches<'a>) -> Result<Job
         json,
         data,
         ignored: ignored_in(matches),
+        class: is_set(text_of(matches, "class")),
+        digests: is_set(text_of(matches, "digest")),
         names: is_set(text_of(matches, "names")),
     })
 }
@@ -226,8 +234,8 @@ fn job_entered<'a>(alloc: Global, matches: &ArgMatches<'a>) -> Result<Job<'a>, L
 
 /// Reads the words of a command line, the first of which is the program's name. If several faults
 /// hold, it is the first of `Help` and `Line`, as clap meets them, `Files`, `Input`, `Output`;
-/// `Memory` comes if a growth is refused. A job has 1 file or more, at most as many as its task takes, and all else
-/// that its task takes; what it is to show its task can show.
+/// `Memory` comes if a growth is refused. A job has 1 file or more, or none and a list of them, at most as many files
+/// as its task takes, and all else that its task takes; what it is to show its task can show.
 pub fn parse<'a, S: AsStr>(alloc: Global, words: &'a [S]) -> Result<Job<'a>, LineFault>
     ensures parses { Parses (map S.text words.entry.now) result }
     ensures whole { IfOk result IsWholeJob }
@@ -257,7 +265,7 @@ pub fn message<'a, S: AsStr>(alloc: Global, words: &'a [S]) -> Option<String>
     match command.try_get_matches_from(words) {
         Ok(matches) => {
             let fault = job_entered(alloc, &matches).err()?;
-            said_of_line(alloc, fault, data_text(&matches))
+            said_of_line(alloc, fault, &matches)
         }
         Err(error) => said_by(alloc, error, words),
     }

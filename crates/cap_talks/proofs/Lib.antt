@@ -1,5 +1,6 @@
 pub mod Times
 pub mod Counting
+pub mod Describing
 pub mod FilePrinting
 pub mod FrameOrder
 pub mod FrameLaws

@@ -5,3 +5,4 @@ pub mod TalkLines
 pub mod Classes
 pub mod CountedUnits
 pub mod TakenText
+pub mod Descriptions

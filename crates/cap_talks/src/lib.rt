@@ -6,6 +6,7 @@ mod table;
 mod talks;
 
 pub use crate::table::{
-    CountedUnit, Endpoint, Held, Step, Table, TalkKey, TalkRow, TimedFrame, packet_class, talk_laws,
+    CountedUnit, Description, Endpoint, Held, Step, Table, TalkKey, TalkRow, TimedFrame, describe,
+    packet_class, put_description, talk_laws,
 };
 pub use crate::talks::{file_lines, file_lines_in, report, report_in};

@@ -4,6 +4,7 @@
 mod adding;
 mod classes;
 mod conversations;
+mod descriptions;
 mod keys;
 mod laws;
 mod report_lines;
@@ -15,6 +16,7 @@ mod totals;
 mod units;
 
 pub use crate::table::classes::packet_class;
+pub use crate::table::descriptions::{Description, describe, put_description};
 pub use crate::table::laws::talk_laws;
 pub use crate::table::rows::{TalkKey, TalkRow};
 pub use crate::table::tables::{Held, Step, Table};

@@ -10,8 +10,8 @@ use crate::hex_vectors::{
 use crate::report::TAGGED_REPORT;
 use cap_blocks::{PacketFields, put_interface, put_packet, put_section};
 use cap_bytes::{Fault, Order, Pieces, Sink, Source, Tail, Tracked};
-use cap_check::check_all_to;
-use cap_commands::{blocks_to, convert_to, diff_to, digests_to, join_to, list_to, merge_to};
+use cap_check::{CheckLine, check_all_to};
+use cap_commands::{blocks_to, convert_to, diff_to, join_to, list_to, merge_to};
 use cap_line::Task;
 use cap_pcap::{PcapHeader, RecordTime, put_header, put_record};
 use cap_print::Form;
@@ -91,8 +91,14 @@ fn call<R: Source, W: Sink>(
             let second = sources.remove(1);
             diff_to(alloc, sources.remove(0), second, tail, writer).map(|_| ())
         }
-        Task::Digest => digests_to(alloc, sources, tail, Form::Text, writer),
-        Task::Check => check_all_to(alloc, sources, tail, Form::Text, writer).map(|_| ()),
+        Task::Digest => {
+            let which = CheckLine::Digest;
+            check_all_to(alloc, sources, tail, which, Form::Text, writer).map(|_| ())
+        }
+        Task::Check => {
+            let which = CheckLine::Counts;
+            check_all_to(alloc, sources, tail, which, Form::Text, writer).map(|_| ())
+        }
         Task::Info => file_lines(alloc, sources, tail, writer),
         Task::Report => report(alloc, sources, tail, writer),
         Task::Convert => {

@@ -2,8 +2,8 @@
 use crate::checks::same;
 use cap_bytes::Order;
 use cap_line::{
-    Ignored, LineFault, Task, can_replace, can_show, check_files, data_of, format_of, ignored_of,
-    is_whole, order_of, task_of,
+    Ignored, LineFault, Task, can_replace, can_show, check_files, check_inputs, data_of,
+    files_limit, format_of, ignored_of, is_surveying, is_whole, order_of, standard_inputs, task_of,
 };
 use cap_source::Format;
 
@@ -178,7 +178,7 @@ fn json_is_of_what_prints(rt: HostRuntime) {
 }
 
 // A task, the files and the output that it is given, and what comes of them.
-static NAMED: [(Task, &[&str], Option<&str>, Result<(), LineFault>); 18] = [
+static NAMED: [(Task, &[&str], Option<&str>, Result<(), LineFault>); 19] = [
     (Task::List, &["a"], None, Ok(())),
     (Task::Merge, &["a", "a", "-"], Some("b"), Ok(())),
     (Task::Merge, &["a", "-"], Some("-"), Ok(())),
@@ -191,7 +191,8 @@ static NAMED: [(Task, &[&str], Option<&str>, Result<(), LineFault>); 18] = [
     (Task::Check, &[], None, Err(LineFault::Line)),
     (Task::Merge, &["-"; 33], Some("-"), Err(LineFault::Files)),
     (Task::Report, &["a"; 33], None, Err(LineFault::Files)),
-    (Task::Digest, &["a"; 33], None, Err(LineFault::Files)),
+    (Task::Info, &["a"; 33], None, Err(LineFault::Files)),
+    (Task::Digest, &["a"; 33], None, Ok(())),
     (Task::Check, &["-"; 33], None, Err(LineFault::Input)),
     (
         Task::Join,
@@ -214,4 +215,56 @@ fn files_that_are_named_are_tested_in_order(rt: HostRuntime) {
     for (task, files, out, answer) in &NAMED {
         same!(&rt; check_files(*task, *files, *out), *answer, *files);
     }
+}
+
+// A task, the files, the list of files and the output that it is given, and what comes of them.
+type ListedRow = (
+    Task,
+    &'static [&'static str],
+    Option<&'static str>,
+    Option<&'static str>,
+    Result<(), LineFault>,
+);
+
+static LISTED: [ListedRow; 8] = [
+    (Task::Check, &[], Some("list"), None, Ok(())),
+    (Task::Digest, &[], Some("-"), None, Ok(())),
+    (
+        Task::Check,
+        &["a"],
+        Some("list"),
+        None,
+        Err(LineFault::Line),
+    ),
+    (Task::Report, &[], Some("list"), None, Err(LineFault::Line)),
+    (Task::Check, &[], None, None, Err(LineFault::Line)),
+    (Task::Digest, &["a", "b"], None, None, Ok(())),
+    (Task::Check, &["-", "-"], None, None, Err(LineFault::Input)),
+    (
+        Task::Merge,
+        &["a", "b"],
+        None,
+        Some("b"),
+        Err(LineFault::Output),
+    ),
+];
+
+#[test]
+fn a_list_stands_in_place_of_files(rt: HostRuntime) {
+    for (task, files, list, out, answer) in &LISTED {
+        same!(&rt; check_inputs(*task, *files, *list, *out), *answer, *task);
+    }
+}
+
+#[test]
+fn digest_and_check_take_any_number_of_files(rt: HostRuntime) {
+    same!(&rt; files_limit(Task::Check), 4_294_967_295, "check");
+    same!(&rt; files_limit(Task::Digest), 4_294_967_295, "digest");
+    same!(&rt; files_limit(Task::Report), 32, "report");
+    for (name, task) in &TASKS {
+        if let Some(task) = task {
+            same!(&rt; is_surveying(*task), *name == "digest" || *name == "check", *name);
+        }
+    }
+    same!(&rt; standard_inputs(&["-", "a", "./-", "-"]), 2, "dashes");
 }

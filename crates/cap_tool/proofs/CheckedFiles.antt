@@ -9,6 +9,7 @@ use Rattle.cap_bytes.specs.declared.faults.Tail.{Tail}
 use Rattle.cap_check.proofs.Following.{ArePrinted, printed-all, printed-fault, printed-more, printed-none}
 use Rattle.cap_check.specs.CheckText.{WritesCheck, WritesChecks}
 use Rattle.cap_check.specs.Checking.{Opened}
+use Rattle.cap_check.specs.declared.checked.CheckLine.{CheckLine}
 use Rattle.cap_print.specs.declared.forms.Form.{Form}
 use Rattle.cap_tool.specs.CheckedNames.{AreGiven, ChecksName, ChecksNames, name_fields}
 use Rattle.cap_tool.specs.NameFields.{name_field}
@@ -30,32 +31,35 @@ AreGiven-more gives (n ∷ names) (i ∷ readers) name reader are within is one 
     (are.0, AreGiven-more gives names readers name reader are.1 (omega (arith, within)) is one)
 
 -- The first files of some names were opened or could not be, and were checked, and their lines are printed.
-pub record AreNamed {R : Type 0} (gives : List ℕ → Option R → Type 0) (known : R → Opened) (form : Form) (tail : Tail)
-    (is_shown : Bool) (names : List (List ℕ)) (place : ℕ) (whole : Bool) (old held : List ℕ) : Type 0 where
+pub record AreNamed {R : Type 0} (gives : List ℕ → Option R → Type 0) (known : R → Opened) (which : CheckLine)
+    (form : Form) (tail : Tail) (is_shown : Bool) (names : List (List ℕ)) (place : ℕ) (whole : Bool)
+    (old held : List ℕ) : Type 0 where
   pub readers : List (Option R)
   pub opened : AreGiven gives names readers
   pub count : length readers ≡ place
-  pub printed : ArePrinted form tail (name_fields form is_shown names) (map (option_map known) readers) whole old held
+  pub printed : ArePrinted which form tail (name_fields form is_shown names) (map (option_map known) readers) whole
+      old held
 
 -- none was
-pub named-none : {R : Type 0} (gives : List ℕ → Option R → Type 0) (known : R → Opened) (form : Form) (tail : Tail)
-    (is_shown : Bool) (names : List (List ℕ)) (held : List ℕ)
-    → AreNamed gives known form tail is_shown names 0 true held held
-named-none gives known form tail is_shown names held =
+pub named-none : {R : Type 0} (gives : List ℕ → Option R → Type 0) (known : R → Opened) (which : CheckLine)
+    (form : Form) (tail : Tail) (is_shown : Bool) (names : List (List ℕ)) (held : List ℕ)
+    → AreNamed gives known which form tail is_shown names 0 true held held
+named-none gives known which form tail is_shown names held =
     record {
       readers = [];
       opened = tt;
       count = refl;
-      printed = printed-none form tail (name_fields form is_shown names) held;
+      printed = printed-none which form tail (name_fields form is_shown names) held;
     }
 
 -- one file more is
-pub named-more : {R : Type 0} (gives : List ℕ → Option R → Type 0) (known : R → Opened) (form : Form) (tail : Tail)
-    (is_shown : Bool) (names : List (List ℕ)) (place : ℕ) (whole one : Bool) (old mid new : List ℕ)
-    → place < length names → AreNamed gives known form tail is_shown names place whole old mid
-    → ChecksName gives known form tail is_shown names place mid (Ok one) new
-    → AreNamed gives known form tail is_shown names (place + 1) (whole && one) old new
-named-more gives known form tail is_shown names place whole one old mid new within a next =
+pub named-more : {R : Type 0} (gives : List ℕ → Option R → Type 0) (known : R → Opened) (which : CheckLine)
+    (form : Form) (tail : Tail) (is_shown : Bool) (names : List (List ℕ)) (place : ℕ) (whole one : Bool)
+    (old mid new : List ℕ)
+    → place < length names → AreNamed gives known which form tail is_shown names place whole old mid
+    → ChecksName gives known which form tail is_shown names place mid (Ok one) new
+    → AreNamed gives known which form tail is_shown names (place + 1) (whole && one) old new
+named-more gives known which form tail is_shown names place whole one old mid new within a next =
     let files = map (option_map known) a.readers in
     let number : place + 1 ≡ 1 + length files =
     omega (arith, a.count, length-map a.readers (option_map known)) in
@@ -64,21 +68,22 @@ named-more gives known form tail is_shown names place whole one old mid new with
       opened = AreGiven-more gives names a.readers (get_or names place []) next.reader a.opened
           (omega (arith, within, a.count)) (ap (λ n. get_or names n []) (sym a.count)) next.opened;
       count = length-append a.readers (next.reader ∷ []) ∙ ap (λ n. n + 1) a.count;
-      printed = subst (λ l. ArePrinted form tail (name_fields form is_shown names) l (whole && one) old new)
+      printed = subst (λ l. ArePrinted which form tail (name_fields form is_shown names) l (whole && one) old new)
           (sym (map-append (option_map known) a.readers (next.reader ∷ [])))
-          (printed-more form tail (name_fields form is_shown names) files (option_map known next.reader) whole one old
-          mid new a.printed
-          (subst (λ n. WritesCheck form tail n (name_fields form is_shown names n) (option_map known next.reader) mid
-          (Ok one) new) number next.checks));
+          (printed-more which form tail (name_fields form is_shown names) files (option_map known next.reader) whole one
+          old mid new a.printed
+          (subst (λ n. WritesCheck which form tail n (name_fields form is_shown names n) (option_map known next.reader)
+          mid (Ok one) new) number next.checks));
     }
 
 -- a growth is refused or a write fails
-pub named-fault : {R : Type 0} (gives : List ℕ → Option R → Type 0) (known : R → Opened) (form : Form) (tail : Tail)
-    (is_shown : Bool) (names : List (List ℕ)) (place : ℕ) (whole : Bool) (fault : Fault) (old mid new : List ℕ)
-    → place < length names → AreNamed gives known form tail is_shown names place whole old mid
-    → ChecksName gives known form tail is_shown names place mid (Err fault) new
-    → ChecksNames gives known form tail is_shown names old (Err fault) new
-named-fault gives known form tail is_shown names place whole fault old mid new within a next =
+pub named-fault : {R : Type 0} (gives : List ℕ → Option R → Type 0) (known : R → Opened) (which : CheckLine)
+    (form : Form) (tail : Tail) (is_shown : Bool) (names : List (List ℕ)) (place : ℕ) (whole : Bool) (fault : Fault)
+    (old mid new : List ℕ)
+    → place < length names → AreNamed gives known which form tail is_shown names place whole old mid
+    → ChecksName gives known which form tail is_shown names place mid (Err fault) new
+    → ChecksNames gives known which form tail is_shown names old (Err fault) new
+named-fault gives known which form tail is_shown names place whole fault old mid new within a next =
     let files = map (option_map known) a.readers in
     let number : place + 1 ≡ 1 + length files =
     omega (arith, a.count, length-map a.readers (option_map known)) in
@@ -87,50 +92,50 @@ named-fault gives known form tail is_shown names place whole fault old mid new w
       opened = AreGiven-more gives names a.readers (get_or names place []) next.reader a.opened
           (omega (arith, within, a.count)) (ap (λ n. get_or names n []) (sym a.count)) next.opened;
       all = tt;
-      checks = subst (λ l. WritesChecks form tail (name_fields form is_shown names) l old (Err fault) new)
+      checks = subst (λ l. WritesChecks which form tail (name_fields form is_shown names) l old (Err fault) new)
           (sym (map-append (option_map known) a.readers (next.reader ∷ [])))
-          (printed-fault form tail (name_fields form is_shown names) files [] (option_map known next.reader) whole fault
-          old mid new a.printed
-          (subst (λ n. WritesCheck form tail n (name_fields form is_shown names n) (option_map known next.reader) mid
-          (Err fault) new) number next.checks));
+          (printed-fault which form tail (name_fields form is_shown names) files [] (option_map known next.reader) whole
+          fault old mid new a.printed
+          (subst (λ n. WritesCheck which form tail n (name_fields form is_shown names n) (option_map known next.reader)
+          mid (Err fault) new) number next.checks));
     }
 
 -- all are
-pub named-all : {R : Type 0} (gives : List ℕ → Option R → Type 0) (known : R → Opened) (form : Form) (tail : Tail)
-    (is_shown : Bool) (names : List (List ℕ)) (place : ℕ) (whole : Bool) (old new : List ℕ)
-    → place ≡ length names → AreNamed gives known form tail is_shown names place whole old new
-    → ChecksNames gives known form tail is_shown names old (Ok (whole_finding whole)) new
-named-all gives known form tail is_shown names place whole old new over a =
+pub named-all : {R : Type 0} (gives : List ℕ → Option R → Type 0) (known : R → Opened) (which : CheckLine)
+    (form : Form) (tail : Tail) (is_shown : Bool) (names : List (List ℕ)) (place : ℕ) (whole : Bool)
+    (old new : List ℕ)
+    → place ≡ length names → AreNamed gives known which form tail is_shown names place whole old new
+    → ChecksNames gives known which form tail is_shown names old (Ok (whole_finding whole)) new
+named-all gives known which form tail is_shown names place whole old new over a =
     record {
       readers = a.readers;
       opened = a.opened;
       all = a.count ∙ over;
-      checks = subst (λ r. WritesChecks form tail (name_fields form is_shown names) (map (option_map known) a.readers)
-          old r new)
-          (sym (whole-is whole)) (printed-all form tail (name_fields form is_shown names) _ whole old new a.printed);
+      checks = subst (λ r. WritesChecks which form tail (name_fields form is_shown names)
+          (map (option_map known) a.readers) old r new)
+          (sym (whole-is whole))
+          (printed-all which form tail (name_fields form is_shown names) _ whole old new a.printed);
     }
 
--- what is given for the name at a place of a job's files is what is given for that name among the texts
-pub given-at : {R : Type 0} (gives : List ℕ → Option R → Type 0) (names items : List (Bor (List ℕ))) (place : ℕ)
+-- what is given for the name at a place of some names is what is given for that name among the texts
+pub given-at : {R : Type 0} (gives : List ℕ → Option R → Type 0) (names : List (Bor (List ℕ))) (place : ℕ)
     (none : Bor (List ℕ)) (found reader : Option R)
-    → names ≡ items → place < length items → gives (get_or names place none).now found → reader ≡ found
-    → gives (get_or (map (λ n. n.now) items) place []) reader
-given-at gives names items place none found reader same within given is =
-    subst (λ r. gives (get_or (map (λ n. n.now) items) place []) r) (sym is)
-    (subst (λ name. gives name found) (sym (get_or-map (λ n. n.now) items place none [] within))
-    (subst (λ l. gives (get_or l place none).now found) same given))
+    → place < length names → gives (get_or names place none).now found → reader ≡ found
+    → gives (get_or (map (λ n. n.now) names) place []) reader
+given-at gives names place none found reader within given is =
+    subst (λ r. gives (get_or (map (λ n. n.now) names) place []) r) (sym is)
+    (subst (λ name. gives name found) (sym (get_or-map (λ n. n.now) names place none [] within)) given)
 
 -- and its last field is that of that name among the texts
-pub named-at : (form : Form) (is_shown : Bool) (names items : List (Bor (List ℕ))) (place : ℕ) (none : Bor (List ℕ))
-    → names ≡ items → place < length items
+pub named-at : (form : Form) (is_shown : Bool) (names : List (Bor (List ℕ))) (place : ℕ) (none : Bor (List ℕ))
+    → place < length names
     → name_field form is_shown (get_or names place none).now
-    ≡ name_fields form is_shown (map (λ n. n.now) items) (place + 1)
-named-at form is_shown names items place none same within =
+    ≡ name_fields form is_shown (map (λ n. n.now) names) (place + 1)
+named-at form is_shown names place none within =
     let before : place ≡ place + 1 - 1 = omega arith in
     ap (name_field form is_shown)
-    (ap (λ l. (get_or l place none).now) same
-    ∙ (sym (get_or-map (λ n. n.now) items place none [] within)
-    ∙ ap (λ n. get_or (map (λ n. n.now) items) n []) before))
+    (sym (get_or-map (λ n. n.now) names place none [] within)
+    ∙ ap (λ n. get_or (map (λ n. n.now) names) n []) before)
 
 -- one file more of some that were all opened
 pub next-given : {R : Type 0} (gives : List ℕ → Option R → Type 0) (names : List (Bor (List ℕ))) (old new : List R)

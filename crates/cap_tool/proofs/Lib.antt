@@ -1,4 +1,5 @@
 pub mod CheckedFiles
 pub mod Escaping
 pub mod Paths
+mod ListedNames
 mod Running

@@ -1,13 +1,14 @@
--- A run of a job, by whether it is `check`.
+-- A run of a job, by whether its files are opened one after another.
 use Rattle.std.proofs.Common.{◌≡◌, ◌∙◌, List, ℕ, Bool, Option, Result, Err, sym, subst}
 use Rattle.std.specs.Prelude.{◌⊎◌, []}
 use Rattle.cap_bytes.specs.declared.faults.Fault.TheVariants as faults
 use Rattle.cap_check.specs.Checking.{Opened}
+use Rattle.cap_line.specs.Jobs.{is_surveying}
 use Rattle.cap_line.specs.declared.jobs.Job.{Job}
 use Rattle.cap_commands.specs.declared.left.DroppedInfo.{DroppedInfo}
 use Rattle.cap_tool.specs.Outlets.{Outgoing}
 use Rattle.cap_tool.specs.Outcomes.{ends_by}
-use Rattle.cap_tool.specs.Runs.{Runs, RunsJob, RunsWhich, StopsFirst, ended_as, is_check}
+use Rattle.cap_tool.specs.Runs.{Runs, RunsJob, RunsWhich, StopsFirst, ended_as}
 use Rattle.cap_tool.specs.declared.outcomes.Outcome.TheVariants as outcomes
 use Rattle.cap_tool.specs.declared.outcomes.RunStop.{RunStop}
 use Rattle.cap_tool.specs.declared.regular.FileId.{FileId}
@@ -17,12 +18,11 @@ pub runs-which : {R W N : Type 0} (gives : List ℕ → Option R → Type 0) (kn
     (makes : List (Option FileId) → Result (W × N) RunStop → Type 0) (sent : W → Outgoing)
     (commits : N → Result DroppedInfo RunStop → Result DroppedInfo RunStop → Type 0) (lacks_input : Bool) (job : Job)
     (result : Result DroppedInfo RunStop) (answer which : Bool)
-    → answer ≡ is_check job.task → answer ≡ which
-    → StopsFirst gives makes lacks_input job result ⊎ RunsWhich which gives known makes sent commits job result
+    → answer ≡ is_surveying job.task → answer ≡ which
+    → RunsWhich which gives known makes sent commits lacks_input job result
     → Runs gives known makes sent commits lacks_input job result
 runs-which gives known makes sent commits lacks_input job result answer which is taken ran =
-    subst (λ b. StopsFirst gives makes lacks_input job result ⊎ RunsWhich b gives known makes sent commits job result)
-    (sym taken ∙ is) ran
+    subst (λ b. RunsWhich b gives known makes sent commits lacks_input job result) (sym taken ∙ is) ran
 
 -- A job was done, and why its run stopped is known better.
 pub RunsJob-as : (job : Job) (fails : List Bool) (files : List (List ℕ)) (old : List ℕ)

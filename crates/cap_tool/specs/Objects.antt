@@ -66,6 +66,7 @@ outcome_json outcomes.NotWhole paths = []
 outcome_json (outcomes.Line fault) paths = line_fault_text fault
 outcome_json (outcomes.Fault fault) paths = fault_json fault paths
 outcome_json (outcomes.Open file) paths = object_json (open_fields file) (path_of paths file)
+outcome_json outcomes.List paths = codes "{\"type\":\"fault\",\"fault\":\"list\"}\n"
 outcome_json outcomes.Create paths = codes "{\"type\":\"fault\",\"fault\":\"create\"}\n"
 
 -- what is printed of an outcome as an object, if that is said of words that give no job
@@ -76,9 +77,14 @@ told_json said outcomes.NotWhole paths = outcome_json outcomes.NotWhole paths
 told_json said (outcomes.Line fault) paths = told_line said fault
 told_json said (outcomes.Fault fault) paths = outcome_json (outcomes.Fault fault) paths
 told_json said (outcomes.Open file) paths = outcome_json (outcomes.Open file) paths
+told_json said outcomes.List paths = outcome_json outcomes.List paths
 told_json said outcomes.Create paths = outcome_json outcomes.Create paths
 
 -- what is printed of an outcome in a form
 abbrev pub told_in : Form → List ℕ → Outcome → List (List ℕ) → List ℕ
 told_in Text said outcome paths = told_text said outcome
 told_in Json said outcome paths = told_json said outcome paths
+
+-- what explains how a run ended, as an object
+abbrev pub hint_json : List ℕ → List ℕ
+hint_json text = codes "{\"type\":\"hint\",\"hint\":\"" ++ flat_map escaped_character (chars text) ++ codes "\"}\n"

@@ -1,15 +1,15 @@
 -- A run of the program: a job, over what a system opens and creates, and how it ends.
 use Rattle.std.specs.Prelude.{◌≡◌, ◌⊎◌, ℕ, List, [], length, map, Bool, true, false, Option, Some}
-use Rattle.std.specs.Prelude.{Result, Ok, Err, IfOk, IsTrue}
+use Rattle.std.specs.Prelude.{Result, Ok, Err, IfOk, IsTrue, None, option_map}
 use Rattle.std.specs.List.{list_all}
 use Rattle.cap_bytes.specs.declared.faults.Fault.{Fault}
 use Rattle.cap_bytes.specs.declared.faults.Fault.TheVariants as faults
 use Rattle.cap_check.specs.Checking.{Opened}
+use Rattle.cap_line.specs.Jobs.{is_surveying}
 use Rattle.cap_line.specs.declared.jobs.Job.{Job}
-use Rattle.cap_line.specs.declared.jobs.Task.{Task}
-use Rattle.cap_line.specs.declared.jobs.Task.TheVariants as tasks
 use Rattle.cap_tool.specs.CheckedNames.{AreGiven, ChecksNames}
-use Rattle.cap_commands.specs.Jobs.{Does, Finds, done_of, form_by, found_in, tail_of}
+use Rattle.cap_tool.specs.ListedNames.{ReadsList, StopsAtList, listed_fault, listed_names}
+use Rattle.cap_commands.specs.Jobs.{Does, Finds, done_of, form_by, found_in, line_by, tail_of}
 use Rattle.cap_tool.specs.Outcomes.{ends_by}
 use Rattle.cap_tool.specs.Outlets.{Outgoing}
 use Rattle.cap_tool.specs.Streams.{StopsAtDash, StopsOpening}
@@ -60,8 +60,8 @@ StopsFirst gives makes lacks_input job (Err stop) =
     ⊎ StopsOpening gives (names_of job) stop.outcome
     ⊎ ((ids : List (Option FileId)) × makes ids (Err stop))
 
--- A job other than `check` was done: its files were opened, each as its opener gives it, and its output was created;
--- if these tell their bytes, the job was done over them; and the output was committed by how that ended.
+-- A job other than `digest` and `check` was done: its files were opened, each as its opener gives it, and its output
+-- was created; if these tell their bytes, the job was done over them; and the output was committed by how that ended.
 pub record RunsFiles {R W N : Type 0} (gives : List ℕ → Option R → Type 0) (known : R → Opened)
     (makes : List (Option FileId) → Result (W × N) RunStop → Type 0) (sent : W → Outgoing)
     (commits : N → Result DroppedInfo RunStop → Result DroppedInfo RunStop → Type 0) (job : Job)
@@ -80,12 +80,13 @@ pub record RunsFiles {R W N : Type 0} (gives : List ℕ → Option R → Type 0)
       ended (sent written).held (sent written).waiting
   pub committed : commits name ended result
 
--- A `check` was done: its output was created; if that tells its bytes, the files were opened and checked, one after
--- another, and the run ended by what was found; and the output was committed by how that ended.
+-- A `digest` or a `check` of files of those names was done: its output was created; if that tells its bytes, the files
+-- were opened and checked, one after another, and the run ended by what was found; and the output was committed by how
+-- that ended.
 pub record RunsChecks {R W N : Type 0} (gives : List ℕ → Option R → Type 0) (known : R → Opened)
     (makes : List (Option FileId) → Result (W × N) RunStop → Type 0) (sent : W → Outgoing)
     (commits : N → Result DroppedInfo RunStop → Result DroppedInfo RunStop → Type 0) (job : Job)
-    (result : Result DroppedInfo RunStop) : Type 0 where
+    (names : List (List ℕ)) (result : Result DroppedInfo RunStop) : Type 0 where
   pub writer : W
   pub name : N
   pub written : W
@@ -93,28 +94,63 @@ pub record RunsChecks {R W N : Type 0} (gives : List ℕ → Option R → Type 0
   pub ended : Result DroppedInfo RunStop
   pub made : makes [] (Ok (writer, name))
   pub checks : IsTrue (sent writer).told
-      → ChecksNames gives known (form_by job.json) (tail_of job.allow_cut) job.names (names_of job)
-      (sent writer).held answer (sent written).held
+      → ChecksNames gives known (line_by job.task job.digests) (form_by job.json) (tail_of job.allow_cut) job.names
+      names (sent writer).held answer (sent written).held
   pub ends : IsTrue (sent writer).told → EndsBy answer (sent written).waiting ended
   pub committed : commits name ended result
 
--- whether a task is `check`
-abbrev pub is_check : Task → Bool
-is_check tasks.Check = true
-is_check _ = false
+-- the output of a run that reads no regular file that is known yet could not be created
+abbrev pub StopsMaking : {M : Type 0} → (List (Option FileId) → Result M RunStop → Type 0) → Result DroppedInfo RunStop
+    → Type 0
+StopsMaking makes result = (stop : RunStop) × (result ≡ Err stop) × makes [] (Err stop)
 
--- a job was done, by whether it is `check`
+-- A job was run, by whether its files are opened one after another: its output could not be created, or it was done; a
+-- job whose files are all opened before may also stop at one of them.
 abbrev pub RunsWhich : {R W N : Type 0} → Bool → (List ℕ → Option R → Type 0) → (R → Opened)
     → (List (Option FileId) → Result (W × N) RunStop → Type 0) → (W → Outgoing)
-    → (N → Result DroppedInfo RunStop → Result DroppedInfo RunStop → Type 0) → Job → Result DroppedInfo RunStop → Type 0
-RunsWhich true = RunsChecks
-RunsWhich false = RunsFiles
+    → (N → Result DroppedInfo RunStop → Result DroppedInfo RunStop → Type 0) → Bool → Job → Result DroppedInfo RunStop
+    → Type 0
+RunsWhich true gives known makes sent commits lacks_input job result =
+    StopsMaking makes result ⊎ RunsChecks gives known makes sent commits job (names_of job) result
+RunsWhich false gives known makes sent commits lacks_input job result =
+    StopsFirst gives makes lacks_input job result ⊎ RunsFiles gives known makes sent commits job result
 
--- A job was run: it stopped before it was begun, or it was done.
+-- a job was run over its files
 abbrev pub Runs : {R W N : Type 0} → (List ℕ → Option R → Type 0) → (R → Opened)
     → (List (Option FileId) → Result (W × N) RunStop → Type 0) → (W → Outgoing)
     → (N → Result DroppedInfo RunStop → Result DroppedInfo RunStop → Type 0) → Bool → Job → Result DroppedInfo RunStop
     → Type 0
 Runs gives known makes sent commits lacks_input job result =
-    StopsFirst gives makes lacks_input job result
-    ⊎ RunsWhich (is_check job.task) gives known makes sent commits job result
+    RunsWhich (is_surveying job.task) gives known makes sent commits lacks_input job result
+
+-- The list of that name was read, and the captures that it names were checked one after another, unless the output
+-- could not be created.
+pub record RunsListed {R W N : Type 0} (gives : List ℕ → Option R → Type 0) (known : R → Opened)
+    (makes : List (Option FileId) → Result (W × N) RunStop → Type 0) (sent : W → Outgoing)
+    (commits : N → Result DroppedInfo RunStop → Result DroppedInfo RunStop → Type 0) (job : Job) (list : List ℕ)
+    (result : Result DroppedInfo RunStop) : Type 0 where
+  pub bytes : List ℕ
+  pub reads : ReadsList gives known list bytes
+  pub taken : listed_fault job.task list (listed_names bytes) ≡ Ok tt
+  pub runs : StopsMaking makes result
+      ⊎ RunsChecks gives known makes sent commits job (listed_names bytes) result
+
+-- A job was run, whose list of captures is that, if it has one: it stopped at the list, or was run over the captures
+-- that the list names; without a list it was run over its files.
+abbrev pub RunsBy : {R W N : Type 0} → Option (List ℕ) → (List ℕ → Option R → Type 0) → (R → Opened)
+    → (List (Option FileId) → Result (W × N) RunStop → Type 0) → (W → Outgoing)
+    → (N → Result DroppedInfo RunStop → Result DroppedInfo RunStop → Type 0) → Bool → Job → Result DroppedInfo RunStop
+    → Type 0
+RunsBy None gives known makes sent commits lacks_input job result =
+    Runs gives known makes sent commits lacks_input job result
+RunsBy (Some list) gives known makes sent commits lacks_input job result =
+    ((stop : RunStop) × (result ≡ Err stop) × StopsAtList gives known job.task list stop)
+    ⊎ RunsListed gives known makes sent commits job list result
+
+-- a job was run, by its list of captures, if it has one
+abbrev pub RunsAll : {R W N : Type 0} → (List ℕ → Option R → Type 0) → (R → Opened)
+    → (List (Option FileId) → Result (W × N) RunStop → Type 0) → (W → Outgoing)
+    → (N → Result DroppedInfo RunStop → Result DroppedInfo RunStop → Type 0) → Bool → Job → Result DroppedInfo RunStop
+    → Type 0
+RunsAll gives known makes sent commits lacks_input job result =
+    RunsBy (option_map (λ l. l.now) job.list) gives known makes sent commits lacks_input job result

@@ -28,13 +28,15 @@ fn create_named<R: Files<File = File>>(
     Ok((output, None))
 }
 
-/// Creates the output of a job: beside the file of its name, if it takes that once all is done, and else as
-/// `create_output` does. Returns `Outcome::Create`, and no other outcome, with the reason, if it can't be created, if
-/// it is one of the inputs, also as standard output, and if it is a terminal that is named for a capture.
+/// Creates the output of a job that reads the files of those names: beside the file of its name, if it takes that once
+/// all is done, and else as `create_output` does. Returns `Outcome::Create`, and no other outcome, with the reason, if
+/// it can't be created, if it is one of the inputs, also as standard output, and if it is a terminal that is named for
+/// a capture.
 pub fn create_for<R: Files<File = File>>(
     files: &R,
     alloc: Global,
     job: &Job<'_>,
+    names: &[&str],
     standard: Stdout,
     inputs: &[Option<FileId>],
 ) -> Result<(Output, Option<AtomicOutput>), RunStop>
@@ -42,7 +44,7 @@ pub fn create_for<R: Files<File = File>>(
     ensures stops { IfErr result StopsCreating }
 {
     let Some(name) = job.out else {
-        check_output(files, job.files.as_slice())?;
+        check_output(files, names)?;
         return create_named(files, standard, None, inputs);
     };
     if job.whole {

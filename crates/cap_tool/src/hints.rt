@@ -1,9 +1,11 @@
 //! What is printed at a terminal beside the line of a fault: the file's name, and why.
-ghost use Rattle.std.specs.Prelude.{IfSome, IsSome, IsTrue, string_bytes};
+ghost use Rattle.std.specs.Prelude.{◌≡◌, IfSome, IsSome, IsTrue, string_bytes};
 ghost use Rattle.cap_tool.specs.Hints.{IsHintLine, is_of_file, is_of_files, is_of_names};
+ghost use Rattle.cap_tool.specs.Objects.{hint_json};
 
 use crate::causes::Cause;
 use crate::kinds::{Kind, kind_at};
+use crate::named::add_escaped;
 use crate::outcomes::{Outcome, RunStop};
 use crate::regular::{path_of, regular_at};
 use cap_bytes::{Fault, Refusal, Rule};
@@ -98,6 +100,20 @@ fn line(alloc: Global, name: &str, why: &impl Display) -> Option<String>
     told(alloc, text.as_str())
 }
 
+/// The same line as a JSON object: `{"type":"hint","hint":"cut.pcap: it is cut off"}`. Returns `None` if memory runs
+/// out.
+pub fn hint_object(alloc: Global, text: &str) -> Option<Vec<u8>>
+    ensures { IfSome result (λ object. object.items ≡ hint_json text.now) }
+{
+    let mut object = Vec::new(alloc);
+    object
+        .extend_from_slice(b"{\"type\":\"hint\",\"hint\":\"")
+        .ok()?;
+    add_escaped(&mut object, text).ok()?;
+    object.extend_from_slice(b"\"}\n").ok()?;
+    Some(object)
+}
+
 // What is wrong with a file that breaks a rule.
 fn rule_line<R: Files<File = File>>(
     files: &R,
@@ -116,9 +132,9 @@ fn rule_line<R: Files<File = File>>(
     }
 }
 
-// `  new: No such file or directory (os error 2)`: why the file or the stream of that name can't be opened, created or
-// written, if it is known.
-fn cause_line(alloc: Global, name: &str, cause: &Cause) -> Option<String>
+/// `  new: No such file or directory (os error 2)`: why the file or the stream of that name can't be opened, created or
+/// written, if it is known.
+pub(crate) fn cause_line(alloc: Global, name: &str, cause: &Cause) -> Option<String>
     ensures { IfSome result (λ line. IsHintLine (string_bytes line)) }
 {
     let why = match cause {
@@ -142,12 +158,19 @@ fn system_line(alloc: Global, name: &str, error: i32) -> Option<String>
     line(alloc, name, &io::Error::from_raw_os_error(error))
 }
 
-// What a file that is read is called.
+/// What a file that is read is called.
+pub(crate) fn called(name: &str) -> &str {
+    if name == "-" { "standard input" } else { name }
+}
+
+// What a capture of a job is called, from 1 on.
 fn input_name<'a>(job: &Job<'a>, file: u32) -> Option<&'a str> {
-    match name_of(job, file)? {
-        "-" => Some("standard input"),
-        name => Some(name),
-    }
+    Some(called(name_of(job, file)?))
+}
+
+// What a job's list of captures is called.
+fn list_name<'a>(job: &Job<'a>) -> Option<&'a str> {
+    Some(called(job.list?))
 }
 
 // What a job's output is called.
@@ -167,6 +190,16 @@ fn read_line(alloc: Global, job: &Job<'_>, file: u32, cause: &Cause) -> Option<S
         _ => "it can't be read",
     };
     line(alloc, name_of(job, file)?, &why)
+}
+
+// Why a list of captures can't be opened or read.
+fn list_line(alloc: Global, name: &str, cause: &Cause) -> Option<String>
+    ensures { IfSome result (λ line. IsHintLine (string_bytes line)) }
+{
+    match cause {
+        Cause::Unknown => line(alloc, name, &"it can't be read"),
+        _ => cause_line(alloc, name, cause),
+    }
 }
 
 // What is wrong with a file that is read or written, if a fault is of one.
@@ -195,7 +228,7 @@ fn names_line(alloc: Global, fault: LineFault) -> Option<String>
 {
     let why = match fault {
         LineFault::Files =>
-            "only capt check reads more than 32 captures: examples/rounds.sh merges them",
+            "only capt check and capt digest read more than 32 captures: examples/rounds.sh merges them",
         LineFault::Input => "standard input, -, can be read once",
         LineFault::Output => "the output is one of the captures that are read",
         _ => return None,
@@ -224,6 +257,7 @@ pub fn hint<R: Files<File = File>>(
     match stop.outcome {
         Outcome::Fault(fault) => fault_line(files, alloc, job, fault, &stop.cause),
         Outcome::Open(file) => cause_line(alloc, input_name(job, file)?, &stop.cause),
+        Outcome::List => list_line(alloc, list_name(job)?, &stop.cause),
         Outcome::Create => cause_line(alloc, output_name(job), &stop.cause),
         _ => None,
     }

@@ -5,7 +5,7 @@ ghost use Rattle.cap_line.specs.declared.faults.LineFault.{LineFault};
 
 use crate::causes::Cause;
 use crate::created::create_for;
-use crate::hints::hint;
+use crate::hints::{called, cause_line, hint, hint_object};
 use crate::left::{Told, left_lines};
 use crate::objects::tell_in;
 use crate::openers::Opener;
@@ -100,6 +100,17 @@ impl<'a, R: Files<File = File> + Clock + AllocGlobal> Opener for Host<'a, R> {
             file_type,
         ))
     }
+
+    fn tell_cause(&self, name: &str, cause: &Cause, job: &Job<'_>) {
+        if !job.explain && !self.streams.faults.is_terminal() {
+            return;
+        }
+        if let Some(line) = cause_line(self.rt.alloc(), called(name), cause) {
+            self.progress.wipe();
+            let mut faults = Tracked::new(self.streams.faults);
+            tell_hint(self.rt.alloc(), line.as_str(), job.json, &mut faults);
+        }
+    }
 }
 
 // Prints how a run ended: with `--json` a refusal or a fault of a job is an object.
@@ -133,7 +144,32 @@ fn explain<R: Files<File = File> + AllocGlobal>(
     // a standard error that fails doesn't change how the run ends
     let _ = put_all(faults, lines.as_slice());
     if let Some(line) = hint(rt, rt.alloc(), stop, job) {
+        let is_object = matches!(job, Some(job) if job.json) && !is_of_line(&stop.outcome);
+        tell_hint(rt.alloc(), line.as_str(), is_object, faults);
+    }
+}
+
+// Whether a run ended because of its command line: what is printed of that is text, also of a job that prints JSON.
+fn is_of_line(outcome: &Outcome) -> bool {
+    match outcome {
+        Outcome::Line(_) => true,
+        _ => false,
+    }
+}
+
+// The text of a hint's line: without the two blanks before it, and without its end.
+fn hint_text(line: &str) -> &str {
+    let text = line.strip_prefix("  ").unwrap_or(line);
+    text.strip_suffix("\n").unwrap_or(text)
+}
+
+// Prints a hint's line on standard error, or the object of its text.
+fn tell_hint(alloc: Global, line: &str, is_object: bool, faults: &mut Tracked<Stderr>) {
+    // a standard error that fails doesn't change how the run ends
+    if !is_object {
         let _ = put_all(faults, line.as_bytes());
+    } else if let Some(object) = hint_object(alloc, hint_text(line)) {
+        let _ = put_all(faults, object.as_slice());
     }
 }
 
@@ -165,6 +201,7 @@ impl<'a, R: Files<File = File> + Clock + AllocGlobal> System for Host<'a, R> {
     fn create(
         &self,
         job: &Job<'_>,
+        names: &[&str],
         inputs: &[Option<FileId>],
         size: Option<u64>,
     ) -> Result<
@@ -175,7 +212,7 @@ impl<'a, R: Files<File = File> + Clock + AllocGlobal> System for Host<'a, R> {
         RunStop,
     > {
         let alloc = self.rt.alloc();
-        let (output, beside) = create_for(self.rt, alloc, job, self.streams.output, inputs)?;
+        let (output, beside) = create_for(self.rt, alloc, job, names, self.streams.output, inputs)?;
         let screen = screen_of(self.rt, self.streams.faults, &output);
         let is_terminal = output.is_terminal();
         match Buffered::new(alloc, output_buffer(is_terminal), output) {

@@ -91,6 +91,7 @@ pub fn left_lines(outcome: &Outcome, left: &DroppedInfo) -> Line
         | Outcome::Line(_)
         | Outcome::Fault(_)
         | Outcome::Open(_)
+        | Outcome::List
         | Outcome::Create => Line::new(),
     }
 }

@@ -10,6 +10,7 @@ mod hints;
 mod host;
 mod kinds;
 mod left;
+mod listed;
 mod named;
 mod objects;
 mod openers;
@@ -29,10 +30,11 @@ pub use crate::causes::Cause;
 pub use crate::checks::check_named;
 pub use crate::created::create_for;
 pub use crate::errno_writers::ErrnoWriter;
-pub use crate::hints::hint;
+pub use crate::hints::{hint, hint_object};
 pub use crate::host::{StandardStreams, run};
 pub use crate::kinds::{Kind, kind_at, kind_of};
 pub use crate::left::{Told, left_lines};
+pub use crate::listed::{check_listed, names_and_list, names_in, read_list, texts_of};
 pub use crate::objects::{outcome_object, tell_in};
 pub use crate::openers::Opener;
 pub use crate::outcomes::{Outcome, RunStop, end_of, outcome_line, status_of, tell};
@@ -50,8 +52,7 @@ pub use crate::systems::System;
 pub use crate::whole::{AtomicOutput, create_beside};
 pub use cap_commands::{
     DEFAULT_OPTIONS, DiffOptions, Differences, Done, DroppedInfo, Finding, blocks_json_to,
-    blocks_to, convert_and_count, convert_to, diff_in, diff_to, digests_to, fault_line, job_to,
-    join_and_count, join_to, join_to_pcap, list_json_to, list_to, merge_and_count, merge_to,
-    merge_to_pcap,
+    blocks_to, convert_and_count, convert_to, diff_in, diff_to, fault_line, job_to, join_and_count,
+    join_to, join_to_pcap, list_json_to, list_to, merge_and_count, merge_to, merge_to_pcap,
 };
 pub use cap_line::{Job, LineFault, parse};

@@ -9,8 +9,8 @@ use cap_line::escape;
 use cap_print::Form;
 use std::alloc::{AllocError, Global};
 
-// Adds a name as it stands in a string of JSON.
-fn add_escaped(field: &mut Vec<u8>, name: &str) -> Result<(), AllocError>
+/// Adds a text as it stands in a string of JSON.
+pub(crate) fn add_escaped(field: &mut Vec<u8>, name: &str) -> Result<(), AllocError>
     ensures { OnOk result (field.new.items ≡ field.old.items ++ flat_map escaped_character (chars name.now)) }
 {
     let mut rest = name.chars();

@@ -168,6 +168,7 @@ pub fn outcome_object<W: Sink>(
         Outcome::Fault(Fault::Memory) => {
             put_all(writer, b"{\"type\":\"fault\",\"fault\":\"memory\"}\n")
         }
+        Outcome::List => put_all(writer, b"{\"type\":\"fault\",\"fault\":\"list\"}\n"),
         Outcome::Create => put_all(writer, b"{\"type\":\"fault\",\"fault\":\"create\"}\n"),
         Outcome::Done | Outcome::Differ | Outcome::NotWhole | Outcome::Line(_) => outcome_line(
             outcome, writer,

@@ -5,6 +5,7 @@ ghost use Rattle.cap_tool.specs.Openers.{reader_of};
 use crate::causes::Cause;
 use crate::regular::FileType;
 use cap_bytes::Source;
+use cap_line::Job;
 
 /// What opens files by their names: the system, or a folder in memory.
 pub trait Opener {
@@ -18,4 +19,7 @@ pub trait Opener {
     /// Opens the file of that name and says what it is, or why it can't be opened.
     fn open(&self, name: &str) -> Result<(Self::Reader, FileType), Cause>
         ensures { gives self.now name.now (reader_of result) };
+
+    /// Tells why the file of that name isn't read, if the job asks for that, or if it is always told.
+    fn tell_cause(&self, name: &str, cause: &Cause, job: &Job<'_>);
 }

@@ -28,6 +28,8 @@ pub enum Outcome {
     Fault(Fault),
     /// The file of that number, from 1, could not be opened.
     Open(u32),
+    /// The list of the captures could not be opened or read.
+    List,
     /// The output could not be created, or is one of the files that are read.
     Create,
 }
@@ -61,6 +63,16 @@ impl RunStop {
     {
         RunStop {
             outcome: Outcome::Create,
+            cause,
+        }
+    }
+
+    /// A run whose list of captures can't be opened or read.
+    pub fn list(cause: Cause) -> RunStop
+        ensures { result ≡ record { outcome = Outcome.List; cause = cause } }
+    {
+        RunStop {
+            outcome: Outcome::List,
             cause,
         }
     }
@@ -101,8 +113,8 @@ pub fn end_of(answer: Result<Finding, Fault>, flushed: io::Result<()>) -> Result
 }
 
 /// The status that the process ends with: 0 for a run that is done and for help, 1 if an input is refused, if a file
-/// that is checked isn't whole, or if a device, an opening, a creation or memory fails, 2 for an invalid command line,
-/// 3 for captures that differ.
+/// that is checked isn't whole, or if a device, an opening, a list, a creation or memory fails, 2 for an invalid
+/// command line, 3 for captures that differ.
 pub fn status_of(outcome: &Outcome) -> u8
     ensures { result ≡ status_after outcome.now }
 {
@@ -111,6 +123,7 @@ pub fn status_of(outcome: &Outcome) -> u8
         Outcome::NotWhole
         | Outcome::Fault(_)
         | Outcome::Open(_)
+        | Outcome::List
         | Outcome::Create
         | Outcome::Line(LineFault::Memory) => 1,
         Outcome::Line(LineFault::Line)
@@ -158,6 +171,7 @@ pub fn outcome_line<W: Sink>(outcome: &Outcome, writer: &mut W) -> Result<(), Fa
         Outcome::Line(fault) => put_all(writer, line_fault_text(*fault)),
         Outcome::Fault(fault) => put_all(writer, fault_line(*fault).as_slice()),
         Outcome::Open(file) => put_all(writer, open_line(*file).as_slice()),
+        Outcome::List => put_all(writer, b"fault: read list\n"),
         Outcome::Create => put_all(writer, b"fault: create output\n"),
     }
 }

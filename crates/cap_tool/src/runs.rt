@@ -1,5 +1,6 @@
 //! A run: what the words of a command line ask for, done over a system, and how that ended.
-ghost use Rattle.std.specs.Prelude.{◌≡◌, ◌⊎◌, IfErr, IfOk, IsFalse, IsTrue, MatchResult, OnOk, Result, map, vec_len};
+ghost use Rattle.std.specs.Prelude.{◌≡◌, ◌⊎◌, IfErr, IfOk, IsFalse, IsTrue, MatchResult, OnOk, Result, Some, map};
+ghost use Rattle.std.specs.Prelude.{◌≤◌, ◌-◌, length, option_map, take, vec_len};
 ghost use Rattle.std.specs.List.{list_all};
 ghost use Rattle.cap_line.specs.CommandLine.{Parses};
 ghost use Rattle.cap_line.specs.Jobs.{IsWholeJob};
@@ -11,13 +12,14 @@ ghost use Rattle.cap_bytes.specs.Printing.{is_write};
 ghost use Rattle.cap_commands.specs.JobLeft.{JobLeaves};
 ghost use Rattle.cap_commands.specs.Jobs.{finding_in};
 ghost use Rattle.cap_tool.specs.Outcomes.{is_help};
-ghost use Rattle.cap_tool.specs.Runs.{EndsBy, Runs, RunsChecks, RunsFiles, RunsJob, StopsFirst};
-ghost use Rattle.cap_tool.specs.Runs.{ended_as, is_check, names_of, outcome_after};
+ghost use Rattle.cap_tool.specs.Runs.{EndsBy, Runs, RunsAll, RunsBy, RunsChecks, RunsFiles, RunsJob};
+ghost use Rattle.cap_tool.specs.Runs.{StopsFirst, StopsMaking, ended_as, names_of, outcome_after};
 ghost use Rattle.cap_tool.specs.declared.outcomes.RunStop.{RunStop};
 
 use crate::causes::Cause;
 use crate::checks::check_named;
 use crate::left::Told;
+use crate::listed::{check_listed, names_and_list, read_list, texts_of};
 use crate::outcomes::{Outcome, RunStop, end_of};
 use crate::outlets::Outlet;
 use crate::reserved_stdio::check_input;
@@ -25,7 +27,7 @@ use crate::streams::{Inputs, open_all};
 use crate::systems::System;
 use cap_bytes::{Fault, Source};
 use cap_commands::{Done, DroppedInfo, Finding, NOTHING_LEFT, job_to};
-use cap_line::{Job, LineFault, NOT_UTF_8, Task, USAGE, message, parse};
+use cap_line::{Job, LineFault, NOT_UTF_8, USAGE, is_surveying, message, parse};
 use std::alloc::Global;
 use std::convert::AsStr;
 
@@ -153,16 +155,23 @@ fn run_files<S: System>(
     ensures help { IsFalse (is_help (outcome_after result)) }
 {
     let inputs = open_inputs(system, alloc, job)?;
-    let (mut writer, name) = system.create(job, inputs.ids.as_slice(), inputs.size)?;
+    let names = job.files.as_slice();
+    let (mut writer, name) = system.create(job, names, inputs.ids.as_slice(), inputs.size)?;
     let ended = run_job(alloc, job, inputs.sources, counts, &mut writer);
     system.commit(name, with_read_cause(ended, inputs.folders.as_slice()))
 }
 
-// Does `check`, whose files are opened one after another once its output is created.
-fn run_checks<S: System>(system: &S, alloc: Global, job: &Job<'_>) -> Result<DroppedInfo, RunStop>
-    requires { IsWholeJob job.now }
-    ensures runs { StopsFirst (S.gives system.now) (S.makes system.now job.now) (S.lacks_input system.now) job.now
-        result
+// Does `digest` or `check` of files of those names, which are opened one after another once the output is created.
+// `read` has the names of all that is read: of a list too.
+fn run_checks<'n, S: System>(
+    system: &S,
+    alloc: Global,
+    job: &Job<'_>,
+    names: &[&'n str],
+    read: &[&'n str],
+) -> Result<DroppedInfo, RunStop>
+    requires { length names.now ≤ 4294967295 }
+    ensures runs { StopsMaking (S.makes system.now job.now) result
         ⊎ RunsChecks (S.gives system.now) (λ s. record {
           told = S.Reader.tells_coming s;
           bytes = S.Reader.coming s;
@@ -171,26 +180,17 @@ fn run_checks<S: System>(system: &S, alloc: Global, job: &Job<'_>) -> Result<Dro
           told = S.Writer.tells_held w;
           held = S.Writer.held w;
           waiting = S.Writer.waiting w;
-        }) (S.commits system.now) job.now result }
+        }) (S.commits system.now) job.now (map (λ n. n.now) names.now) result }
     ensures help { IsFalse (is_help (outcome_after result)) }
 {
-    let (mut writer, name) = system.create(job, &[], None)?;
-    let answer = check_named(system, alloc, job, &mut writer);
+    let (mut writer, name) = system.create(job, read, &[], None)?;
+    let answer = check_named(system, alloc, job, names, &mut writer);
     let ended = end_in(answer, NOTHING_LEFT, &mut writer);
     system.commit(name, ended)
 }
 
-// Whether a task is `check`.
-fn is_check(task: Task) -> bool
-    ensures { result ≡ is_check task }
-{
-    match task {
-        Task::Check => true,
-        _ => false,
-    }
-}
-
-// Does a job over a system: `check` opens its files one after another, any other job all of them before it begins.
+// Does a job over a system: `digest` and `check` open their files one after another, any other job all of them before
+// it begins.
 fn run_task<S: System>(
     system: &S,
     alloc: Global,
@@ -209,10 +209,77 @@ fn run_task<S: System>(
     }) (S.commits system.now) (S.lacks_input system.now) job.now result }
     ensures help { IsFalse (is_help (outcome_after result)) }
 {
-    if is_check(job.task) {
-        run_checks(system, alloc, job)
+    if is_surveying(job.task) {
+        let names = job.files.as_slice();
+        run_checks(system, alloc, job, names, names)
     } else {
         run_files(system, alloc, job, counts)
+    }
+}
+
+// All of some names but the last.
+fn without_last<'a, 'n>(names: &'a [&'n str]) -> &'a [&'n str]
+    ensures { result.now ≡ take (length names.now - 1) names.now }
+{
+    names.split_at(names.len().saturating_sub(1)).0
+}
+
+// Does a job over the captures that the list of that name has.
+fn run_listed<S: System>(
+    system: &S,
+    alloc: Global,
+    job: &Job<'_>,
+    list: &str,
+) -> Result<DroppedInfo, RunStop>
+    ensures runs { RunsBy (Some list.now) (S.gives system.now) (λ s. record {
+      told = S.Reader.tells_coming s;
+      bytes = S.Reader.coming s;
+      can_fail = S.Reader.can_fail s;
+    }) (S.makes system.now job.now) (λ w. record {
+      told = S.Writer.tells_held w;
+      held = S.Writer.held w;
+      waiting = S.Writer.waiting w;
+    })
+        (S.commits system.now) (S.lacks_input system.now) job.now result }
+    ensures help { IsFalse (is_help (outcome_after result)) }
+{
+    let bytes = read_list(system, alloc, list)?;
+    let Ok(names) = names_and_list(alloc, bytes.as_slice(), list) else {
+        return Err(RunStop::memory());
+    };
+    let Ok(read) = texts_of(alloc, names.as_slice()) else {
+        return Err(RunStop::memory());
+    };
+    let listed = without_last(read.as_slice());
+    if let Err(fault) = check_listed(job.task, list, listed) {
+        return Err(RunStop::from(Outcome::Line(fault)));
+    }
+    run_checks(system, alloc, job, listed, read.as_slice())
+}
+
+// Does a job over its files, or over the captures that its list has.
+fn run_all<S: System>(
+    system: &S,
+    alloc: Global,
+    job: &Job<'_>,
+    counts: bool,
+) -> Result<DroppedInfo, RunStop>
+    requires { IsWholeJob job.now }
+    ensures runs { RunsAll (S.gives system.now) (λ s. record {
+      told = S.Reader.tells_coming s;
+      bytes = S.Reader.coming s;
+      can_fail = S.Reader.can_fail s;
+    }) (S.makes system.now job.now) (λ w. record {
+      told = S.Writer.tells_held w;
+      held = S.Writer.held w;
+      waiting = S.Writer.waiting w;
+    })
+        (S.commits system.now) (S.lacks_input system.now) job.now result }
+    ensures help { IsFalse (is_help (outcome_after result)) }
+{
+    match job.list {
+        Some(list) => run_listed(system, alloc, job, list),
+        None => run_task(system, alloc, job, counts),
     }
 }
 
@@ -230,7 +297,7 @@ fn end_of_run(answer: Result<DroppedInfo, RunStop>) -> (RunStop, DroppedInfo)
 /// Does a job over a system, and tells how it ended: it returns that outcome.
 pub fn do_job<S: System>(system: &S, alloc: Global, job: &Job<'_>) -> Outcome
     requires { IsWholeJob job.now }
-    ensures { (ended : Result DroppedInfo RunStop) × Runs (S.gives system.now) (λ s. record {
+    ensures { (ended : Result DroppedInfo RunStop) × RunsAll (S.gives system.now) (λ s. record {
       told = S.Reader.tells_coming s;
       bytes = S.Reader.coming s;
       can_fail = S.Reader.can_fail s;
@@ -241,7 +308,7 @@ pub fn do_job<S: System>(system: &S, alloc: Global, job: &Job<'_>) -> Outcome
     }) (S.commits system.now) (S.lacks_input system.now) job.now ended × (result ≡ outcome_after ended) }
 {
     let counts = job.explain || system.explains();
-    let (stop, left) = end_of_run(run_task(system, alloc, job, counts));
+    let (stop, left) = end_of_run(run_all(system, alloc, job, counts));
     system.tell(stop, Some(job), USAGE.as_bytes(), &Told { counts, left })
 }
 
@@ -279,7 +346,7 @@ fn tell_fault<S: System, T: AsStr>(
 /// no job end as `parse` answers, unless help could not be written.
 pub fn run_words<S: System, T: AsStr>(system: &S, alloc: Global, words: &[T]) -> Outcome
     ensures { (parsed : Result Job LineFault) × Parses (map T.text words.now) parsed
-        × MatchResult parsed (λ job. (ended : Result DroppedInfo RunStop) × Runs (S.gives system.now) (λ s. record {
+        × MatchResult parsed (λ job. (ended : Result DroppedInfo RunStop) × RunsAll (S.gives system.now) (λ s. record {
           told = S.Reader.tells_coming s;
           bytes = S.Reader.coming s;
           can_fail = S.Reader.can_fail s;

@@ -39,11 +39,13 @@ pub trait System: Opener {
     /// Whether a failure is explained also if the words of the command line don't ask for it.
     fn explains(&self) -> bool;
 
-    /// Creates the output of a job that reads those regular files, and as many bytes together as `size` says, if that
-    /// is known. Returns `Outcome::Create` if it can't be created, and why, or `Fault::Memory`.
+    /// Creates the output of a job that reads the files of those names, which are those regular files, if it is known
+    /// which, and have as many bytes together as `size` says, if that is known. Returns `Outcome::Create` if it can't
+    /// be created, and why, or `Fault::Memory`.
     fn create(
         &self,
         job: &Job<'_>,
+        names: &[&str],
         inputs: &[Option<FileId>],
         size: Option<u64>,
     ) -> Result<(Self::Writer, Self::Name), RunStop>

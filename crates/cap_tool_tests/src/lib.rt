@@ -5,6 +5,8 @@ pub mod front_door;
 #[cfg(test)]
 mod left_lines;
 #[cfg(test)]
+mod listed;
+#[cfg(test)]
 mod objects;
 #[cfg(test)]
 mod outcomes;

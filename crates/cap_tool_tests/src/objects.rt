@@ -4,7 +4,7 @@ use crate::rooms::room_of;
 use cap_bytes::{Fault, Refusal, Rule};
 use cap_line::LineFault;
 use cap_print::Form;
-use cap_tool::{Outcome, outcome_object, tell_in};
+use cap_tool::{Outcome, hint_object, outcome_object, tell_in};
 use std::alloc::Global;
 use std::process::Abort;
 
@@ -23,7 +23,7 @@ const SECOND_FILE: Refusal = Refusal {
 };
 
 // What is printed of each outcome.
-const OBJECTS: [(Outcome, &str); 11] = [
+const OBJECTS: [(Outcome, &str); 12] = [
     (Outcome::Done, ""),
     (Outcome::Differ, ""),
     (Outcome::NotWhole, ""),
@@ -56,6 +56,7 @@ const OBJECTS: [(Outcome, &str); 11] = [
         Outcome::Fault(Fault::Memory),
         "{\"type\":\"fault\",\"fault\":\"memory\"}\n",
     ),
+    (Outcome::List, "{\"type\":\"fault\",\"fault\":\"list\"}\n"),
     (
         Outcome::Create,
         "{\"type\":\"fault\",\"fault\":\"create\"}\n",
@@ -114,4 +115,11 @@ fn an_outcome_is_told_in_either_form(rt: HostRuntime) {
     for row in &TOLD {
         goes_to_two(&rt, rt.alloc(), row);
     }
+}
+
+#[test]
+fn a_hint_is_an_object(rt: HostRuntime) {
+    let object = hint_object(rt.alloc(), "a\"b\\u{7}: it is empty").expect(&rt, "memory");
+    let text = "{\"type\":\"hint\",\"hint\":\"a\\\"b\\\\u{7}: it is empty\"}\n";
+    assert_eq!(&rt; object.as_slice(), text.as_bytes());
 }

@@ -16,7 +16,7 @@ const SECOND_FILE: Refusal = Refusal {
 };
 
 // What is printed of each outcome but the usage, and the status.
-const TOLD: [(Outcome, &str, u8); 13] = [
+const TOLD: [(Outcome, &str, u8); 14] = [
     (Outcome::Done, "", 0),
     (Outcome::Differ, "", 3),
     (Outcome::NotWhole, "", 1),
@@ -36,6 +36,7 @@ const TOLD: [(Outcome, &str, u8); 13] = [
     (Outcome::Fault(Fault::Write), "fault: write\n", 1),
     (Outcome::Fault(Fault::Memory), "fault: memory\n", 1),
     (Outcome::Open(1), "fault: open file 1\n", 1),
+    (Outcome::List, "fault: read list\n", 1),
     (Outcome::Create, "fault: create output\n", 1),
     (Outcome::Line(LineFault::Files), "fault: files\n", 2),
     (Outcome::Line(LineFault::Input), "fault: input\n", 2),
@@ -56,8 +57,8 @@ fn displayed(alloc: Global, outcome: &Outcome) -> Option<String> {
     match outcome {
         Outcome::Fault(fault) => format!(in alloc; "{fault}\n").ok(),
         Outcome::Line(fault) => format!(in alloc; "{fault}\n").ok(),
-        Outcome::Done | Outcome::Differ | Outcome::NotWhole | Outcome::Open(_) | Outcome::Create =>
-            None,
+        Outcome::Done | Outcome::Differ | Outcome::NotWhole => None,
+        Outcome::Open(_) | Outcome::List | Outcome::Create => None,
     }
 }
 

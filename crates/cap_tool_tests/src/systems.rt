@@ -40,10 +40,14 @@ const OBJECTS: &str =
     \"backward\":0,\"untimed\":0,\"truncated\":0,\"skipped\":0,\"interfaces\":0,\"open\":true,\
     \"path\":\"\\u001btwo\"}\n";
 
-// One file, which is named `one`.
+// Names of captures, each of which a NUL ends.
+const LIST: &[u8] = b"one\0\x1btwo\0";
+
+// A file that is named `one`, and another one, `list`.
 #[derive(Clone, Copy)]
 struct Shelf<'a> {
     one: &'a [u8],
+    list: &'a [u8],
 }
 
 impl<'a> Opener for Shelf<'a> {
@@ -54,15 +58,18 @@ impl<'a> Opener for Shelf<'a> {
     type Reader = Tracked<&'a [u8]>;
 
     ghost gives = { λ s name reader. option_map (λ r. tracked_inner r) reader
-        ≡ (if bytes_eq name (codes "one") then Some s.one else None) };
+        ≡ (if bytes_eq name (codes "one") then Some s.one
+        else (if bytes_eq name (codes "list") then Some s.list else None)) };
 
     fn open(&self, name: &str) -> Result<(Tracked<&'a [u8]>, FileType), Cause> {
-        if name == "one" {
-            Ok((Tracked::new(self.one), FileType::Other))
-        } else {
-            Err(Cause::Unknown)
+        match name {
+            "one" => Ok((Tracked::new(self.one), FileType::Other)),
+            "list" => Ok((Tracked::new(self.list), FileType::Other)),
+            _ => Err(Cause::Unknown),
         }
     }
+
+    fn tell_cause(&self, _name: &str, _cause: &Cause, _job: &Job<'_>) {}
 }
 
 // What a run writes, kept where the test sees it.
@@ -103,10 +110,15 @@ impl<'a> Opener for Desk<'a> {
     type Reader = Tracked<&'a [u8]>;
 
     ghost gives = { λ d name reader. option_map (λ r. tracked_inner r) reader
-        ≡ (if bytes_eq name (codes "one") then Some d.shelf.one else None) };
+        ≡ (if bytes_eq name (codes "one") then Some d.shelf.one
+        else (if bytes_eq name (codes "list") then Some d.shelf.list else None)) };
 
     fn open(&self, name: &str) -> Result<(Tracked<&'a [u8]>, FileType), Cause> {
         self.shelf.open(name)
+    }
+
+    fn tell_cause(&self, name: &str, cause: &Cause, job: &Job<'_>) {
+        self.shelf.tell_cause(name, cause, job);
     }
 }
 
@@ -134,6 +146,7 @@ impl<'a> System for Desk<'a> {
     fn create(
         &self,
         job: &Job<'_>,
+        _names: &[&str],
         _inputs: &[Option<FileId>],
         _size: Option<u64>,
     ) -> Result<(Buffered<Sheet<'a>>, ()), RunStop> {
@@ -167,6 +180,7 @@ fn runs(rt: &impl Abort, alloc: Global, words: &[&str], ending: Outcome, text: &
         alloc,
         shelf: Shelf {
             one: one.as_slice(),
+            list: LIST,
         },
         written: &written,
     };
@@ -178,7 +192,7 @@ fn runs(rt: &impl Abort, alloc: Global, words: &[&str], ending: Outcome, text: &
 }
 
 // The words, how their run ends, and what it writes.
-const RUNS: [(&[&str], Outcome, &str); 9] = [
+const RUNS: [(&[&str], Outcome, &str); 13] = [
     (&["capt", "list", "one"], Outcome::Done, LINE),
     (&["capt", "list", "two"], Outcome::Open(1), ""),
     (
@@ -196,6 +210,26 @@ const RUNS: [(&[&str], Outcome, &str); 9] = [
         &["capt", "check", "--json", "one", "\u{1b}two"],
         Outcome::NotWhole,
         OBJECTS,
+    ),
+    (
+        &["capt", "check", "--names", "--files0-from", "list"],
+        Outcome::NotWhole,
+        NAMED,
+    ),
+    (
+        &["capt", "check", "--files0-from", "two"],
+        Outcome::List,
+        "",
+    ),
+    (
+        &["capt", "check", "--files0-from", "list", "one"],
+        Outcome::Line(LineFault::Line),
+        "",
+    ),
+    (
+        &["capt", "info", "--files0-from", "list"],
+        Outcome::Line(LineFault::Line),
+        "",
     ),
     (&["capt", "info", "one", "two"], Outcome::Open(2), ""),
     (
@@ -217,5 +251,37 @@ const NO_BLOCKS: Refusal = Refusal {
 fn always_memory_words_are_run(rt: HostRuntime) {
     for (words, ending, text) in &RUNS {
         runs(&rt, rt.alloc(), *words, *ending, *text);
+    }
+}
+
+// The lines of `digest`, and of `check --digest`.
+const DIGESTS: &str = "digest 1 sha256 \
+    ae7312267c797be18247384507fd1956f2af9397397bd84f72a62298f1352b4e packets 1 name one\n\
+    digest 2 open name \\u{1b}two\n";
+
+const DIGEST_OBJECTS: &str = "{\"type\":\"digest\",\"file\":1,\"sha256\":\
+    \"ae7312267c797be18247384507fd1956f2af9397397bd84f72a62298f1352b4e\",\"packets\":1,\"cut\":false,\
+    \"path\":\"one\"}\n{\"type\":\"digest\",\"file\":2,\"open\":true,\"path\":\"\\u001btwo\"}\n";
+
+const CHECK_DIGESTS: &str =
+    "check 1 pcap packets 1 bytes 4 first 2+500000/1000000 last 2+500000/1000000 \
+    backward 0 untimed 0 truncated 0 skipped 0 interfaces 1 sha256 \
+    ae7312267c797be18247384507fd1956f2af9397397bd84f72a62298f1352b4e whole\n\
+    check 2 - packets 0 bytes 0 first - last - \
+    backward 0 untimed 0 truncated 0 skipped 0 interfaces 0 sha256 - open\n";
+
+const DIGEST_RUNS: [(&[&str], &str); 3] = [
+    (&["capt", "digest", "--names", "one", "\u{1b}two"], DIGESTS),
+    (
+        &["capt", "digest", "--json", "one", "\u{1b}two"],
+        DIGEST_OBJECTS,
+    ),
+    (&["capt", "check", "--digest", "one", "two"], CHECK_DIGESTS),
+];
+
+#[test]
+fn always_memory_digests_are_run(rt: HostRuntime) {
+    for (words, text) in &DIGEST_RUNS {
+        runs(&rt, rt.alloc(), *words, Outcome::NotWhole, *text);
     }
 }

@@ -18,8 +18,9 @@ static capt_bytes map(const char *name) {
     if (st.st_size > 0) {
         /* malloc, so that ASan and valgrind see each byte past the end */
         uint8_t *p = malloc((size_t)st.st_size);
-        size_t n = 0; ssize_t k;
-        while (n < (size_t)st.st_size && (k = read(fd, p + n, (size_t)st.st_size - n)) > 0) n += (size_t)k;
+        size_t n = 0; ssize_t k = 1;
+        while (p && n < (size_t)st.st_size && (k = read(fd, p + n, (size_t)st.st_size - n)) > 0) n += (size_t)k;
+        if (!p || k < 0) { perror(name); exit(1); }
         b.at = p; b.len = n;
     }
     close(fd);

@@ -11,10 +11,10 @@
  *
  * * Threads. One call at a time with a handle. Calls with different handles may run at once, also over the same bytes.
  *
- * * Pointers. None is NULL, not even to a file of 0 bytes: pass the address of any byte then. The library only reads
- * the bytes that you give. Those of capt_open and capt_table_open stay where and as they are until capt_close; those of
- * the other calls, of capt_feed too, until the call returns. A `len` is at most PTRDIFF_MAX, and so is the size in
- * bytes of an array.
+ * * Pointers. None is NULL, not even to a file of 0 bytes: pass the address of any byte then. Unlike free(NULL),
+ * capt_close(NULL) is a fault. The library only reads the bytes that you give. Those of capt_open and capt_table_open
+ * stay where and as they are until capt_close; those of the other calls, of capt_feed too, until the call returns. A
+ * `len` is at most PTRDIFF_MAX, and so is the size in bytes of an array.
  *
  * * Objects. The objects that you pass to one call overlap neither each other nor what its handles hold: don't feed a
  * frame to the reader that lent it. A call that returns CAPT_MISUSE changes none of them.

@@ -1,11 +1,13 @@
 -- How two feeds are compared, packet by packet.
-use Rattle.std.specs.Prelude.{◌≡◌, ℕ, ◌+◌, List, Bool, false, not, IsSome, IsTrue, Option, Some, None, Result, Ok, Err}
+use Rattle.std.specs.Prelude.{◌≡◌, ℕ, ◌+◌, List, Bool, false, not, IsNone, IsSome, IsTrue, Option, Some, None, Result}
+use Rattle.std.specs.Prelude.{Ok, Err}
 use Rattle.std.specs.Prelude.{⊤}
 use Rattle.std.specs.Prelude.{◌⊎◌}
 use Rattle.cap_bytes.specs.declared.faults.Fault.{Fault}
 use Rattle.cap_bytes.specs.declared.faults.Fault.TheVariants.{Refused, Read, Write, Memory}
 use Rattle.cap_line.specs.declared.jobs.Ignored.{Ignored}
 use Rattle.cap_source.specs.Feed.{Feed, HasFile, IsPacket}
+use Rattle.cap_source.specs.declared.feeds.FileEnd.{FileEnd}
 use Rattle.cap_source.specs.declared.feeds.Head.{Head}
 use Rattle.cap_source.specs.declared.feeds.Head.TheVariants as heads
 use Rattle.cap_source.specs.declared.packets.Meta.{Meta}
@@ -50,10 +52,17 @@ Parts c (Err (Read file offset)) frame other = ⊤
 Parts c (Err Write) frame other = ⊥
 Parts c (Err Memory) frame other = ⊤
 
--- where a feed has a packet, that is known
+-- where a feed has a packet, that is known, and where it has none, its end
 pub record KnowsPackets (p : Divergence) (a b : Feed) : Type 0 where
   pub first : IsSome p.first → IsPacket a.known
   pub second : IsSome p.second → IsPacket b.known
+  pub first_end : IsNone p.first → a.known ≡ Some heads.End
+  pub second_end : IsNone p.second → b.known ≡ Some heads.End
+
+-- whether a file was cut that ends so, if no packet comes next
+abbrev pub ended_cut : Option Meta → FileEnd → Bool
+ended_cut None end = end.ending.was_cut
+ended_cut (Some meta) end = false
 
 -- A failed read is of a file of the one feed or the other, whose device can fail.
 abbrev pub FailsOne : {A : Type 0} → Feed → Feed → Result A Fault → Type 0

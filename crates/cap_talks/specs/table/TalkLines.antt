@@ -42,19 +42,24 @@ traffic_field label key frames bytes =
     group key (record { label = label; key = codes "packets"; value = number frames })
     (record { label = codes " "; key = codes "bytes"; value = number bytes } ∷ [])
 
+-- what names a conversation: its protocol, and its two ends, the lesser first
+abbrev pub talk_fields : TalkKey → List Field
+talk_fields key =
+    one (record {
+      label = codes " ";
+      key = codes "protocol";
+      value = coded (protocol_text key.protocol) key.protocol;
+    })
+    ∷ end_field (codes "a") key.lesser ∷ end_field (codes "b") key.greater ∷ []
+
 -- the line of a conversation
 abbrev pub talk_facts : TalkKey → TalkRow → Facts
 talk_facts key row =
     record {
       kind = codes "talk";
       fields =
-          one (record {
-            label = codes " ";
-            key = codes "protocol";
-            value = coded (protocol_text key.protocol) key.protocol;
-          })
-          ∷ end_field (codes "a") key.lesser ∷ end_field (codes "b") key.greater
-          ∷ traffic_field (codes " forward ") (codes "forward") row.forward_frames row.forward_bytes
+          talk_fields key
+          ++ traffic_field (codes " forward ") (codes "forward") row.forward_frames row.forward_bytes
           ∷ traffic_field (codes " backward ") (codes "backward") row.backward_frames row.backward_bytes
           ∷ one (named (codes "first") (moment (option_map printed_of row.first)))
           ∷ one (named (codes "last") (moment (option_map printed_of row.last)))

@@ -7,7 +7,7 @@ ghost use Rattle.cap_print.specs.Facts.{coded, fact_in, facts_in, fields_in, lin
 ghost use Rattle.cap_print.specs.Lines.{room_in, text_in};
 ghost use Rattle.cap_print.specs.inner.Parts.{name_room};
 ghost use Rattle.cap_talks.specs.table.TalkLines.{address_text, end_field, line_at_in, port_facts, protocol_text};
-ghost use Rattle.cap_talks.specs.table.TalkLines.{talk_facts, talk_texts_in, talks_facts, traffic_field};
+ghost use Rattle.cap_talks.specs.table.TalkLines.{talk_facts, talk_fields, talk_texts_in, talks_facts, traffic_field};
 
 use crate::table::conversations::Conversations;
 use crate::table::rows::{TalkKey, TalkRow};
@@ -75,6 +75,17 @@ fn put_end(line: &mut Line, form: Form, key: &[u8], end: Endpoint)
     line.put_group(form, key);
 }
 
+/// Puts what names a conversation: in text `PROTO A B`, its protocol and its two ends, the lesser first.
+pub(crate) fn put_key(line: &mut Line, form: Form, key: &TalkKey)
+    requires { 114 ≤ room_in line.old }
+    ensures text { text_in line.new ≡ fields_in form (talk_fields key.now) (text_in line.old) }
+    ensures room { room_in line.old ≤ room_in line.new + 114 }
+{
+    put_end(line, form, b"b", key.greater);
+    put_end(line, form, b"a", key.lesser);
+    put_protocol(line, form, key.protocol);
+}
+
 // Puts what went one way.
 fn put_traffic(line: &mut Line, form: Form, label: &[u8], key: &[u8], frames: u64, bytes: u128)
     requires { name_room label.now (codes "packets") + length key.now + 74 ≤ room_in line.old }
@@ -114,9 +125,7 @@ fn talk_line(form: Form, key: &TalkKey, row: &TalkRow) -> Line
         row.forward_frames,
         row.forward_bytes,
     );
-    put_end(&mut line, form, b"b", key.greater);
-    put_end(&mut line, form, b"a", key.lesser);
-    put_protocol(&mut line, form, key.protocol);
+    put_key(&mut line, form, key);
     line.put_kind(form, b"talk");
     line
 }

@@ -8,13 +8,15 @@ use crate::hex_vectors::{
     SIMPLE_PACKET, TAGGED_FRAMES,
 };
 use cap_bytes::{Fault, Pieces, Tail};
-use cap_check::{Check, CheckEnd, check_file, check_to, put_check_line};
+use cap_check::{Check, CheckEnd, CheckLine, check_file, check_to, put_check_line};
 use cap_print::Form;
 use std::alloc::Global;
 use std::process::Abort;
 
 // A file, what is done with a cut end, the form, the line that is printed, and whether the file is whole.
 type Row = (File, Tail, Form, &'static str, bool);
+
+const COUNTS: CheckLine = CheckLine::Counts;
 
 // A file that is no capture.
 const UNKNOWN: File = &["000102030405060708090a0b0c0d0e0f1011121314151617"];
@@ -191,7 +193,7 @@ fn checks(rt: &impl Abort, alloc: Global, row: &Row, piece: usize)
     let (file, tail, form, text, is_whole) = *row;
     let mut writer = room_of(rt, alloc, 512);
     let source = reader_of(rt, alloc, file, piece);
-    let answer = check_to(alloc, Some(source), 7, tail, form, b"", &mut writer);
+    let answer = check_to(alloc, Some(source), 7, tail, COUNTS, form, b"", &mut writer);
     same!(rt; (answer, writer.bytes()), (Ok(is_whole), text.as_bytes()));
 }
 
@@ -214,6 +216,7 @@ fn checks_unread(rt: &impl Abort, alloc: Global, row: &Unread) {
         Some(source),
         1,
         Tail::Refuse,
+        COUNTS,
         Form::Text,
         b"",
         &mut writer,
@@ -239,6 +242,7 @@ fn a_check_is_written_or_fails(rt: HostRuntime) {
         Some(source),
         1,
         Tail::Refuse,
+        COUNTS,
         Form::Text,
         b"",
         &mut writer,
@@ -249,7 +253,14 @@ fn a_check_is_written_or_fails(rt: HostRuntime) {
     let named = "check 3 - packets 0 bytes 0 first - last - \
     backward 0 untimed 0 truncated 0 skipped 0 interfaces 0 open name a\n";
     let mut writer = room_of(&rt, rt.alloc(), 512);
-    let answer = put_check_line(&mut writer, Form::Text, 3, b" name a", &Check::unopened());
+    let answer = put_check_line(
+        &mut writer,
+        COUNTS,
+        Form::Text,
+        3,
+        b" name a",
+        &Check::unopened(),
+    );
     same!(&rt; (answer, writer.bytes()), (Ok(()), named.as_bytes()));
     let mut writer = room_of(&rt, rt.alloc(), 512);
     let unopened: Option<Pieces> = None;
@@ -258,6 +269,7 @@ fn a_check_is_written_or_fails(rt: HostRuntime) {
         unopened,
         3,
         Tail::Refuse,
+        COUNTS,
         Form::Text,
         b"",
         &mut writer,
@@ -269,10 +281,10 @@ fn a_check_is_written_or_fails(rt: HostRuntime) {
 #[test]
 fn a_check_counts_a_file(rt: HostRuntime) {
     let source = reader_of(&rt, rt.alloc(), SILENT, 1);
-    let Ok(check) = check_file(rt.alloc(), source, 1, Tail::Refuse) else {
+    let Ok(check) = check_file(rt.alloc(), source, 1, Tail::Refuse, false) else {
         panic!(&rt; "memory");
     };
-    same!(&rt; (check.counts.packets, check.counts.backward), (1, 0));
+    same!(&rt; (check.counts.packets, check.counts.backward, check.digest), (1, 0, None));
     let CheckEnd::Whole(end) = check.end else {
         panic!(&rt; "not whole");
     };

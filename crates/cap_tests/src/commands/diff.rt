@@ -122,7 +122,7 @@ const OBJECTS: [(File, File, u32, &str, bool); 8] = [
         CARRY_PCAP,
         CARRY_PCAPNG,
         16,
-        "{\"type\":\"same\",\"packets\":1}\n",
+        "{\"type\":\"same\",\"packets\":1,\"cut_a\":false,\"cut_b\":false}\n",
         true,
     ),
     (
@@ -188,7 +188,7 @@ const OBJECTS: [(File, File, u32, &str, bool); 8] = [
         "{\"type\":\"differ\",\"packet\":2,\"differs\":[\"end\"]}\n\
         {\"type\":\"side\",\"side\":\"-\",\"packet\":{\"type\":\"packet\",\"n\":2,\"offset\":44,\
         \"time\":[2,500000,1000000],\"captured\":4,\"original\":4,\"link\":1,\"data\":\"01020304\"}}\n\
-        {\"type\":\"side\",\"side\":\"+\",\"packet\":null}\n",
+        {\"type\":\"side\",\"side\":\"+\",\"packet\":null,\"cut\":false}\n",
         false,
     ),
     (
@@ -196,7 +196,7 @@ const OBJECTS: [(File, File, u32, &str, bool); 8] = [
         CARRY_PCAP,
         16,
         "{\"type\":\"differ\",\"packet\":1,\"differs\":[\"end\"]}\n\
-        {\"type\":\"side\",\"side\":\"-\",\"packet\":null}\n\
+        {\"type\":\"side\",\"side\":\"-\",\"packet\":null,\"cut\":false}\n\
         {\"type\":\"side\",\"side\":\"+\",\"packet\":{\"type\":\"packet\",\"n\":1,\"offset\":24,\
         \"time\":[2,500000,1000000],\"captured\":4,\"original\":4,\"link\":1,\"data\":\"01020304\"}}\n",
         false,
@@ -302,6 +302,140 @@ fn ignores(rt: &impl Abort, alloc: Global, row: &(File, File, Ignored, &str, boo
 fn always_memory_differences_are_ignored(rt: HostRuntime) {
     for row in &IGNORING {
         ignores(&rt, rt.alloc(), row);
+    }
+}
+
+// The packet of CARRY_PCAP, and 8 bytes of the header of the next record.
+const WITH_REST: File = &[
+    ETHERNET,
+    "0100000060e316000400000004000000",
+    "01020304",
+    "0100000060e31600",
+];
+
+// Two files, and what is printed of them in text and in JSON, and returned, if cut ends are dropped.
+type Dropped = (File, File, &'static str, &'static str, bool);
+
+const DROPPED: [Dropped; 9] = [
+    (
+        WITH_REST,
+        CARRY_PCAPNG,
+        "same packets 1 cut A\n",
+        "{\"type\":\"same\",\"packets\":1,\"cut_a\":true,\"cut_b\":false}\n",
+        true,
+    ),
+    (
+        CARRY_PCAPNG,
+        WITH_REST,
+        "same packets 1 cut B\n",
+        "{\"type\":\"same\",\"packets\":1,\"cut_a\":false,\"cut_b\":true}\n",
+        true,
+    ),
+    (
+        CUT_PCAP,
+        CUT_PCAP,
+        "same packets 0 cut A cut B\n",
+        "{\"type\":\"same\",\"packets\":0,\"cut_a\":true,\"cut_b\":true}\n",
+        true,
+    ),
+    // nothing was dropped
+    (
+        CARRY_PCAP,
+        CARRY_PCAPNG,
+        "same packets 1\n",
+        "{\"type\":\"same\",\"packets\":1,\"cut_a\":false,\"cut_b\":false}\n",
+        true,
+    ),
+    // one file ends, and its end was dropped
+    (
+        CARRY_PCAP,
+        CUT_PCAP,
+        "differ packet 1 end\n\
+        - packet 1 offset 24 time 2+500000/1000000 captured 4 original 4 link 1 data 01020304\n\
+        + end cut\n",
+        "{\"type\":\"differ\",\"packet\":1,\"differs\":[\"end\"]}\n\
+        {\"type\":\"side\",\"side\":\"-\",\"packet\":{\"type\":\"packet\",\"n\":1,\"offset\":24,\
+        \"time\":[2,500000,1000000],\"captured\":4,\"original\":4,\"link\":1,\"data\":\"01020304\"}}\n\
+        {\"type\":\"side\",\"side\":\"+\",\"packet\":null,\"cut\":true}\n",
+        false,
+    ),
+    (
+        CUT_PCAP,
+        CARRY_PCAP,
+        "differ packet 1 end\n\
+        - end cut\n\
+        + packet 1 offset 24 time 2+500000/1000000 captured 4 original 4 link 1 data 01020304\n",
+        "{\"type\":\"differ\",\"packet\":1,\"differs\":[\"end\"]}\n\
+        {\"type\":\"side\",\"side\":\"-\",\"packet\":null,\"cut\":true}\n\
+        {\"type\":\"side\",\"side\":\"+\",\"packet\":{\"type\":\"packet\",\"n\":1,\"offset\":24,\
+        \"time\":[2,500000,1000000],\"captured\":4,\"original\":4,\"link\":1,\"data\":\"01020304\"}}\n",
+        false,
+    ),
+    (
+        WITH_REST,
+        TWICE,
+        "differ packet 2 end\n\
+        - end cut\n\
+        + packet 2 offset 44 time 2+500000/1000000 captured 4 original 4 link 1 data 01020304\n",
+        "{\"type\":\"differ\",\"packet\":2,\"differs\":[\"end\"]}\n\
+        {\"type\":\"side\",\"side\":\"-\",\"packet\":null,\"cut\":true}\n\
+        {\"type\":\"side\",\"side\":\"+\",\"packet\":{\"type\":\"packet\",\"n\":2,\"offset\":44,\
+        \"time\":[2,500000,1000000],\"captured\":4,\"original\":4,\"link\":1,\"data\":\"01020304\"}}\n",
+        false,
+    ),
+    // a file that has a packet left isn't named, even if its end was dropped
+    (
+        WITH_REST,
+        &[ETHERNET],
+        "differ packet 1 end\n\
+        - packet 1 offset 24 time 2+500000/1000000 captured 4 original 4 link 1 data 01020304\n\
+        + end\n",
+        "{\"type\":\"differ\",\"packet\":1,\"differs\":[\"end\"]}\n\
+        {\"type\":\"side\",\"side\":\"-\",\"packet\":{\"type\":\"packet\",\"n\":1,\"offset\":24,\
+        \"time\":[2,500000,1000000],\"captured\":4,\"original\":4,\"link\":1,\"data\":\"01020304\"}}\n\
+        {\"type\":\"side\",\"side\":\"+\",\"packet\":null,\"cut\":false}\n",
+        false,
+    ),
+    (
+        WITH_REST,
+        LATER,
+        "differ packet 1 time\n\
+        - packet 1 offset 24 time 2+500000/1000000 captured 4 original 4 link 1 data 01020304\n\
+        + packet 1 offset 24 time 2+500001/1000000 captured 4 original 4 link 1 data 01020304\n",
+        "{\"type\":\"differ\",\"packet\":1,\"differs\":[\"time\"]}\n\
+        {\"type\":\"side\",\"side\":\"-\",\"packet\":{\"type\":\"packet\",\"n\":1,\"offset\":24,\
+        \"time\":[2,500000,1000000],\"captured\":4,\"original\":4,\"link\":1,\"data\":\"01020304\"}}\n\
+        {\"type\":\"side\",\"side\":\"+\",\"packet\":{\"type\":\"packet\",\"n\":1,\"offset\":24,\
+        \"time\":[2,500001,1000000],\"captured\":4,\"original\":4,\"link\":1,\"data\":\"01020304\"}}\n",
+        false,
+    ),
+];
+
+// What is printed in a form and returned of two files if cut ends are dropped.
+fn drops(rt: &impl Abort, alloc: Global, row: &Dropped, form: Form) {
+    let (first, second, text, objects, is_same) = *row;
+    let mut writer = room_of(rt, alloc, 1024);
+    let one = reader_of(rt, alloc, first, 4096);
+    let other = reader_of(rt, alloc, second, 4096);
+    let options = DiffOptions {
+        ignored: NOTHING_IGNORED,
+        form,
+        most: 16,
+    };
+    let printed = match form {
+        Form::Text => text,
+        Form::Json => objects,
+    };
+    let answer = diff_in(alloc, one, other, Tail::Accept, options, &mut writer);
+    same!(rt; (answer, writer.bytes()), (Ok(is_same), printed.as_bytes()));
+}
+
+#[test]
+fn always_memory_cut_captures_are_compared(rt: HostRuntime) {
+    for row in &DROPPED {
+        for form in [Form::Text, Form::Json] {
+            drops(&rt, rt.alloc(), row, form);
+        }
     }
 }
 

@@ -33,6 +33,16 @@ const CHECKS: &str = "check 1 pcap packets 0 bytes 0 first - last - \
     check 2 pcap packets 1 bytes 4 first 2+500000/1000000 last 2+500000/1000000 \
     backward 0 untimed 0 truncated 0 skipped 0 interfaces 1 whole\n";
 
+const DIGEST_CHECKS: &str = "check 1 pcap packets 0 bytes 0 first - last - \
+    backward 0 untimed 0 truncated 0 skipped 0 interfaces 1 sha256 - refused offset 24 rule 3 cut\n\
+    check 2 pcap packets 1 bytes 4 first 2+500000/1000000 last 2+500000/1000000 \
+    backward 0 untimed 0 truncated 0 skipped 0 interfaces 1 sha256 \
+    ae7312267c797be18247384507fd1956f2af9397397bd84f72a62298f1352b4e whole\n";
+
+const DIGESTS: &str = "digest 1 refused offset 24 rule 3 cut\n\
+    digest 2 sha256 \
+    ae7312267c797be18247384507fd1956f2af9397397bd84f72a62298f1352b4e packets 1\n";
+
 const INFO: &str = "files 1\n\
     file 1 pcap packets 1 bytes 4 truncated 0 skipped 0 first 2+500000/1000000 last 2+500000/1000000\n";
 
@@ -115,6 +125,7 @@ fn does<W: Sink>(
     holds!(rt; sources.len() == job.files.len());
     holds!(rt; !job.files.is_empty());
     holds!(rt; job.files.len() <= 32);
+    holds!(rt; job.list.is_none());
     holds!(rt; is_whole(job.task, job.files.len(), job.to, job.out));
     holds!(rt; can_replace(job.whole, job.out));
     let done = job_to(alloc, job, sources, false, writer)?;
@@ -133,6 +144,7 @@ fn counts<W: Sink>(
     holds!(rt; sources.len() == job.files.len());
     holds!(rt; !job.files.is_empty());
     holds!(rt; job.files.len() <= 32);
+    holds!(rt; job.list.is_none());
     holds!(rt; is_whole(job.task, job.files.len(), job.to, job.out));
     holds!(rt; can_replace(job.whole, job.out));
     job_to(alloc, job, sources, true, writer)
@@ -154,6 +166,9 @@ fn printing(rt: &impl Abort, alloc: Global, task: Task, allow_cut: bool) -> Job<
         json: false,
         data: None,
         ignored: NOTHING_IGNORED,
+        list: None,
+        class: false,
+        digests: false,
         names: false,
     }
 }
@@ -168,16 +183,31 @@ fn prints(rt: &impl Abort, alloc: Global, row: &Printed) {
     same!(rt; (answer, writer.bytes()), wanted, task);
 }
 
-// What a job of two captures finds.
+const CLASSED_LINE: &str = "packet 1 offset 24 time 2+500000/1000000 captured 4 original 4 \
+    link 1 data 01020304 class short\n";
+
+#[test]
+fn a_job_lists_the_class_of_each_packet(rt: HostRuntime) {
+    let alloc = rt.alloc();
+    let mut job = printing(&rt, alloc, Task::List, false);
+    job.class = true;
+    let mut writer = room_of(&rt, alloc, 1024);
+    let answer = does(&rt, alloc, &job, &[CARRY_PCAP], &mut writer);
+    let wanted = (Ok(Finding::Nothing), CLASSED_LINE.as_bytes());
+    same!(&rt; (answer, writer.bytes()), wanted);
+}
+
+// What a job of two captures finds: a task, and whether its lines have a digest.
 fn finds(
     rt: &impl Abort,
     alloc: Global,
-    task: Task,
+    (task, digests): (Task, bool),
     captures: &[&str],
     text: &str,
     finding: Finding,
 ) {
     let mut job = printing(rt, alloc, task, false);
+    job.digests = digests;
     job.files.push("b").expect(rt, "memory");
     let mut writer = room_of(rt, alloc, 1024);
     let answer = does(rt, alloc, &job, captures, &mut writer);
@@ -192,7 +222,7 @@ fn a_job_finds_a_difference(rt: HostRuntime) {
     finds(
         &rt,
         alloc,
-        Task::Diff,
+        (Task::Diff, false),
         same.as_slice(),
         text,
         Finding::Nothing,
@@ -201,24 +231,33 @@ fn a_job_finds_a_difference(rt: HostRuntime) {
     finds(
         &rt,
         alloc,
-        Task::Diff,
+        (Task::Diff, false),
         other.as_slice(),
         ENDED,
         Finding::Difference,
     );
 }
 
+// A task and whether its lines have a digest, and what is printed of a capture whose record is cut, and of a whole one.
+const NOT_WHOLE: [((Task, bool), &str); 3] = [
+    ((Task::Check, false), CHECKS),
+    ((Task::Check, true), DIGEST_CHECKS),
+    ((Task::Digest, false), DIGESTS),
+];
+
 #[test]
 fn a_job_finds_a_file_that_is_not_whole(rt: HostRuntime) {
     let files = [CUT_PCAP, CARRY_PCAP];
-    finds(
-        &rt,
-        rt.alloc(),
-        Task::Check,
-        files.as_slice(),
-        CHECKS,
-        Finding::NotWhole,
-    );
+    for (task, text) in &NOT_WHOLE {
+        finds(
+            &rt,
+            rt.alloc(),
+            *task,
+            files.as_slice(),
+            *text,
+            Finding::NotWhole,
+        );
+    }
 }
 
 // What a job writes.
@@ -240,6 +279,9 @@ fn writes(rt: &impl Abort, alloc: Global, row: &Written) {
         json: false,
         data: None,
         ignored: NOTHING_IGNORED,
+        list: None,
+        class: false,
+        digests: false,
         names: false,
     };
     let mut writer = room_of(rt, alloc, 1024);

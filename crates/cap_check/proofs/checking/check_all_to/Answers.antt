@@ -16,7 +16,7 @@ loop-source-init g c = record {
   failed = search rules;
   told = λ t. t;
   cannot = λ f. f;
-  printed = λ w. printed-none _ _ _ _;
+  printed = λ w. printed-none _ _ _ _ _;
 }
 
 pub returns-in_err-are_whole-clause-text : goal.returns-in_err-are_whole-clause-text
@@ -40,12 +40,12 @@ returns-in_err-are_whole-clause-text g c = λ w.
     let before = take n (map opened all) in
     let files = taken-length opened all n (omega (arith, turn.0)) in
     rw (p.1, p.2)
-    (subst (λ l. WritesChecks c.args.form c.args.tail no_names l (g.W.Sink.held c.args.writer.now)
+    (subst (λ l. WritesChecks c.args.which c.args.form c.args.tail no_names l (g.W.Sink.held c.args.writer.now)
     (Err c.in_err-are_whole.field-0.0) (g.W.Sink.held c.check_to.new.writer)) (all-are opened all n x turn.1 turn.0)
-    (printed-fault c.args.form c.args.tail no_names before (drop (suc n) (map opened all)) (opened x)
+    (printed-fault c.args.which c.args.form c.args.tail no_names before (drop (suc n) (map opened all)) (opened x)
     c.loop-source.are_whole c.in_err-are_whole.field-0.0 (g.W.Sink.held c.args.writer.now)
     (g.W.Sink.held c.loop-source.writer) (g.W.Sink.held c.check_to.new.writer) (i.printed w)
-    (subst (λ (file : ℕ). WritesCheck c.args.form c.args.tail file [] (opened x)
+    (subst (λ (file : ℕ). WritesCheck c.args.which c.args.form c.args.tail file [] (opened x)
     (g.W.Sink.held c.loop-source.writer) (Err c.in_err-are_whole.field-0.0) (g.W.Sink.held c.check_to.new.writer))
     (omega (arith, i.number, files)) (c.in_err-are_whole.ensures.text (i.told w)))))
 
@@ -78,10 +78,10 @@ loop-source-preserved g c =
           let before = take n (map opened all) in
           let files = taken-length opened all n (omega (arith, turn.0)) in
           rw (longer, taken-more opened all n x turn.1 turn.0)
-          (printed-more c.args.form c.args.tail no_names before (opened x) c.loop-source.are_whole _
+          (printed-more c.args.which c.args.form c.args.tail no_names before (opened x) c.loop-source.are_whole _
           (g.W.Sink.held c.args.writer.now) (g.W.Sink.held c.loop-source.writer) (g.W.Sink.held c.check_to.new.writer)
           (i.printed w)
-          (subst (λ (file : ℕ). WritesCheck c.args.form c.args.tail file [] (opened x)
+          (subst (λ (file : ℕ). WritesCheck c.args.which c.args.form c.args.tail file [] (opened x)
           (g.W.Sink.held c.loop-source.writer) (Ok c.in_ok-are_whole.field-0) (g.W.Sink.held c.check_to.new.writer))
           (omega (arith, i.number, files)) (e.text (i.told w))));
     }
@@ -101,7 +101,7 @@ returns-clause-text g c = λ w.
       bytes = g.R.Source.coming s;
       can_fail = g.R.Device.can_fail s;
     }) in
-    subst (λ l. WritesChecks c.args.form c.args.tail no_names l (g.W.Sink.held c.args.writer.now)
+    subst (λ l. WritesChecks c.args.which c.args.form c.args.tail no_names l (g.W.Sink.held c.args.writer.now)
     (Ok c.loop-source.are_whole) (g.W.Sink.held c.loop-source.writer))
     (take_all (length c.loop-source.yielded) (map opened all) (omega (arith, ends.1, length-map all opened)))
-    (printed-all c.args.form c.args.tail no_names _ c.loop-source.are_whole _ _ (i.printed w))
+    (printed-all c.args.which c.args.form c.args.tail no_names _ c.loop-source.are_whole _ _ (i.printed w))

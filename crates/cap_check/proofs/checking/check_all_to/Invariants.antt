@@ -10,7 +10,7 @@ invariant-loop-source g l = record {
   failed : g.W.Device.has_failed l.writer ≡ g.W.Device.has_failed l.fn.writer;
   told : IsTrue (g.W.Sink.tells_held l.fn.writer) → IsTrue (g.W.Sink.tells_held l.writer);
   cannot : IsTrue (g.W.Device.can_fail l.writer) → IsTrue (g.W.Device.can_fail l.fn.writer);
-  printed : IsTrue (g.W.Sink.tells_held l.fn.writer) → ArePrinted l.form l.tail no_names
+  printed : IsTrue (g.W.Sink.tells_held l.fn.writer) → ArePrinted l.which l.form l.tail no_names
       (take (length l.yielded) (map (λ s. Some (record {
         told = g.R.Source.tells_coming s;
         bytes = g.R.Source.coming s;

@@ -15,7 +15,8 @@ returns-in_err-put_all-clause-text g c = λ w.
     let line = difference_line c.args.options.form c.args.n (difference_words c.args.options.ignored a b) in
     rw (p.1, p.2)
     (Prints-head None (g.W.Sink.held c.args.writer.now) (g.W.Sink.held c.put_all.new.writer) (line place)
-    (sides_in c.args.options.form c.args.options.most c.args.n (row_start place) a b) c.in_err-put_all.field-0.0
+    (sides_in c.args.options.form c.args.options.most c.args.n (row_start place) c.args.cuts a b)
+    c.in_err-put_all.field-0.0
     c.in_err-put_all.ensures.fault
     (rw (c.as_slice.ensures.value ∙ (c.head_line-line.ensures ∙ ap line c.data_place-place.ensures)) at
     (c.in_err-put_all.ensures.bytes w)))
@@ -30,7 +31,7 @@ returns-clause-text g c = λ w.
     let new = g.W.Sink.held c.put_sides.new.writer in
     let from_is : c.row_start.result ≡ row_start place =
     c.row_start.ensures ∙ ap row_start c.data_place-place.ensures in
-    let sides = λ (from : ℕ). sides_in c.args.options.form c.args.options.most c.args.n from a b in
+    let sides = λ (from : ℕ). sides_in c.args.options.form c.args.options.most c.args.n from c.args.cuts a b in
     Prints-behind None (g.W.Sink.held c.args.writer.now) mid new (line place) (sides (row_start place))
     c.put_sides.result
     (rw (c.as_slice.ensures.value ∙ (c.head_line-line.ensures ∙ ap line c.data_place-place.ensures)) at

@@ -15,8 +15,8 @@ returns-in_err-put_side-clause-text g c = λ w.
     let side = side_in a.form a.shown.most a.n a.shown.from in
     rw (p.1, p.2)
     (Prints-more (g.W.Sink.held a.writer.now) (g.W.Sink.held c.put_side.new.writer)
-    (before_side a.form (codes "-") a.shown.from ++ side one)
-    (before_side a.form (codes "+") a.shown.from ++ side other) c.in_err-put_side.field-0.0
+    (before_side a.form (codes "-") a.shown.from ++ side a.cuts.first one)
+    (before_side a.form (codes "+") a.shown.from ++ side a.cuts.second other) c.in_err-put_side.field-0.0
     c.in_err-put_side.ensures.fault (c.in_err-put_side.ensures.text w))
 
 pub returns-clause-text : goal.returns-clause-text
@@ -26,6 +26,6 @@ returns-clause-text g c = λ w.
     let other = compared_of a.divergence.now.second (g.F.PacketFeed.feed a.second.now).frame in
     let side = side_in a.form a.shown.most a.n a.shown.from in
     Prints-behind None (g.W.Sink.held a.writer.now) (g.W.Sink.held c.put_side.new.writer)
-    (g.W.Sink.held c.put_side-2.new.writer) (before_side a.form (codes "-") a.shown.from ++ side one)
-    (before_side a.form (codes "+") a.shown.from ++ side other) c.put_side-2.result
+    (g.W.Sink.held c.put_side-2.new.writer) (before_side a.form (codes "-") a.shown.from ++ side a.cuts.first one)
+    (before_side a.form (codes "+") a.shown.from ++ side a.cuts.second other) c.put_side-2.result
     (c.in_ok-put_side.ensures.text w).1 (c.put_side-2.ensures.text (c.in_ok-put_side.ensures.writer.told w))

@@ -20,7 +20,7 @@ invariant-loop-rest g l =
       failed = g.W.Device.has_failed new;
       can_fail = g.W.Device.can_fail new;
     })
-    (packet_rest l.fn.form l.fn.is_inner l.fn.bytes) (packet_rest l.fn.form l.fn.is_inner l.rest)
+    (packet_rest l.fn.form l.fn.behind l.fn.bytes) (packet_rest l.fn.form l.fn.behind l.rest)
     × (g.W.Device.has_failed new ≡ g.W.Device.has_failed old)
 
 abbrev pub decreases-loop-rest : goal.decreases-loop-rest

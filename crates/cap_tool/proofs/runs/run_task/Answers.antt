@@ -2,8 +2,8 @@ use Rattle.std.proofs.Common.{true, false}
 use Rattle.cap_tool.proofs.Running.{runs-which}
 use Rattle.cap_tool.proofs.runs.run_task.Goals as goal
 
-pub returns-then-is_check-clause-runs : goal.returns-then-is_check-clause-runs
-returns-then-is_check-clause-runs g c =
+pub returns-then-is_surveying-clause-runs : goal.returns-then-is_surveying-clause-runs
+returns-then-is_surveying-clause-runs g c =
     runs-which (g.S.Opener.gives c.args.system.now) (λ s. record {
       told = g.S.Reader.Source.tells_coming s;
       bytes = g.S.Reader.Source.coming s;
@@ -14,10 +14,11 @@ returns-then-is_check-clause-runs g c =
       waiting = g.S.Writer.Outlet.waiting w;
     }) (g.S.System.commits c.args.system.now) (g.S.System.lacks_input c.args.system.now) c.args.job.now
     c.run_checks.result
-    c.is_check.result true c.is_check.ensures c.if-is_check.true c.run_checks.ensures.runs
+    c.is_surveying.result true c.is_surveying.ensures c.if-is_surveying.true
+    (rw c.as_slice-names.ensures.value at c.run_checks.ensures.runs)
 
-pub returns-else-is_check-clause-runs : goal.returns-else-is_check-clause-runs
-returns-else-is_check-clause-runs g c =
+pub returns-else-is_surveying-clause-runs : goal.returns-else-is_surveying-clause-runs
+returns-else-is_surveying-clause-runs g c =
     runs-which (g.S.Opener.gives c.args.system.now) (λ s. record {
       told = g.S.Reader.Source.tells_coming s;
       bytes = g.S.Reader.Source.coming s;
@@ -28,4 +29,4 @@ returns-else-is_check-clause-runs g c =
       waiting = g.S.Writer.Outlet.waiting w;
     }) (g.S.System.commits c.args.system.now) (g.S.System.lacks_input c.args.system.now) c.args.job.now
     c.run_files.result
-    c.is_check.result false c.is_check.ensures c.if-is_check.false c.run_files.ensures.runs
+    c.is_surveying.result false c.is_surveying.ensures c.if-is_surveying.false c.run_files.ensures.runs
