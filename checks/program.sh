@@ -444,7 +444,15 @@ counted 'blocks that no one asks for' '' merge -o "$work/new" "$many" "$back"
 run info --explain "$many"; check 'blocks that info counts' 0 '*' ''
 run merge --explain -o "$work/new" "$many" "$back" "$work/cut.pcap"; check 'blocks before a refusal' 1 '' "refused: file 3 offset 24 rule 3 cut
   $work/cut.pcap: it is cut off: --allow-cut drops a last record or block"
-counted 'blocks and a cut end' 'not carried on: 8 blocks' merge --explain --allow-cut -o "$work/new" "$many" "$work/cut.pcap"
+counted 'blocks and a cut end' 'not carried on: 8 blocks
+cut: file 2 offset 24, 19 bytes dropped' merge --explain --allow-cut -o "$work/new" "$many" "$work/cut.pcap"
+counted 'cut ends' 'cut: file 1 offset 24, 19 bytes dropped
+cut: file 3 offset 24, 1 byte dropped' merge --explain --allow-cut -o "$work/new" "$work/cut.pcap" "$one" <(head -c 25 "$one")
+counted 'a cut end, converted' 'cut: file 1 offset 24, 19 bytes dropped' convert --explain --allow-cut --to pcapng -o "$work/new" "$work/cut.pcap"
+counted 'a cut end, joined' 'cut: file 1 offset 24, 19 bytes dropped' join --explain --allow-cut -o "$work/new" "$work/cut.pcap"
+counted 'a cut end, listed' 'cut: file 1 offset 24, 19 bytes dropped' list --explain --allow-cut "$work/cut.pcap"
+counted 'a cut end, as an object' '{"type":"cut","file":1,"offset":24,"bytes":19,"path":"'"$work/cut.pcap"'"}' list --json --explain --allow-cut "$work/cut.pcap"
+counted 'a cut end that no one asks for' '' list --allow-cut "$work/cut.pcap"
 run merge --explain -o - "$many"; check 'blocks, on standard output' 0 '*' 'not carried on: 8 blocks'
 run merge --explain -o /dev/full "$many"; check 'blocks and a full disk' 1 '' 'fault: write
   /dev/full: No space left on device (os error 28)'
@@ -481,6 +489,7 @@ if command -v script > /dev/null; then
     shown 'blocks and packets at a terminal' 'not carried on: 8 blocks
 ran back: 1 packet' merge -o new "$many" "$back"
     shown 'a block at a terminal' 'not carried on: 1 block, names of 1 interface' convert --to pcapng -o new "$one_skipped"
+    shown 'a cut end at a terminal' 'cut: file 1 offset 24, 19 bytes dropped' list --allow-cut cut.pcap
     shown 'nothing to tell at a terminal' '' join -o new one.pcap
     (cd "$work" && script -qec "$(printf '%q ' "$program" merge -o - "$many") | cat > written" /dev/null) < /dev/null | tr -d '\r' > "$work/shown"
     if [ "$(cat "$work/shown")" = 'not carried on: 8 blocks' ]; then passed=$((passed + 1)); else failed=$((failed + 1)); echo 'blocks through a pipe at a terminal'; cat "$work/shown"; fi

@@ -105,6 +105,12 @@ IsHeader-same block offset later xs zs f front at =
     subst (λ (n : ℕ). IsHeader block n zs) (sym at)
     (subst (λ (l : List ℕ). IsHeader block offset l) whole (IsHeader-append block offset xs (drop (length xs) zs) f))
 
+-- a block that is there is not cut
+not_cut : (order : Order) (bytes : List ℕ) → total_at order bytes ≤ length bytes → body_fault order bytes ≡ Some Cut
+    → ⊥
+unfolding body_fault
+not_cut order bytes whole cut = grind (arith, there)
+
 -- a block of a known kind is shown whole
 pub SeesBody-known : (block : Block) (old new : WindowState) (fault : Option Rule) → IsHeader block old.offset old.shown
     → is_known_kind block.kind ≡ true
@@ -119,6 +125,7 @@ SeesBody-known block old new fault f known n is =
           (omega (arith, later.total, n.1))
           (λ section. omega (arith, later.total, total-section block.kind block.total f.allowed (later.kind ∙ section)))
           ∙ sym is);
+      all_read = λ t cut. absurd (not_cut block.order new.shown (omega (arith, later.total, n.1)) (sym is ∙ cut));
       left = λ none. rw known (n.0.offset, n.1, n.0.coming_same);
     }
 
@@ -131,6 +138,7 @@ SeesBody-cut block old new f n =
       goes = n.0.goes;
       told_fault = λ t. ap (body_fault block.order) (all_shown old new n.0 n.2 t)
           ∙ body_fault-cut block.order new.shown (omega (arith, later.total, n.1));
+      all_read = λ t cut. omega (arith, n.0.offset, ap length (all_shown old new n.0 n.2 t));
       left = λ none. absurd (cc);
     }
 
@@ -200,6 +208,7 @@ SeesBody-skipped block old mid new last f unknown d told n trailer p = record {
       body_fault-whole block.order (coming old) e.0 (e.1 ∙ (trailer ∙ skipped_total block old f))
       (no_version block.order (coming old) (λ section. unknown_section block.kind unknown (skipped_kind block old f
       ∙ section)));
+  all_read = λ t cut. absurd (cc);
   left = λ none. rw unknown (
     omega (arith, p.offset, n.0.offset, d.offset, f.least),
     λ t. ap (λ l. l ++ last.unread) p.shown ∙ (ap (λ l. drop 4 new.shown ++ l) p.unread

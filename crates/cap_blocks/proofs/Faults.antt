@@ -72,6 +72,26 @@ pub header_fault-fields : (section : Option Order) (offset : ℕ) (bytes : List 
     → block_header_fault section offset bytes ≡ fields_fault (block_order_at section bytes) offset bytes
 header_fault-fields section offset bytes is = rw is refl
 
+-- the first 12 bytes aren't cut if they are there
+fields-not_cut : (order : Order) (offset : ℕ) (bytes : List ℕ) → 12 ≤ length bytes
+    → fields_fault order offset bytes ≡ Some Cut → ⊥
+unfolding fields_fault
+fields-not_cut order offset bytes head cut = grind (arith, nat_tests)
+
+first-not_cut : (section : Option Order) (bytes : List ℕ) → 12 ≤ length bytes → first_fault section bytes ≡ Some Cut
+    → ⊥
+unfolding first_fault
+first-not_cut section bytes head cut = grind (arith, nat_tests)
+
+either-not_cut : (a b : Option Rule) → (a ≡ Some Cut → ⊥) → (b ≡ Some Cut → ⊥) → first_of_rules a b ≡ Some Cut → ⊥
+either-not_cut a b one other cut = grind arith
+
+pub header-not_cut : (section : Option Order) (offset : ℕ) (bytes : List ℕ) → 12 ≤ length bytes
+    → block_header_fault section offset bytes ≡ Some Cut → ⊥
+header-not_cut section offset bytes head cut =
+    either-not_cut (first_fault section bytes) (fields_fault (block_order_at section bytes) offset bytes)
+    (first-not_cut section bytes head) (fields-not_cut (block_order_at section bytes) offset bytes head) cut
+
 -- a first block that isn't refused so is a section header
 pub first_fault-section : (bytes : List ℕ) → first_fault None bytes ≡ None → is_section bytes ≡ true
 unfolding first_fault

@@ -1,6 +1,7 @@
 -- A look at a block's header, and then one at its body.
-use Rattle.std.proofs.Common.{◌≡◌, ℕ, ◌<◌, List, length, Option, Some, None, is_some, Bool, IsTrue, Ok, Err, ◌+◌, ◌≤◌}
-use Rattle.std.proofs.Common.{true, drop, inr, refl, sym, ◌∙◌, ap, subst, arith, length-append, length-drop}
+use Rattle.std.proofs.Common.{◌≡◌, ℕ, ◌<◌, List, length, Option, Some, None, is_some, Bool, IsTrue, Ok, Err}
+use Rattle.std.proofs.Common.{◌+◌, ◌-◌, ◌≤◌, true, drop, inr, refl, sym, ◌∙◌, ap, subst, arith}
+use Rattle.std.proofs.Common.{length-append, length-drop}
 use Rattle.cap_bytes.specs.Items.{stop_by}
 use Rattle.cap_bytes.specs.inner.Parsing.{SeesStop, FailsBy}
 use Rattle.std.proofs.lemmas.List.{take_all}
@@ -73,12 +74,13 @@ pub SeesStop-body : (section : Option Order) (tail : Tail) (block : Block) (rule
     → SeesBlockHeader section block a b
     → (IsTrue a.told → IsTrue b.told) → SeesBody block (Some rule) b c
     → SeesStop (is_some section) (block_fault section a.offset (coming a)) tail
-    (stop_by (is_some section) tail a.file a.offset rule) a c
+    (stop_by (is_some section) tail a.file a.offset (read_to c - a.offset) rule) a c
 SeesStop-body section tail block rule a b c f told r =
-    SeesStop-fault (is_some section) _ tail rule a c (Goes-trans a b c f.shows.goes r.goes)
+    SeesStop-fault (is_some section) _ tail (read_to c - a.offset) rule a c (Goes-trans a b c f.shows.goes r.goes)
     (some_left (is_some section) a b f.shows (omega (arith, f.header.head)))
     (λ t. block_fault-body section a.offset (coming a) (Some rule) (f.none t)
     (body_told section block (Some rule) a b c f told r t))
+    (λ t cut. omega (arith, f.shows.offset, r.all_read (told t) (ap Some cut), ap length (f.shows.coming_same t)))
 
 -- a fault in the second look
 pub FailsBy-body : (section : Option Order) (block : Block) (a b c : WindowState) (fault : Fault)

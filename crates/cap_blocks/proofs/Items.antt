@@ -31,7 +31,8 @@ items_from-none section tail file offset some = search (items_from-stop, stop_wh
 -- At a fault they end by it.
 pub items_from-fault : (section : Option Order) (tail : Tail) (file offset : ℕ) (bytes : List ℕ) (rule : Rule)
     → (is_some section && (length bytes == 0)) ≡ false → block_fault section offset bytes ≡ Some rule
-    → block_items_from section tail file offset bytes ≡ stopped (stop_by (is_some section) tail file offset rule) ∷ []
+    → block_items_from section tail file offset bytes
+    ≡ stopped (stop_by (is_some section) tail file offset (length bytes) rule) ∷ []
 items_from-fault section tail file offset bytes rule some fault = search (items_from-stop, is_some, stop_where-fault)
 
 -- A block is the first item, and those of the bytes after it follow, in its order.

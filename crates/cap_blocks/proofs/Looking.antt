@@ -15,7 +15,7 @@ use Rattle.cap_blocks.specs.Split.{is_section, own_order, block_order_at, block_
 use Rattle.cap_blocks.specs.declared.blocks.Block.{Block}
 use Rattle.cap_bytes.specs.declared.stops.Stop.TheVariants as stops
 use Rattle.cap_blocks.proofs.Faults.{total-least, FieldsFit-from_header, header_fault-append, block_at-append}
-use Rattle.cap_blocks.proofs.Faults.{block_fault-header}
+use Rattle.cap_blocks.proofs.Faults.{block_fault-header, header-not_cut}
 
 -- a section header's order is its own
 pub FindsOrder-own : (section : Option Order) (bytes : List ℕ) (found : Option Order)
@@ -43,18 +43,20 @@ pub SeesStop-header : (there : Bool) (section : Option Order) (tail : Tail) (old
     → Needs 12 old (Ok there) new
     → (is_some section && (length new.shown == 0)) ≡ false → block_header_fault section old.offset new.shown ≡ Some rule
     → SeesStop (is_some section) (block_fault section old.offset (coming old)) tail
-    (stop_by (is_some section) tail old.file old.offset rule) old new
+    (stop_by (is_some section) tail old.file old.offset (length new.shown) rule) old new
 SeesStop-header true section tail old new rule n some fault =
-    SeesStop-fault (is_some section) _ tail rule old new n.0.goes
+    SeesStop-fault (is_some section) _ tail (length new.shown) rule old new n.0.goes
     (some_left (is_some section) old new n.0 (omega (arith, n.1)))
     (λ t. ap (block_fault section old.offset) (sym (n.0.coming_same t))
     ∙ block_fault-header section old.offset (coming new) rule
     (header_fault-append section old.offset new.shown new.unread n.1 ∙ fault))
+    (λ t cut. absurd (header-not_cut section old.offset new.shown n.1 (fault ∙ ap Some cut)))
 SeesStop-header false section tail old new rule n some fault =
-    SeesStop-fault (is_some section) _ tail rule old new n.0.goes
+    SeesStop-fault (is_some section) _ tail (length new.shown) rule old new n.0.goes
     (λ t. ap (λ l. is_some section && (length l == 0)) (all_shown old new n.0 n.2 t) ∙ some)
     (λ t. ap (block_fault section old.offset) (all_shown old new n.0 n.2 t)
     ∙ block_fault-header section old.offset new.shown rule fault)
+    (λ t cut. ap length (all_shown old new n.0 n.2 t))
 
 -- no block is there, since nothing is
 ends_now : (section : Option Order) (xs : List ℕ) → (is_some section && (length xs == 0)) ≡ true

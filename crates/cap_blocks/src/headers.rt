@@ -158,6 +158,14 @@ pub fn look_at_header<R: Source>(
     }
     match find_block_header(section, offset, window.bytes()) {
         Ok(block) => Ok(Ok(block)),
-        Err(rule) => Ok(Err(Stop::by(section.is_some(), tail, Refusal { file, offset, rule }))),
+        Err(rule) => {
+            let size = window.bytes().len() as u64;
+            Ok(Err(Stop::by(
+                section.is_some(),
+                tail,
+                Refusal { file, offset, rule },
+                size,
+            )))
+        }
     }
 }

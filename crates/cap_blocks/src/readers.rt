@@ -1,5 +1,6 @@
 //! A reader of pcapng files.
-ghost use Rattle.std.specs.Prelude.{◌≡◌, ◌↔◌, ◌≤◌, ◌+◌, ◌^◌, length, IsTrue, IsSome, IsNone, IfSome, OnSome, Some, Ok};
+ghost use Rattle.std.specs.Prelude.{◌≡◌, ◌≤◌, ◌+◌, ◌^◌, length, IsTrue, IsSome, IsNone, IfSome, OnSome, Some, Ok};
+ghost use Rattle.cap_bytes.specs.Items.{cut_by};
 ghost use Rattle.cap_bytes.specs.inner.Reach.{Reaches, size_found};
 ghost use Rattle.cap_bytes.specs.inner.Reader.{opened_reader, ReaderKeeps, HasWindow};
 ghost use Rattle.cap_blocks.specs.inner.Reader.{GivesNextBlock, ReachesBlock, TakesBlock, block_size, shown_block_size};
@@ -13,7 +14,7 @@ ghost use Rattle.cap_bytes.specs.declared.faults.Tail.{Tail};
 use crate::blocks::{Block, is_known};
 use crate::bodies::{body_rule, look_at_body};
 use crate::headers::{FRAME_SIZE, enhanced_at, look_at_header};
-use cap_bytes::{FILE_LIMIT, Fault, Order, Refusal, Source, Stop, Tail, Window};
+use cap_bytes::{CutRest, FILE_LIMIT, Fault, Order, Refusal, Source, Stop, Tail, Window};
 use std::marker::Model;
 
 // How many bytes of a block stand in front of its body.
@@ -64,7 +65,15 @@ fn look_for_block<R: Source>(
     let offset = block.offset;
     match look_at_body(window, block)? {
         None => Ok(Ok(block)),
-        Some(rule) => Ok(Err(Stop::by(section.is_some(), tail, Refusal { file, offset, rule }))),
+        Some(rule) => {
+            let size = window.read_to() - offset;
+            Ok(Err(Stop::by(
+                section.is_some(),
+                tail,
+                Refusal { file, offset, rule },
+                size,
+            )))
+        }
     }
 }
 
@@ -210,11 +219,14 @@ impl<R: Source> BlockReader<R> {
         behind.split_at(total - FRAME_SIZE).0
     }
 
-    /// Whether the file ended in a rest that was cut, and that was dropped.
-    pub fn was_cut(&self) -> bool
-        ensures cut { IsTrue result ↔ (self.now.stop ≡ Some Stop.Cut) }
+    /// The rest of the file that was cut, and that was dropped, if it ended so.
+    pub fn cut(&self) -> Option<CutRest>
+        ensures cut { result ≡ cut_by self.now.stop }
     {
-        matches!(self.stop, Some(Stop::Cut))
+        match self.stop {
+            Some(stop) => stop.cut(),
+            None => None,
+        }
     }
 
     /// The window by which the file is read.

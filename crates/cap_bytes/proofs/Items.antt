@@ -5,6 +5,7 @@ use Rattle.cap_bytes.specs.Items.{stop_by, stop_where, IsStopAt, given, stopped,
 use Rattle.cap_bytes.specs.Items.{piece_items}
 use Rattle.cap_bytes.specs.declared.faults.Refusal.{Refusal}
 use Rattle.cap_bytes.specs.declared.faults.Rule.{Rule}
+use Rattle.cap_bytes.specs.declared.faults.Rule.TheVariants.{Cut}
 use Rattle.cap_bytes.specs.declared.faults.Tail.{Tail}
 use Rattle.cap_bytes.specs.declared.stops.Stop.{Stop}
 use Rattle.cap_bytes.specs.declared.stops.Stop.TheVariants as stops
@@ -22,7 +23,7 @@ stop_where-end inside tail file offset fault is = rw is refl
 pub stop_where-fault : (inside : Bool) (tail : Tail) (file offset : ℕ) (bytes : List ℕ) (fault : Option Rule)
     (rule : Rule)
     → (inside && (length bytes == 0)) ≡ false → fault ≡ Some rule
-    → stop_where inside tail file offset bytes fault ≡ Some (stop_by inside tail file offset rule)
+    → stop_where inside tail file offset bytes fault ≡ Some (stop_by inside tail file offset (length bytes) rule)
 unfolding stop_where
 stop_where-fault inside tail file offset bytes fault rule some is = rw (some, is) refl
 
@@ -46,9 +47,14 @@ unfolding stop_where
 rule_told tail file offset bytes fault refusal h = grind arith
 
 -- a rule is told with its file and place
-pub IsStopAt-stop_by : (inside : Bool) (tail : Tail) (file offset : ℕ) (rule : Rule)
-    → IsStopAt inside tail file offset (stop_by inside tail file offset rule)
-IsStopAt-stop_by inside tail file offset rule = grind arith
+pub IsStopAt-stop_by : (inside : Bool) (tail : Tail) (file offset size : ℕ) (rule : Rule)
+    → IsStopAt inside tail file offset (stop_by inside tail file offset size rule)
+IsStopAt-stop_by inside tail file offset size rule = grind arith
+
+-- the size is that of a rest that is cut
+pub stop_by-sized : (inside : Bool) (tail : Tail) (file offset n m : ℕ) (rule : Rule) → (rule ≡ Cut → n ≡ m)
+    → stop_by inside tail file offset n rule ≡ stop_by inside tail file offset m rule
+stop_by-sized inside tail file offset n m rule same = grind arith
 
 -- a piece takes bytes, which are there, if nothing ends the pieces
 abbrev pub Advances : {K P : Type 0} → PieceFormat K P → Type 0

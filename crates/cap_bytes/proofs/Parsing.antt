@@ -8,9 +8,10 @@ use Rattle.cap_bytes.specs.inner.Parsing.{FailsBy, SeesStop}
 use Rattle.cap_bytes.specs.inner.Window.{WindowState, WindowGoes, WindowShows, Needs, WindowPasses, coming}
 use Rattle.cap_bytes.specs.declared.faults.Fault.{Fault}
 use Rattle.cap_bytes.specs.declared.faults.Rule.{Rule}
+use Rattle.cap_bytes.specs.declared.faults.Rule.TheVariants.{Cut}
 use Rattle.cap_bytes.specs.declared.faults.Tail.{Tail}
 use Rattle.cap_bytes.specs.declared.stops.Stop.TheVariants as stops
-use Rattle.cap_bytes.proofs.Items.{stop_where-end, stop_where-fault, IsStopAt-stop_by}
+use Rattle.cap_bytes.proofs.Items.{stop_where-end, stop_where-fault, stop_by-sized, IsStopAt-stop_by}
 
 -- an option that is no `Some`
 pub none_from : {A : Type 0} (o : Option A) → ((x : A) → o ≡ Some x → ⊥) → o ≡ None
@@ -63,11 +64,18 @@ pub some_left : (inside : Bool) (old new : WindowState) → WindowShows old new 
 some_left inside old new s some t = grind (arith, length-append)
 
 -- no piece is there, since a rule is broken
-pub SeesStop-fault : (inside : Bool) (fault : Option Rule) (tail : Tail) (rule : Rule) (old new : WindowState)
+pub SeesStop-fault : (inside : Bool) (fault : Option Rule) (tail : Tail) (size : ℕ) (rule : Rule)
+    (old new : WindowState)
     → WindowGoes old new
     → (IsTrue old.told → (inside && (length (coming old) == 0)) ≡ false) → (IsTrue old.told → fault ≡ Some rule)
-    → SeesStop inside fault tail (stop_by inside tail old.file old.offset rule) old new
-SeesStop-fault inside fault tail rule old new goes some is = search (IsStopAt-stop_by, stop_where-fault)
+    → (IsTrue old.told → rule ≡ Cut → length (coming old) ≡ size)
+    → SeesStop inside fault tail (stop_by inside tail old.file old.offset size rule) old new
+SeesStop-fault inside fault tail size rule old new goes some is sized = record {
+  goes = goes;
+  is_stop = IsStopAt-stop_by inside tail old.file old.offset size rule;
+  told_stop = λ t. stop_where-fault inside tail old.file old.offset (coming old) fault rule (some t) (is t)
+      ∙ ap Some (stop_by-sized inside tail old.file old.offset (length (coming old)) size rule (sized t));
+}
 
 -- none is there, since no bytes are left
 pub SeesStop-end : (inside : Bool) (fault : Option Rule) (tail : Tail) (old new : WindowState) → WindowGoes old new

@@ -7,39 +7,52 @@ use Rattle.cap_bytes.specs.declared.faults.Rule.{Rule}
 use Rattle.cap_bytes.specs.declared.faults.Rule.TheVariants.{Cut}
 use Rattle.cap_bytes.specs.declared.faults.Tail.{Tail}
 use Rattle.cap_bytes.specs.declared.faults.Tail.TheVariants.{Accept}
+use Rattle.cap_bytes.specs.declared.stops.CutRest.{CutRest}
 use Rattle.cap_bytes.specs.declared.stops.Stop.{Stop}
 use Rattle.cap_bytes.specs.declared.stops.Stop.TheVariants as stops
 
--- What ends the pieces if a rule is broken: a rest that is cut is dropped if that is asked for, but only
--- inside a file, after what it begins with.
-abbrev pub stop_by : Bool → Tail → ℕ → ℕ → Rule → Stop
-stop_by true Accept file offset Cut = stops.Cut
-stop_by inside tail file offset rule = stops.Refused (record { file = file; offset = offset; rule = rule })
+-- What ends the pieces if a rule is broken by the rest of a file, of that size: a rest that is cut is dropped if that
+-- is asked for, but only inside a file, after what it begins with.
+abbrev pub stop_by : Bool → Tail → ℕ → ℕ → ℕ → Rule → Stop
+stop_by true Accept file offset size Cut = stops.Cut (record { offset = offset; size = size })
+stop_by inside tail file offset size rule = stops.Refused (record { file = file; offset = offset; rule = rule })
 
 -- What ends them at some bytes, which begin at `offset` and meet that condition, if one: inside a file no bytes are
 -- left, or a rule is broken.
 unfoldable pub stop_where : Bool → Tail → ℕ → ℕ → List ℕ → Option Rule → Option Stop
 stop_where inside tail file offset bytes fault =
-    if inside && (length bytes == 0) then Some stops.End else option_map (stop_by inside tail file offset) fault
+    if inside && (length bytes == 0) then Some stops.End else
+    option_map (stop_by inside tail file offset (length bytes)) fault
 
 -- What may end the pieces of the bytes from `offset` on: they end, or a rest that is cut is dropped, only inside a
 -- file; and such a rest is dropped if that is asked for, and refused if it isn't.
 abbrev pub IsStopAt : Bool → Tail → ℕ → ℕ → Stop → Type 0
 IsStopAt inside tail file offset stops.End = IsTrue inside
-IsStopAt inside tail file offset stops.Cut = IsTrue inside × (tail ≡ Accept)
+IsStopAt inside tail file offset (stops.Cut rest) = IsTrue inside × (tail ≡ Accept) × (rest.offset ≡ offset)
 IsStopAt inside tail file offset (stops.Refused refusal) =
     (refusal.file ≡ file) × (refusal.offset ≡ offset) × (IsTrue inside → tail ≡ Accept → refusal.rule ≡ Cut → ⊥)
 
 -- The pieces end without a refusal.
 abbrev pub IsEnd : Stop → Type 0
 IsEnd stops.End = ⊤
-IsEnd stops.Cut = ⊤
+IsEnd (stops.Cut rest) = ⊤
 IsEnd (stops.Refused refusal) = ⊥
+
+-- the rest that is dropped there, if it is cut
+abbrev pub cut_of : Stop → Option CutRest
+cut_of stops.End = None
+cut_of (stops.Cut rest) = Some rest
+cut_of (stops.Refused refusal) = None
+
+-- the same, if something has ended the pieces
+abbrev pub cut_by : Option Stop → Option CutRest
+cut_by (Some stop) = cut_of stop
+cut_by None = None
 
 -- what a call for a piece returns there
 abbrev pub stop_answer : {P : Type 0} → Stop → Result (Option P) Fault
 stop_answer stops.End = Ok None
-stop_answer stops.Cut = Ok None
+stop_answer (stops.Cut rest) = Ok None
 stop_answer (stops.Refused refusal) = Err (Refused refusal)
 
 -- what comes of a file: its pieces with their bytes, and in the end what ended them

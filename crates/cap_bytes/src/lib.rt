@@ -18,6 +18,6 @@ pub use crate::formats::Format;
 pub use crate::limits::{FILE_LIMIT, PACKET_LIMIT};
 pub use crate::memory::{Pieces, Room};
 pub use crate::numbers::{Order, put_u16, put_u32, put_u64, u16_at, u32_at, u64_at};
-pub use crate::stops::Stop;
+pub use crate::stops::{CutRest, Stop};
 pub use crate::streams::Tracked;
 pub use crate::windows::Window;

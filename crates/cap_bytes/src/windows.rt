@@ -2,6 +2,7 @@
 ghost use Rattle.std.specs.Prelude.{◌≡◌, ◌+◌, ◌^◌, ◌≤◌, ◌<◌, IsSome, IsTrue, IfOk, ◌↔◌, None, length};
 ghost use Rattle.cap_bytes.specs.inner.SourceState.{source_of, IsWithin};
 ghost use Rattle.cap_bytes.specs.inner.Window.{opened_window, WindowKeeps, Needs, WindowPasses, Skips, FailsAt};
+ghost use Rattle.cap_bytes.specs.inner.Window.{read_to};
 
 use crate::buffers::{Filling, discard, make_room, read_on};
 use crate::devices::Source;
@@ -213,6 +214,13 @@ impl<R: Source> Window<R> {
         ensures limit { result ≤ 2 ^ 40 }
     {
         self.offset
+    }
+
+    /// Up to where the input was read: how many bytes were dropped, and are shown.
+    pub fn read_to(&self) -> u64
+        ensures { result ≡ read_to self.now }
+    {
+        self.offset + (self.end - self.start) as u64
     }
 
     /// The file's number.

@@ -93,7 +93,7 @@ stops-at old mid new checked offset i f = record {
   refusal = λ n. i.refusal offset (f.back n) ∙ refusal-none (mid.items offset) (f.items n);
   counts = λ n. sym (i.counts offset (f.back n) ∙ (ap (checked_after checked) (f.items n) ∙ after-none checked));
   so_far = λ n. f.so_far n ∙ ap Some (sym (i.ending offset (f.back n)));
-  whole = λ n. ap (λ (e : FileEnd). e.ending.was_cut) (i.ending offset (f.back n)) ∙ f.whole n;
+  whole = λ n. ap (λ (e : FileEnd). e.ending.cut) (i.ending offset (f.back n)) ∙ f.whole n;
 }
 
 pub Reaching-stops : (old mid new : Fronts) (checked : Checked) (fault : Fault) → Reaching old mid checked

@@ -1,6 +1,6 @@
 -- The line of a file that was checked: which line, and what it says.
 use Rattle.std.specs.Prelude.{◌≡◌, ◌==◌, ◌+◌, ◌<◌, ℕ, List, [], ◌∷◌, ◌++◌, codes, length, map, take, Bool, true, false}
-use Rattle.std.specs.Prelude.{Option, Some, None, option_map, if◌then◌else◌, Result, Ok, Err}
+use Rattle.std.specs.Prelude.{Option, Some, None, is_some, option_map, if◌then◌else◌, Result, Ok, Err}
 use Rattle.cap_bytes.specs.Printing.{PrintsFront}
 use Rattle.cap_bytes.specs.Rules.{rule_name, rule_number}
 use Rattle.cap_bytes.specs.declared.faults.Fault.{Fault}
@@ -51,7 +51,7 @@ end_interfaces None = 0
 -- offset; or it could not be opened
 abbrev pub end_fields : CheckEnd → List Field
 end_fields (Whole end) =
-    one (flagged (codes "whole") true) ∷ one (flagged (codes "cut") end.ending.was_cut) ∷ []
+    one (flagged (codes "whole") true) ∷ one (flagged (codes "cut") (is_some end.ending.cut)) ∷ []
 end_fields (Refusing refusal end) =
     group (codes "refused")
     (record { label = codes " refused offset "; key = codes "offset"; value = number refusal.offset })
@@ -102,7 +102,7 @@ count_facts which file check =
 
 -- what a line has that has the digest alone: what a whole file has, or how it ends
 abbrev pub digest_end_fields : Check → CheckEnd → List Field
-digest_end_fields check (Whole end) = whole_fields check.digest check.counts.packets end.ending.was_cut
+digest_end_fields check (Whole end) = whole_fields check.digest check.counts.packets (is_some end.ending.cut)
 digest_end_fields check (Refusing refusal end) = end_fields (Refusing refusal end)
 digest_end_fields check (Reading offset end) = end_fields (Reading offset end)
 digest_end_fields check Opening = end_fields Opening

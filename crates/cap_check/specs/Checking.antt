@@ -78,7 +78,7 @@ HasCounts tail file bytes counts end =
 -- failed in the header or in the first block, nothing was read.
 abbrev pub IsReadTo : Tail → ℕ → List ℕ → Checked → ℕ → Option FileEnd → Type 0
 IsReadTo tail file bytes counts offset (Some end) =
-    (offset ≤ length bytes) × (end.ending.was_cut ≡ false) × HasCounts tail file (take offset bytes) counts end
+    (offset ≤ length bytes) × (end.ending.cut ≡ None) × HasCounts tail file (take offset bytes) counts end
 IsReadTo tail file bytes counts offset None = (offset ≡ 0) × (counts ≡ nothing_checked)
 
 -- The file of that number with those bytes was read to its end, to its refusal, or to a read that failed.

@@ -60,7 +60,7 @@ fn end_of(form: Form, end: &CheckEnd) -> Line
     let mut line = Line::new();
     match end {
         CheckEnd::Whole(end) => {
-            line.put_flag(form, b"cut", end.ending.was_cut);
+            line.put_flag(form, b"cut", end.ending.cut.is_some());
             line.put_flag(form, b"whole", true);
         }
         CheckEnd::Refusing(refusal, _) => {
@@ -174,7 +174,7 @@ fn digest_part(form: Form, file: u32, check: &Check) -> Line
                 form,
                 &check.digest,
                 check.counts.packets,
-                end.ending.was_cut,
+                end.ending.cut.is_some(),
             )
         }
         CheckEnd::Refusing(_, _) | CheckEnd::Reading(_, _) | CheckEnd::Opening => end_of(

@@ -1,20 +1,22 @@
 -- The lines of a file's blocks, written one by one.
-use Rattle.std.proofs.Common.{◌≡◌, ℕ, ◌+◌, ◌^◌, ◌≤◌, List, ◌∷◌, ◌++◌, length, take, drop, Bool, IsTrue, Option, None}
-use Rattle.std.proofs.Common.{Ok, Err, refl, sym, ap, ◌∙◌, subst, arith, take_at, drop_at, append-nil, length-append}
+use Rattle.std.proofs.Common.{◌≡◌, ℕ, ◌+◌, ◌^◌, ◌≤◌, List, ◌∷◌, ◌++◌, length, take, drop, Bool, IsTrue, Option}
+use Rattle.std.proofs.Common.{Some, None, Ok, Err, refl, sym, ap, ◌∙◌, subst, arith, take_at, drop_at, append-nil}
+use Rattle.std.proofs.Common.{length-append}
 use Rattle.cap_bytes.proofs.Putting.{Putting, Putting-more}
 use Rattle.cap_bytes.specs.Device.{Writer}
 use Rattle.cap_bytes.specs.declared.faults.Fault.{Fault}
 use Rattle.cap_bytes.specs.declared.faults.Fault.TheVariants.{Refused, Read, Write, Memory}
 use Rattle.cap_bytes.specs.declared.faults.Refusal.{Refusal}
-use Rattle.cap_bytes.specs.Items.{IsEnd, PieceItem, given}
+use Rattle.cap_bytes.specs.Items.{IsEnd, PieceItem, cut_by, given}
 use Rattle.cap_bytes.specs.inner.Reader.{ReaderState, ReaderKeeps}
 use Rattle.cap_bytes.specs.declared.numbers.Order.{Order}
 use Rattle.cap_blocks.specs.inner.Reader.{GivesBlock, TakesBlock, blocks_to_come}
 use Rattle.cap_blocks.specs.declared.blocks.Block.{Block}
+use Rattle.cap_bytes.specs.declared.stops.CutRest.{CutRest}
 use Rattle.cap_bytes.specs.declared.stops.Stop.{Stop}
 use Rattle.cap_bytes.proofs.Putting.{Putting-all}
 use Rattle.cap_commands.specs.inner.BlockWalk.{BlockWalkLasts}
-use Rattle.cap_commands.specs.BlockText.{block_lines, refusal_of_stop, blocks_refusal}
+use Rattle.cap_commands.specs.BlockText.{block_lines, blocks_cut, refusal_of_stop, blocks_refusal}
 use Rattle.cap_bytes.specs.Printing.{Prints}
 
 -- the lines so far of a reader that was `old`, by what makes a block's line, are written by a writer that was `from`
@@ -34,6 +36,7 @@ pub record Printing (line_of : ℕ → Block → List ℕ) (old new : ReaderStat
     pub lines : IsTrue old.told
         → Putting from to (block_lines line_of 1 (blocks_to_come old)) (block_lines line_of n (blocks_to_come new))
     pub refusal_same : IsTrue old.told → blocks_refusal (blocks_to_come new) ≡ blocks_refusal (blocks_to_come old)
+    pub cut_same : IsTrue old.told → blocks_cut (blocks_to_come new) ≡ blocks_cut (blocks_to_come old)
 
 -- no line is written yet
 pub Printing-none : (line_of : ℕ → Block → List ℕ) (reader : ReaderState Order) (failed : Bool) (writer : Writer)
@@ -58,6 +61,7 @@ Printing-none line_of reader failed writer = record {
     cannot = λ f. f;
   };
   refusal_same = λ t. refl;
+  cut_same = λ t. refl;
 }
 
 -- the lines of a block and of those after it
@@ -73,6 +77,23 @@ pub refusal_of-given : (block : Block) (body : List ℕ) (items rest : List (Pie
     → blocks_refusal items ≡ blocks_refusal rest
 unfolding blocks_refusal
 refusal_of-given block body items rest is = ap blocks_refusal is
+
+cut_of-given : (block : Block) (body : List ℕ) (items rest : List (PieceItem Block))
+    → items ≡ given block body ∷ rest → blocks_cut items ≡ blocks_cut rest
+unfolding blocks_cut
+cut_of-given block body items rest is = ap blocks_cut is
+
+-- what ended the blocks says what was cut
+stop-cut : (new : ReaderState Order) (stop : Stop) → new.stop ≡ Some stop
+    → cut_by new.stop ≡ blocks_cut (blocks_to_come new)
+unfolding blocks_cut
+stop-cut new stop is = rw is refl
+
+-- it is what is cut of all blocks, if a call answers that there is none
+pub Cuts-block_end : (cut : Option CutRest) (stop : Stop) (old new : ReaderState Order)
+    → blocks_cut (blocks_to_come old) ≡ cut → new.stop ≡ Some stop → TakesBlock old (Ok None) new
+    → cut_by new.stop ≡ cut
+Cuts-block_end cut stop old new same is took = stop-cut new stop is ∙ (ap blocks_cut took.3 ∙ same)
 
 -- what is written if a call for the next block answers a fault
 pub Prints-block_fault : (line_of : ℕ → Block → List ℕ) (fault : Fault) (text : List ℕ) (refusal : Option Refusal)
@@ -147,4 +168,6 @@ Printing-more line_of old mid new fo fm fn from m to n block body line p gives k
           told cannot);
       refusal_same = λ t. sym (refusal_of-given block body (blocks_to_come mid) (blocks_to_come new) (took (p.told t)))
           ∙ p.refusal_same t;
+      cut_same = λ t. sym (cut_of-given block body (blocks_to_come mid) (blocks_to_come new) (took (p.told t)))
+          ∙ p.cut_same t;
     }

@@ -2,7 +2,7 @@
 use Rattle.std.proofs.Common.{◌≡◌, ℕ, ◌+◌, ◌≤◌, List, ◌∷◌, drop, true, false, Bool, IsTrue, Option}
 use Rattle.std.proofs.Common.{Some, None, Ok, Err, Result, refl, sym, ap, ◌∙◌, subst, arith}
 use Rattle.std.proofs.lemmas.Bool.{false≢true}
-use Rattle.std.specs.Prelude.{IsNone, IsOkUnless, ◌++◌, ◌&&◌, is_none}
+use Rattle.std.specs.Prelude.{IsNone, IsOkUnless, ◌++◌, ◌&&◌, is_none, is_some}
 use Rattle.cap_bytes.proofs.Putting.{Prints-head}
 use Rattle.cap_bytes.specs.Device.{Puts}
 use Rattle.cap_bytes.specs.Printing.{Prints}
@@ -261,8 +261,8 @@ told-as options cuts ends n (Some m) (Some o) f g old new result first second t 
 
 -- how a file was cut that has ended is how it ends
 ended : (packet : Option Meta) (end other : FileEnd) → IsNone packet → end ≡ other
-    → ended_cut packet end ≡ other.ending.was_cut
-ended None end other none is = ap (λ e. e.ending.was_cut) is
+    → ended_cut packet end ≡ is_some other.ending.cut
+ended None end other none is = ap (λ e. is_some e.ending.cut) is
 ended (Some meta) end other none is = absurd (cc)
 
 -- what is told where the feeds of two files part is told of the files

@@ -1,11 +1,14 @@
 -- What is left of files that were written.
 use Rattle.std.proofs.Common.{◌≡◌, ◌+◌, ◌<◌, ℕ, zero, suc, List, map, length, Bool, IsTrue, Some, Result, Ok, Err, OnOk}
+use Rattle.std.proofs.Common.{◌-◌, ◌++◌, ◌∷◌, [], take, drop, slice_set, Option, None, take-append-drop}
 use Rattle.std.proofs.Common.{refl, sym, ap, ◌∙◌, subst, arith}
+use Rattle.std.specs.Prelude.{replicate}
 use Rattle.std.specs.List.{list_all, range_with_len}
 use Rattle.cap_bytes.specs.Printing.{Prints}
 use Rattle.cap_bytes.specs.declared.faults.Fault.{Fault}
 use Rattle.cap_bytes.specs.declared.faults.Tail.{Tail}
 use Rattle.cap_bytes.specs.declared.numbers.Order.{Order}
+use Rattle.cap_bytes.specs.declared.stops.CutRest.{CutRest}
 use Rattle.cap_merge.proofs.Unread.{told-readers, bytes-readers}
 use Rattle.cap_merge.specs.Files.{endings_of_files}
 use Rattle.cap_merge.specs.Parts.{Part, merged_feed}
@@ -18,11 +21,12 @@ use Rattle.cap_source.specs.declared.feeds.Head.TheVariants as heads
 use Rattle.cap_bytes.specs.declared.formats.Format.{Format}
 use Rattle.cap_bytes.specs.declared.formats.Format.TheVariants.{Pcap, Pcapng}
 use Rattle.cap_talks.proofs.TableLines.{is-numbered}
-use Rattle.std.proofs.lemmas.List.{length-map}
+use Rattle.std.proofs.lemmas.List.{length-map, take_more_set, drop-set-lt, drop-drop, drop-replicate}
 use Rattle.std.proofs.lemmas.List.FromFn.{length-range_with_len}
 use Rattle.cap_commands.specs.Converted.{convert_text, convert_refusal}
 use Rattle.cap_commands.specs.inner.FileText.{written_file_text, file_refusal}
-use Rattle.cap_commands.specs.Left.{left_of_file, sum_of_files, skipped_in, named_in, LeavesOut}
+use Rattle.cap_commands.specs.Left.{left_of_file, sum_of_files, skipped_in, named_in, rests_in}
+use Rattle.cap_commands.specs.Left.{LeavesOut}
 use Rattle.cap_commands.specs.declared.left.DroppedInfo.{DroppedInfo}
 
 -- a walk that is done has come to the end
@@ -36,6 +40,39 @@ sum_in-same : (count : FileEnd → ℕ) (f g : ℕ → FileEnd) (n : ℕ) → ((
 sum_in-same count f g zero same = refl
 sum_in-same count f g (suc n) same = rw (sum_in-same count f g n same, same (suc n)) refl
 
+pub sum-more : (count : FileEnd → ℕ) (endings : ℕ → FileEnd) (n : ℕ)
+    → sum_of_files count endings (n + 1) ≡ sum_of_files count endings n + count (endings (n + 1))
+sum-more count endings n =
+    let next : n + 1 ≡ suc n = omega arith in
+    ap (sum_of_files count endings) next ∙ ap (λ m. sum_of_files count endings n + count (endings m)) (sym next)
+
+rests_in-same : (f g : ℕ → FileEnd) (n : ℕ) → ((file : ℕ) → f file ≡ g file) → rests_in f n ≡ rests_in g n
+rests_in-same f g zero same = refl
+rests_in-same f g (suc n) same = rw (rests_in-same f g n same, same (suc n)) refl
+
+-- the rest of one more file is at its place
+pub rests-more : (endings : ℕ → FileEnd) (n : ℕ) (cuts : List (Option CutRest)) (cut : Option CutRest)
+    → n < length cuts → take n cuts ≡ rests_in endings n → cut ≡ (endings (n + 1)).ending.cut
+    → take (n + 1) (slice_set cuts n cut) ≡ rests_in endings (n + 1)
+rests-more endings n cuts cut within so is =
+    let next : n + 1 ≡ suc n = omega arith in
+    take_more_set cuts n cut within ∙ (ap (λ l. l ++ cut ∷ []) so ∙ (ap (λ c. rests_in endings n ++ c ∷ [])
+    (is ∙ ap (λ m. (endings m).ending.cut) next) ∙ ap (rests_in endings) (sym next)))
+
+-- and the places behind it stay empty
+pub places-more : (n : ℕ) (cuts : List (Option CutRest)) (cut : Option CutRest) → n < 32
+    → drop n cuts ≡ replicate (32 - n) None → drop (n + 1) (slice_set cuts n cut) ≡ replicate (32 - (n + 1)) None
+places-more n cuts cut within others =
+    drop-set-lt (n + 1) cuts n cut (omega arith)
+    ∙ (sym (drop-drop 1 n cuts) ∙ (ap (drop 1) others ∙ (drop-replicate 1 (32 - n) None
+    ∙ ap (λ k. replicate k None) (omega (arith, within)))))
+
+-- the places of the files, and those that are empty
+pub rests-all : (endings : ℕ → FileEnd) (n : ℕ) (cuts : List (Option CutRest)) → take n cuts ≡ rests_in endings n
+    → drop n cuts ≡ replicate (32 - n) None → cuts ≡ rests_in endings n ++ replicate (32 - n) None
+rests-all endings n cuts so others =
+    sym (take-append-drop n cuts) ∙ (ap (λ l. l ++ drop n cuts) so ∙ ap (λ l. rests_in endings n ++ l) others)
+
 -- files that end alike leave the same out
 Drops-same : (f g : ℕ → FileEnd) (n m : ℕ) (left : DroppedInfo) → n ≡ m → ((file : ℕ) → f file ≡ g file)
     → LeavesOut f n left
@@ -43,6 +80,8 @@ Drops-same : (f g : ℕ → FileEnd) (n m : ℕ) (left : DroppedInfo) → n ≡ 
 Drops-same f g n m left is same d = record {
   skipped = d.skipped ∙ (ap (skipped_in f) is ∙ sum_in-same (λ end. end.ending.skipped) f g m same);
   named = d.named ∙ (ap (named_in f) is ∙ sum_in-same (λ end. end.named) f g m same);
+  cuts = d.cuts ∙ (ap (λ k. rests_in f k ++ replicate (32 - k) None) is
+      ∙ ap (λ l. l ++ replicate (32 - m) None) (rests_in-same f g m same));
 }
 
 -- a file of that number is one of them

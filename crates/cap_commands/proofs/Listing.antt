@@ -1,10 +1,11 @@
 -- The lines of a feed's packets, written one by one.
-use Rattle.std.proofs.Common.{ℕ, ◌+◌, ◌≤◌, List, Bool, refl}
+use Rattle.std.proofs.Common.{ℕ, ◌+◌, ◌≤◌, List, Bool, IsTrue, refl}
 use Rattle.cap_bytes.proofs.Putting.{}
 use Rattle.cap_bytes.specs.Device.{Writer}
 use Rattle.cap_source.proofs.Onward.{Went}
 use Rattle.cap_source.proofs.Walking.{Plan, IsPlan, GoesOn, Walking}
 use Rattle.cap_source.specs.Feed.{Feed}
+use Rattle.cap_source.specs.inner.Walk.{SameEndings}
 use Rattle.cap_source.specs.declared.packets.Meta.{Meta}
 use Rattle.cap_commands.specs.ListText.{list_lines}
 use Rattle.cap_source.specs.Feed.{refusal_of}
@@ -28,4 +29,5 @@ pub record Listing (line : ℕ → Meta → List ℕ → List ℕ) (old new : Fe
     (from to : Writer) (n : ℕ) : Type 0 where
   pub number : n + new.left ≤ 1 + old.left
   pub went : Went old new
+  pub ends : IsTrue old.told → SameEndings old new
   pub walk : Walking (plan_of line 1) (plan_of line n) old new failed_old failed_new from to

@@ -6,12 +6,13 @@ use Rattle.cap_bytes.specs.declared.faults.Refusal.{Refusal}
 use Rattle.cap_bytes.specs.declared.faults.Tail.{Tail}
 use Rattle.cap_bytes.specs.declared.numbers.Order.{Order}
 use Rattle.cap_bytes.specs.declared.numbers.Order.TheVariants.{Big, Little}
-use Rattle.cap_bytes.specs.Items.{PieceItem, given, stopped}
+use Rattle.cap_bytes.specs.Items.{PieceItem, cut_of, given, stopped}
 use Rattle.cap_blocks.specs.Split.{block_items_from}
 use Rattle.cap_blocks.specs.declared.blocks.Block.{Block}
 use Rattle.cap_print.specs.Facts.{Facts, line_in, named, number, one, word}
 use Rattle.cap_print.specs.declared.forms.Form.{Form}
 use Rattle.cap_print.specs.declared.forms.Form.TheVariants.{Json, Text}
+use Rattle.cap_bytes.specs.declared.stops.CutRest.{CutRest}
 use Rattle.cap_bytes.specs.declared.stops.Stop.{Stop}
 use Rattle.cap_bytes.specs.declared.stops.Stop.TheVariants as stops
 
@@ -50,7 +51,7 @@ block_lines line n (stopped stop ∷ items) = []
 -- the refusal that ends the blocks, if one does
 abbrev pub refusal_of_stop : Stop → Option Refusal
 refusal_of_stop stops.End = None
-refusal_of_stop stops.Cut = None
+refusal_of_stop (stops.Cut rest) = None
 refusal_of_stop (stops.Refused refusal) = Some refusal
 
 unfoldable pub blocks_refusal : List (PieceItem Block) → Option Refusal
@@ -73,3 +74,13 @@ block_list_json = block_list_in Json
 -- the refusal that ends `blocks` of a file with those bytes in either form, if there is one
 abbrev pub block_refusal : Tail → List ℕ → Option Refusal
 block_refusal tail bytes = blocks_refusal (block_items_from None tail 1 0 bytes)
+
+-- the rest that is dropped at the end of the blocks, if it is cut
+unfoldable pub blocks_cut : List (PieceItem Block) → Option CutRest
+blocks_cut [] = None
+blocks_cut (given block body ∷ items) = blocks_cut items
+blocks_cut (stopped stop ∷ items) = cut_of stop
+
+-- that of a file with those bytes
+abbrev pub block_cut : Tail → List ℕ → Option CutRest
+block_cut tail bytes = blocks_cut (block_items_from None tail 1 0 bytes)

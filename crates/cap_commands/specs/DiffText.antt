@@ -1,7 +1,7 @@
 -- What `capt diff` prints of two captures: whether they have the same packets, in whatever container, byte order and
 -- units each of the two has them.
 use Rattle.std.specs.Prelude.{ℕ, ◌+◌, ◌*◌, ◌/◌, ◌==◌, List, [], ◌∷◌, ◌++◌, codes, decimal, Bool, true, false, not, ◌||◌}
-use Rattle.std.specs.Prelude.{◌≡◌, ◌&&◌, take, drop, Option, Some, None, Result, Ok, Err, if◌then◌else◌}
+use Rattle.std.specs.Prelude.{◌≡◌, ◌&&◌, take, drop, Option, Some, None, is_some, Result, Ok, Err, if◌then◌else◌}
 use Rattle.std.specs.Str.{bytes_eq}
 use Rattle.cap_bytes.specs.Printing.{PrintsFront}
 use Rattle.cap_bytes.specs.declared.faults.Fault.{Fault}
@@ -152,8 +152,8 @@ quoted (word ∷ next ∷ words) = codes "\"" ++ word ++ codes "\"," ++ quoted (
 abbrev pub cuts_of : Tail → List ℕ → List ℕ → CutEnds
 cuts_of tail first second =
     record {
-      first = (file_ending tail 1 first).ending.was_cut;
-      second = (file_ending tail 2 second).ending.was_cut;
+      first = is_some (file_ending tail 1 first).ending.cut;
+      second = is_some (file_ending tail 2 second).ending.cut;
     }
 
 -- that a rest of a file was dropped, which is called so

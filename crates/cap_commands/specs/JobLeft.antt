@@ -6,15 +6,17 @@ use Rattle.cap_line.specs.declared.jobs.Task.{Task}
 use Rattle.cap_line.specs.declared.jobs.Task.TheVariants as tasks
 use Rattle.cap_merge.specs.Files.{endings_of_files}
 use Rattle.cap_source.specs.Items.{file_ending}
+use Rattle.cap_commands.specs.BlockText.{block_cut}
 use Rattle.cap_commands.specs.Jobs.{only_of, tail_of}
-use Rattle.cap_commands.specs.Left.{nothing_left, left_of_file, LeavesOut}
+use Rattle.cap_commands.specs.Left.{nothing_left, left_of_file, only_cut, LeavesOut}
 use Rattle.cap_commands.specs.declared.left.DroppedInfo.{DroppedInfo}
 
 -- of files of those bytes, by its task: the blocks that are skipped and the names of interfaces, of `convert`, `merge`
--- and `join` alone
+-- and `join` alone; and the rests that were cut, of these, of `list` and of
+-- `blocks`
 abbrev pub LeavesTask : Task → Tail → List (List ℕ) → DroppedInfo → Type 0
-LeavesTask tasks.List tail files left = left ≡ nothing_left
-LeavesTask tasks.Blocks tail files left = left ≡ nothing_left
+LeavesTask tasks.List tail files left = left ≡ only_cut (file_ending tail 1 (only_of files)).ending.cut
+LeavesTask tasks.Blocks tail files left = left ≡ only_cut (block_cut tail (only_of files))
 LeavesTask tasks.Diff tail files left = left ≡ nothing_left
 LeavesTask tasks.Digest tail files left = left ≡ nothing_left
 LeavesTask tasks.Check tail files left = left ≡ nothing_left

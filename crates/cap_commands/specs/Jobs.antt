@@ -6,6 +6,7 @@ use Rattle.cap_bytes.specs.declared.faults.Fault.{Fault}
 use Rattle.cap_bytes.specs.declared.faults.Tail.{Tail}
 use Rattle.cap_bytes.specs.declared.faults.Tail.TheVariants.{Accept, Refuse}
 use Rattle.cap_bytes.specs.declared.numbers.Order.{Order}
+use Rattle.cap_bytes.specs.declared.stops.CutRest.{CutRest}
 use Rattle.cap_check.specs.CheckText.{WritesChecks, no_names}
 use Rattle.cap_check.specs.Checking.{Opened}
 use Rattle.cap_check.specs.declared.checked.CheckLine.{CheckLine}
@@ -30,7 +31,7 @@ use Rattle.cap_commands.specs.DiffText.{is_same}
 use Rattle.cap_commands.specs.JoinText.{join_refusal_in, join_text_in}
 use Rattle.cap_commands.specs.ListText.{list_refusal}
 use Rattle.cap_commands.specs.MergeText.{merge_refusal_in, merge_text_in}
-use Rattle.cap_commands.specs.Left.{nothing_left}
+use Rattle.cap_commands.specs.Left.{done_of, nothing_left, only_cut}
 use Rattle.cap_commands.specs.declared.diff.CutEnds.{CutEnds}
 use Rattle.cap_commands.specs.declared.diff.DiffOptions.{DiffOptions}
 use Rattle.cap_commands.specs.declared.jobs.Done.{Done}
@@ -159,11 +160,6 @@ FindsTask _ ignored tail files found = found ≡ Nothing
 abbrev pub Finds : Job → List (List ℕ) → Finding → Type 0
 Finds job = FindsTask job.task job.ignored (tail_of job.allow_cut)
 
--- what a job returns, but for what it finds
-abbrev pub done_of : Result Finding Fault → Result Unit Fault
-done_of (Ok finding) = Ok tt
-done_of (Err fault) = Err fault
-
 -- what it finds: nothing after a fault
 abbrev pub found_in : Result Finding Fault → Finding
 found_in (Ok finding) = finding
@@ -178,6 +174,11 @@ finding_in (Err fault) = Err fault
 abbrev pub printed_by : Result Unit Fault → Result Done Fault
 printed_by (Ok done) = Ok (record { finding = Nothing; left = nothing_left })
 printed_by (Err fault) = Err fault
+
+-- what a job does that prints a file which ended in that rest, if it was cut
+abbrev pub listed_by : Result (Option CutRest) Fault → Result Done Fault
+listed_by (Ok cut) = Ok (record { finding = Nothing; left = only_cut cut })
+listed_by (Err fault) = Err fault
 
 -- what a job does that finds something: it leaves nothing out
 abbrev pub found_by : Result Finding Fault → Result Done Fault

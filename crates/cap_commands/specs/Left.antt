@@ -1,15 +1,27 @@
 -- What a command that writes a capture leaves out, or leaves as it was.
-use Rattle.std.specs.Prelude.{◌≡◌, ℕ, zero, suc, ◌+◌}
+use Rattle.std.specs.Prelude.{◌≡◌, ℕ, zero, suc, ◌+◌, ◌-◌, List, [], ◌∷◌, ◌++◌, replicate, Option, None}
+use Rattle.std.specs.Prelude.{Result, Ok, Err}
+use Rattle.cap_bytes.specs.declared.faults.Fault.{Fault}
+use Rattle.cap_bytes.specs.declared.stops.CutRest.{CutRest}
 use Rattle.cap_source.specs.declared.feeds.FileEnd.{FileEnd}
 use Rattle.cap_commands.specs.declared.left.DroppedInfo.{DroppedInfo}
 
+-- what a call returns, but for what it finds or leaves
+abbrev pub done_of : {A : Type 0} → Result A Fault → Result Unit Fault
+done_of (Ok found) = Ok tt
+done_of (Err fault) = Err fault
+
 -- nothing was left out, and nothing ran back
 abbrev pub nothing_left : DroppedInfo
-nothing_left = record { skipped = 0; named = 0; ran_back = 0 }
+nothing_left = record { skipped = 0; named = 0; ran_back = 0; cuts = replicate 32 None }
 
--- the skipped blocks and the named interfaces of a file that ended so
+-- the rest of the only file, if it was cut
+abbrev pub only_cut : Option CutRest → DroppedInfo
+only_cut cut = record nothing_left { cuts = cut ∷ replicate 31 None }
+
+-- the skipped blocks, the named interfaces and the rest of the only file, which ended so
 abbrev pub left_of_file : FileEnd → DroppedInfo
-left_of_file end = record { skipped = end.ending.skipped; named = end.named; ran_back = 0 }
+left_of_file end = record (only_cut end.ending.cut) { skipped = end.ending.skipped; named = end.named }
 
 -- the sum of a count over the first files, so many of them, by how each ends
 abbrev pub sum_of_files : (FileEnd → ℕ) → (ℕ → FileEnd) → ℕ → ℕ
@@ -23,7 +35,14 @@ skipped_in endings count = sum_of_files (λ end. end.ending.skipped) endings cou
 abbrev pub named_in : (ℕ → FileEnd) → ℕ → ℕ
 named_in endings count = sum_of_files (λ end. end.named) endings count
 
--- what isn't carried on of the first files, so many of them, by how each ends
+-- the rests of these that were cut, by their places
+abbrev pub rests_in : (ℕ → FileEnd) → ℕ → List (Option CutRest)
+rests_in endings zero = []
+rests_in endings (suc file) = rests_in endings file ++ (endings (suc file)).ending.cut ∷ []
+
+-- what isn't carried on of the first files, so many of them, by how each ends; the 32 places of cut rests that no file
+-- has are empty
 pub record LeavesOut (endings : ℕ → FileEnd) (count : ℕ) (left : DroppedInfo) : Type 0 where
   pub skipped : left.skipped ≡ skipped_in endings count
   pub named : left.named ≡ named_in endings count
+  pub cuts : left.cuts ≡ rests_in endings count ++ replicate (32 - count) None

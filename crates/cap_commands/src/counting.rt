@@ -21,8 +21,8 @@ ghost use Rattle.cap_commands.specs.Left.{left_of_file, LeavesOut};
 ghost use Rattle.cap_commands.specs.MergeText.{merge_text, merge_text_in, merge_refusal, merge_refusal_in};
 ghost use Rattle.cap_commands.specs.RunText.{datagrams_refusal, datagrams_text, packets_refusal, packets_text};
 
-use crate::left::DroppedInfo;
-use cap_bytes::{Fault, Order, Sink, Source, Tail};
+use crate::left::{DroppedInfo, only_cut};
+use cap_bytes::{CutRest, Fault, Order, Sink, Source, Tail};
 use cap_merge::{Merged, merge_files};
 use cap_source::{Capture, Format, PacketFeed};
 use cap_write::{
@@ -39,14 +39,18 @@ fn dropped_of<F: PacketFeed>(feed: &F, files: u32) -> DroppedInfo
 {
     let mut skipped: u128 = 0;
     let mut named: u128 = 0;
+    let mut cuts: [Option<CutRest>; 32] = [None; 32];
     for place in 0..files {
-        skipped += u128::from(feed.ending(place + 1).skipped);
+        let ending = feed.ending(place + 1);
+        skipped += u128::from(ending.skipped);
         named += u128::from(feed.named_interfaces(place + 1));
+        cuts[place as usize] = ending.cut;
     }
     DroppedInfo {
         skipped,
         named,
         ran_back: 0,
+        cuts,
     }
 }
 
@@ -58,10 +62,12 @@ fn left_of_merged<F: PacketFeed>(merged: &Merged<F>) -> DroppedInfo
     ensures backward { result.ran_back ≡ backward_of merged.now }
 {
     let dropped = dropped_of(merged, merged.files());
+    let cuts = dropped.cuts;
     DroppedInfo {
         skipped: dropped.skipped,
         named: dropped.named,
         ran_back: u128::from(merged.backward()),
+        cuts,
     }
 }
 
@@ -71,11 +77,11 @@ fn left_of_one<F: PacketFeed>(feed: &F) -> DroppedInfo
     requires file { (F.feed feed.now).files ≡ 1 ∷ [] }
     ensures { result ≡ left_of_file ((F.feed feed.now).endings 1) }
 {
-    DroppedInfo {
-        skipped: u128::from(feed.ending(1).skipped),
-        named: u128::from(feed.named_interfaces(1)),
-        ran_back: 0,
-    }
+    let ending = feed.ending(1);
+    let mut left = only_cut(ending.cut);
+    left.skipped = u128::from(ending.skipped);
+    left.named = u128::from(feed.named_interfaces(1));
+    left
 }
 
 // The packets of 1 to 32 files in the order of exact time, of which those that run backward are counted if that is

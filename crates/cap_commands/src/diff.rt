@@ -230,7 +230,7 @@ fn was_cut<F: PacketFeed>(feed: &F, file: u32, packet: Option<Meta>) -> bool
     ensures { result ≡ ended_cut packet ((F.feed feed.now).endings file) }
 {
     match packet {
-        None => feed.ending(file).was_cut,
+        None => feed.ending(file).cut.is_some(),
         Some(_) => false,
     }
 }

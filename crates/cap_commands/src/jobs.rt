@@ -5,10 +5,11 @@ ghost use Rattle.std.specs.List.{list_all};
 ghost use Rattle.cap_line.specs.Jobs.{IsWholeJob};
 ghost use Rattle.cap_talks.specs.talks.Telling.{Tells};
 ghost use Rattle.cap_commands.specs.DiffText.{comparison_of, cuts_of, diff_refusal, diff_text_in, is_same};
-ghost use Rattle.cap_commands.specs.Jobs.{Does, Finds, counts_line, done_of, finding_by, form_by, format_in, found_in};
-ghost use Rattle.cap_commands.specs.Jobs.{finding_in, found_by, line_by, opened_files, printed_by, shown_by};
+ghost use Rattle.cap_commands.specs.Jobs.{Does, Finds, counts_line, finding_by, form_by, format_in, found_in};
+ghost use Rattle.cap_commands.specs.Jobs.{finding_in, found_by, line_by, listed_by, opened_files, printed_by, shown_by};
 ghost use Rattle.cap_commands.specs.Jobs.{tail_of, whole_by, whole_finding, written_by};
 ghost use Rattle.cap_commands.specs.JobLeft.{JobLeaves};
+ghost use Rattle.cap_commands.specs.Left.{done_of};
 ghost use Rattle.cap_commands.specs.ListText.{list_refusal};
 ghost use Rattle.cap_bytes.specs.Device.{WriterKeeps, writer_of};
 ghost use Rattle.cap_bytes.specs.Printing.{Prints, is_write};
@@ -17,9 +18,9 @@ ghost use Rattle.cap_source.specs.ReadFaults.{FailsOf};
 use crate::blocks::blocks_in;
 use crate::counting::{convert_and_count, join_and_count, merge_and_count};
 use crate::diff::{DiffOptions, diff_in};
-use crate::left::{DroppedInfo, NOTHING_LEFT};
+use crate::left::{DroppedInfo, NOTHING_LEFT, only_cut};
 use crate::list::list_in;
-use cap_bytes::{Fault, Sink, Source, Tail};
+use cap_bytes::{CutRest, Fault, Sink, Source, Tail};
 use cap_check::{CheckLine, check_all_to};
 use cap_line::{Job, Task};
 use cap_print::Form;
@@ -204,6 +205,19 @@ fn printed(answer: Result<(), Fault>) -> Result<Done, Fault>
     }
 }
 
+// What a job has done that printed a file which ended in that rest, if it was cut.
+fn listed(answer: Result<Option<CutRest>, Fault>) -> Result<Done, Fault>
+    ensures { result ≡ listed_by answer }
+{
+    match answer {
+        Ok(cut) => Ok(Done {
+            finding: Finding::Nothing,
+            left: only_cut(cut),
+        }),
+        Err(fault) => Err(fault),
+    }
+}
+
 // What a job has done that found that, and leaves nothing out.
 fn found(answer: Result<Finding, Fault>) -> Result<Done, Fault>
     ensures { result ≡ found_by answer }
@@ -267,9 +281,9 @@ pub fn job_to<R: Source, W: Sink>(
         Task::List => {
             let shown = shown_of(form, job.data);
             let source = only(sources);
-            printed(list_in(alloc, source, tail, form, shown, job.class, writer))
+            listed(list_in(alloc, source, tail, form, shown, job.class, writer))
         }
-        Task::Blocks => printed(blocks_in(alloc, only(sources), tail, form, writer)),
+        Task::Blocks => listed(blocks_in(alloc, only(sources), tail, form, writer)),
         Task::Diff => {
             let options = DiffOptions {
                 ignored: job.ignored,

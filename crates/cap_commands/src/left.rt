@@ -1,6 +1,10 @@
 //! What a command that writes a capture leaves out, or leaves as it was.
 ghost use Rattle.std.specs.Prelude.{◌≡◌};
-ghost use Rattle.cap_commands.specs.Left.{nothing_left};
+ghost use Rattle.std.specs.Prelude.{None, replicate};
+ghost use Rattle.cap_bytes.specs.Printing.{is_write};
+ghost use Rattle.cap_commands.specs.Left.{done_of, nothing_left, only_cut};
+
+use cap_bytes::{CutRest, Fault};
 
 /// What a command that writes a capture leaves out, or leaves as it was.
 #[derive(Clone, Copy, Debug, PartialEq, Eq)]
@@ -11,6 +15,8 @@ pub struct DroppedInfo {
     pub named: u128,
     /// How many packets had a time below the greatest so far of their file.
     pub ran_back: u128,
+    /// The rest of each file, by its place, that was cut and is dropped: of 32 files at most.
+    pub cuts: [Option<CutRest>; 32],
 }
 
 /// Nothing was left out, and nothing ran back.
@@ -18,4 +24,30 @@ pub const NOTHING_LEFT: DroppedInfo = DroppedInfo {
     skipped: 0,
     named: 0,
     ran_back: 0,
+    cuts: [None; 32],
 };
+
+/// What is left of the only file that is read, and that ended in that rest, if it was cut.
+pub(crate) fn only_cut(cut: Option<CutRest>) -> DroppedInfo
+    ensures { result ≡ only_cut cut }
+{
+    let mut cuts: [Option<CutRest>; 32] = [None; 32];
+    cuts[0] = cut;
+    DroppedInfo {
+        skipped: 0,
+        named: 0,
+        ran_back: 0,
+        cuts,
+    }
+}
+
+/// What a call returns that says nothing of a rest that was cut.
+pub(crate) fn without_cut(answer: Result<Option<CutRest>, Fault>) -> Result<(), Fault>
+    ensures done { result ≡ done_of answer }
+    ensures write { is_write result ≡ is_write answer }
+{
+    match answer {
+        Ok(_) => Ok(()),
+        Err(fault) => Err(fault),
+    }
+}

@@ -1,7 +1,8 @@
 //! `capt list`, in text and in JSON: one line for each packet, as it is found.
 ghost use Rattle.std.specs.Prelude.{◌≡◌, ◌<◌, ◌≤◌, ◌^◌, ◌∷◌, [], None, IsTrue, length};
-ghost use Rattle.std.specs.Prelude.{IsOkUnless, is_err};
+ghost use Rattle.std.specs.Prelude.{IfOk, IsOkUnless, OnOk, is_err};
 ghost use Rattle.cap_commands.specs.ClassText.{line_by, list_by};
+ghost use Rattle.cap_commands.specs.Left.{done_of};
 ghost use Rattle.cap_commands.specs.ListText.{facts_before, list_json, list_lines, list_refusal, list_text};
 ghost use Rattle.cap_commands.specs.inner.PacketParts.{packet_rest, packet_text};
 ghost use Rattle.cap_bytes.specs.Device.{Puts, WriterKeeps, writer_of};
@@ -9,15 +10,17 @@ ghost use Rattle.cap_bytes.specs.Printing.{Prints, is_write};
 ghost use Rattle.cap_print.specs.Facts.{line_in};
 ghost use Rattle.cap_source.specs.Feed.{refusal_of};
 ghost use Rattle.cap_source.specs.ReadFaults.{FailsOf};
-ghost use Rattle.cap_source.specs.inner.Walk.{Walks};
+ghost use Rattle.cap_source.specs.Items.{file_ending};
+ghost use Rattle.cap_source.specs.inner.Walk.{SameEndings, Walks};
 ghost use Rattle.cap_source.specs.inner.Growing.{IfMemory};
 ghost use Rattle.cap_talks.specs.table.Descriptions.{describe_of, description_fields};
 
+use crate::left::without_cut;
 use crate::lines::{
     Behind, MOST_SHOWN, MOST_SHOWN_CLASSED, write_classed, write_packet, write_packet_end,
     write_packet_head,
 };
-use cap_bytes::{Fault, Sink, Source, Tail, put_all};
+use cap_bytes::{CutRest, Fault, Sink, Source, Tail, put_all};
 use cap_print::{Form, Line};
 use cap_source::{Capture, Meta, PacketFeed};
 use cap_talks::describe;
@@ -143,6 +146,8 @@ fn list_packets<F: PacketFeed, W: Sink>(
         (W.held writer.old) result (W.held writer.new) }
     ensures writer { WriterKeeps (writer_of W.Sink writer.old) (is_write result) (writer_of W.Sink writer.new) }
     ensures walks { Walks (F.feed feed.old) result (F.feed feed.new) }
+    ensures endings { OnOk result (IsTrue (F.feed feed.old).told → SameEndings (F.feed feed.old) (F.feed feed.new)) }
+    ensures files { OnOk result ((F.feed feed.new).files ≡ (F.feed feed.old).files) }
     ensures memory { IfMemory result ((F.feed feed.new).known ≡ None) }
 {
     let mut line = Line::new();
@@ -166,7 +171,8 @@ fn list_packets<F: PacketFeed, W: Sink>(
 }
 
 /// Does what `list_to` or `list_json_to` does, by the form, with at most `most` bytes of each packet; behind them it
-/// also prints what the packet is by itself, as `put_description` does, if `classed` says so.
+/// also prints what the packet is by itself, as `put_description` does, if `classed` says so. It returns the rest of
+/// the file that was cut and dropped, if it was.
 pub(crate) fn list_in<R: Source, W: Sink>(
     alloc: Global,
     source: R,
@@ -175,15 +181,18 @@ pub(crate) fn list_in<R: Source, W: Sink>(
     most: u32,
     classed: bool,
     writer: &mut W,
-) -> Result<(), Fault>
+) -> Result<Option<CutRest>, Fault>
     ensures text { IsTrue (R.tells_coming source) → IsTrue (W.tells_held writer.old)
         → Prints (list_by classed form most tail (R.coming source)) (list_refusal tail (R.coming source))
-        (W.held writer.old) result (W.held writer.new) }
+        (W.held writer.old) (done_of result) (W.held writer.new) }
     ensures writer { WriterKeeps (writer_of W.Sink writer.old) (is_write result) (writer_of W.Sink writer.new) }
     ensures read { FailsOf (R.can_fail source ∷ []) result }
+    ensures cut { IfOk result (λ cut. IsTrue (R.tells_coming source)
+        → cut ≡ (file_ending tail 1 (R.coming source)).ending.cut) }
 {
     let mut capture = Capture::new(alloc, source, 1, tail);
-    list_packets(&mut capture, form, most, classed, writer)
+    list_packets(&mut capture, form, most, classed, writer)?;
+    Ok(capture.ending(1).cut)
 }
 
 /// Prints a line for each packet of a capture file of either format, each as it is found, up to the first refusal,
@@ -201,7 +210,7 @@ pub fn list_to<R: Source, W: Sink>(
     ensures writer { WriterKeeps (writer_of W.Sink writer.old) (is_write result) (writer_of W.Sink writer.new) }
     ensures read { FailsOf (R.can_fail source ∷ []) result }
 {
-    list_in(alloc, source, tail, Form::Text, 16, false, writer)
+    without_cut(list_in(alloc, source, tail, Form::Text, 16, false, writer))
 }
 
 /// Prints a JSON object on a line of its own for each packet of a capture file of either format, each as it is found,
@@ -220,5 +229,5 @@ pub fn list_json_to<R: Source, W: Sink>(
     ensures writer { WriterKeeps (writer_of W.Sink writer.old) (is_write result) (writer_of W.Sink writer.new) }
     ensures read { FailsOf (R.can_fail source ∷ []) result }
 {
-    list_in(alloc, source, tail, Form::Json, shown, false, writer)
+    without_cut(list_in(alloc, source, tail, Form::Json, shown, false, writer))
 }

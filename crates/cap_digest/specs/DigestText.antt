@@ -1,5 +1,5 @@
 -- The digest of a file, and its line.
-use Rattle.std.specs.Prelude.{ℕ, Bool, true, false, List, [], ◌∷◌, codes, length, Option, Some, None}
+use Rattle.std.specs.Prelude.{ℕ, Bool, true, false, List, [], ◌∷◌, codes, length, Option, Some, None, is_some}
 use Rattle.cap_bytes.specs.declared.faults.Tail.{Tail}
 use Rattle.cap_digest.specs.Canonical.{canonical_text}
 use Rattle.cap_print.specs.Facts.{Fact, Facts, Field, Value, flagged, hex, line_in, named, number, one, word}
@@ -47,4 +47,4 @@ digest_line form file items was_cut =
 -- the line of the file of that number with those bytes, in a form, if it is whole
 abbrev pub digest_text : Form → Tail → ℕ → List ℕ → List ℕ
 digest_text form tail file bytes =
-    digest_line form file (file_items tail file bytes) (file_ending tail file bytes).ending.was_cut
+    digest_line form file (file_items tail file bytes) (is_some (file_ending tail file bytes).ending.cut)

@@ -12,7 +12,7 @@ use Rattle.cap_digest.specs.Canonical.{canonical_form, canonical_text, canonical
 use Rattle.cap_digest.specs.DigestText.{digest_facts, digest_line, digest_text, whole_fields}
 use Rattle.cap_bytes.specs.declared.faults.Tail.TheVariants.{Refuse}
 use Rattle.cap_laws.proofs.NeverCut.{never-cut}
-use Rattle.std.specs.Prelude.{false}
+use Rattle.std.specs.Prelude.{false, is_some}
 use Rattle.cap_laws.proofs.FileNumbers.{file-numbered}
 use Rattle.cap_laws.proofs.Twins.{IsTwin, TwinItems, twins}
 use Rattle.cap_laws.specs.Diffs.{SameExactly}
@@ -209,7 +209,7 @@ same-files tail tail_again number bytes again h =
 printed-line : (form : Form) (number : ℕ) (again : List ℕ)
     → digest_text form Refuse number again ≡ digest_line form number (file_items Refuse number again) false
 printed-line form number again =
-    ap (digest_line form number (file_items Refuse number again)) (never-cut number again)
+    ap (λ cut. digest_line form number (file_items Refuse number again) (is_some cut)) (never-cut number again)
 
 -- both
 both-lines : (tail tail_again : Tail) (number : ℕ) (bytes again : List ℕ)

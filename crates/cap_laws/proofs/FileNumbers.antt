@@ -26,17 +26,17 @@ use Rattle.cap_laws.specs.again.Rounds.{in_file}
 
 stop_in : ℕ → Stop → Stop
 stop_in n stops.End = stops.End
-stop_in n stops.Cut = stops.Cut
+stop_in n (stops.Cut rest) = stops.Cut rest
 stop_in n (stops.Refused r) = stops.Refused (record r { file = n })
 
 item_in : {P : Type 0} → ℕ → pieces.PieceItem P → pieces.PieceItem P
 item_in n (pieces.given p f) = pieces.given p f
 item_in n (pieces.stopped s) = pieces.stopped (stop_in n s)
 
-stop_by-in : (inside : Bool) (tail : Tail) (n m offset : ℕ) (rule : Rule)
-    → pieces.stop_by inside tail n offset rule ≡ stop_in n (pieces.stop_by inside tail m offset rule)
+stop_by-in : (inside : Bool) (tail : Tail) (n m offset size : ℕ) (rule : Rule)
+    → pieces.stop_by inside tail n offset size rule ≡ stop_in n (pieces.stop_by inside tail m offset size rule)
 unfolding stop_in
-stop_by-in inside tail n m offset rule = grind arith
+stop_by-in inside tail n m offset size rule = grind arith
 
 chosen_stop : (b : Bool) (n : ℕ) (o p : Option Stop) → o ≡ option_map (stop_in n) p
     → cond b (Some stops.End) o ≡ option_map (stop_in n) (cond b (Some stops.End) p)

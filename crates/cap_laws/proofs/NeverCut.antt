@@ -6,7 +6,7 @@ use Rattle.std.specs.Prelude.{if◌then◌else◌, ◌&&◌, ◌==◌, option_ma
 use Rattle.std.specs.List.{AllByRecursion}
 use Rattle.cap_blocks.specs.Split.{block_format, block_items_from}
 use Rattle.cap_blocks.specs.declared.blocks.Block.{Block}
-use Rattle.cap_bytes.specs.Items.{PieceFormat, PieceItem, given, item_or, piece_items, piece_items_by, stop_by}
+use Rattle.cap_bytes.specs.Items.{PieceFormat, PieceItem, cut_of, given, item_or, piece_items, piece_items_by, stop_by}
 use Rattle.cap_bytes.specs.Items.{stop_where}
 use Rattle.cap_bytes.specs.Items.{stopped}
 use Rattle.cap_bytes.specs.declared.faults.Rule.{Rule}
@@ -16,39 +16,40 @@ use Rattle.cap_bytes.specs.declared.stops.Stop.TheVariants as stops
 use Rattle.cap_pcap.specs.Split.{pcap_file_items, pcap_header_fault, header_at, records, refused_or}
 use Rattle.cap_pcap.specs.declared.records.Record.{Record}
 use Rattle.cap_source.specs.Contents.{content_in}
-use Rattle.cap_source.specs.Items.{behind, ending_from, ending_in, ending_with, file_ending, fresh, is_cut, is_pcapng}
+use Rattle.cap_source.specs.Items.{behind, ending_from, ending_in, ending_with, file_ending, fresh, is_pcapng}
 use Rattle.cap_source.specs.Items.{pcap_ending, SectionProgress, unless_faulty}
 use Rattle.cap_source.specs.declared.contents.BlockContent.{BlockContent}
 use Rattle.cap_source.specs.declared.feeds.FileEnd.{FileEnd}
 
-by-rule : (inside : Bool) (file offset : ℕ) (rule : Rule) → is_cut (stop_by inside Refuse file offset rule) ≡ false
-by-rule true file offset rule = refl
-by-rule false file offset rule = refl
+by-rule : (inside : Bool) (file offset size : ℕ) (rule : Rule)
+    → cut_of (stop_by inside Refuse file offset size rule) ≡ None
+by-rule true file offset size rule = refl
+by-rule false file offset size rule = refl
 
-by-fault : (inside : Bool) (file offset : ℕ) (fault : Option Rule) (stop : Stop)
-    → option_map (stop_by inside Refuse file offset) fault ≡ Some stop → is_cut stop ≡ false
-by-fault inside file offset None stop e = grind (arith, e)
-by-fault inside file offset (Some rule) stop e = grind (arith, by-rule inside file offset rule, e)
+by-fault : (inside : Bool) (file offset size : ℕ) (fault : Option Rule) (stop : Stop)
+    → option_map (stop_by inside Refuse file offset size) fault ≡ Some stop → cut_of stop ≡ None
+by-fault inside file offset size None stop e = grind (arith, e)
+by-fault inside file offset size (Some rule) stop e = grind (arith, by-rule inside file offset size rule, e)
 
-stop-case : (b inside : Bool) (file offset : ℕ) (fault : Option Rule) (stop : Stop)
-    → (if b then Some stops.End else option_map (stop_by inside Refuse file offset) fault) ≡ Some stop
-    → is_cut stop ≡ false
-stop-case true inside file offset fault stop e = grind (arith, e)
-stop-case false inside file offset fault stop e = by-fault inside file offset fault stop e
+stop-case : (b inside : Bool) (file offset size : ℕ) (fault : Option Rule) (stop : Stop)
+    → (if b then Some stops.End else option_map (stop_by inside Refuse file offset size) fault) ≡ Some stop
+    → cut_of stop ≡ None
+stop-case true inside file offset size fault stop e = grind (arith, e)
+stop-case false inside file offset size fault stop e = by-fault inside file offset size fault stop e
 
 -- what ends the pieces
 stops-whole : (inside : Bool) (file offset : ℕ) (bytes : List ℕ) (fault : Option Rule) (stop : Stop)
-    → stop_where inside Refuse file offset bytes fault ≡ Some stop → is_cut stop ≡ false
+    → stop_where inside Refuse file offset bytes fault ≡ Some stop → cut_of stop ≡ None
 unfolding stop_where
 stops-whole inside file offset bytes fault stop e =
-    stop-case (inside && (length bytes == 0)) inside file offset fault stop e
+    stop-case (inside && (length bytes == 0)) inside file offset (length bytes) fault stop e
 
 IsWhole : {P : Type 0} → PieceItem P → Type 0
 IsWhole (given piece bytes) = Unit {0}
-IsWhole (stopped stop) = is_cut stop ≡ false
+IsWhole (stopped stop) = cut_of stop ≡ None
 
 item-whole : {P : Type 0} (o : Option Stop) (piece : P) (lent : List ℕ) (rest : List (PieceItem P))
-    → ((stop : Stop) → o ≡ Some stop → is_cut stop ≡ false) → AllByRecursion IsWhole rest
+    → ((stop : Stop) → o ≡ Some stop → cut_of stop ≡ None) → AllByRecursion IsWhole rest
     → AllByRecursion IsWhole (item_or o (given piece lent) rest)
 unfolding IsWhole
 item-whole (Some stop) piece lent rest ends all = (ends stop refl, tt)
@@ -56,7 +57,7 @@ item-whole None piece lent rest ends all = (tt, all)
 
 pieces-whole : {K P : Type 0} (format : PieceFormat K P) (file : ℕ)
     → ((known : K) (offset : ℕ) (bytes : List ℕ) (stop : Stop)
-    → format.stop known Refuse file offset bytes ≡ Some stop → is_cut stop ≡ false)
+    → format.stop known Refuse file offset bytes ≡ Some stop → cut_of stop ≡ None)
     → (fuel : ℕ) (known : K) (offset : ℕ) (bytes : List ℕ)
     → AllByRecursion IsWhole (piece_items_by format fuel known Refuse file offset bytes)
 unfolding piece_items_by
@@ -68,12 +69,12 @@ pieces-whole format file ends (suc fuel) known offset bytes =
     (drop (format.size known bytes) bytes))
 
 block-case : (progress : SectionProgress) (content : Result BlockContent Rule) (later : FileEnd)
-    → later.ending.was_cut ≡ false → (unless_faulty content (ending_with progress false) later).ending.was_cut ≡ false
+    → later.ending.cut ≡ None → (unless_faulty content (ending_with progress None) later).ending.cut ≡ None
 block-case progress (Ok content) later h = h
 block-case progress (Err rule) later h = refl
 
 blocks-end : (progress : SectionProgress) (items : List (PieceItem Block)) → AllByRecursion IsWhole items
-    → (ending_in progress items).ending.was_cut ≡ false
+    → (ending_in progress items).ending.cut ≡ None
 unfolding ending_in IsWhole
 blocks-end progress [] all = refl
 blocks-end progress (stopped stop ∷ rest) all = all.0
@@ -83,7 +84,7 @@ blocks-end progress (given block body ∷ rest) all =
     (blocks-end (behind progress content) rest all.1)
 
 records-end : (items : List (PieceItem Record)) → AllByRecursion IsWhole items
-    → (pcap_ending items).ending.was_cut ≡ false
+    → (pcap_ending items).ending.cut ≡ None
 unfolding pcap_ending IsWhole
 records-end [] all = refl
 records-end (stopped stop ∷ rest) all = all.0
@@ -95,13 +96,13 @@ unfolding IsWhole
 header-whole None file offset items all = all
 header-whole (Some rule) file offset items all = (refl, tt)
 
-either-end : (b : Bool) (one other : FileEnd) → one.ending.was_cut ≡ false → other.ending.was_cut ≡ false
-    → (if b then one else other).ending.was_cut ≡ false
+either-end : (b : Bool) (one other : FileEnd) → one.ending.cut ≡ None → other.ending.cut ≡ None
+    → (if b then one else other).ending.cut ≡ None
 either-end true one other p q = p
 either-end false one other p q = q
 
 -- a file that is read without dropping anything wasn't cut
-pub never-cut : (file : ℕ) (bytes : List ℕ) → (file_ending Refuse file bytes).ending.was_cut ≡ false
+pub never-cut : (file : ℕ) (bytes : List ℕ) → (file_ending Refuse file bytes).ending.cut ≡ None
 unfolding ending_from piece_items pcap_file_items
 never-cut file bytes =
     either-end (is_pcapng bytes) _ _

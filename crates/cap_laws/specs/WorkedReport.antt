@@ -1,5 +1,5 @@
 -- The report on a few frames, by computation.
-use Rattle.std.specs.Prelude.{◌≡◌, ℕ, ◌*◌, List, [], ◌∷◌, ◌++◌, codes, Some, None, pos, length, false}
+use Rattle.std.specs.Prelude.{◌≡◌, ℕ, ◌*◌, List, [], ◌∷◌, ◌++◌, codes, Some, None, pos, length}
 use Rattle.cap_source.specs.TimeBases.{microseconds}
 use Rattle.cap_source.specs.declared.feeds.FileEnd.{FileEnd}
 use Rattle.cap_bytes.specs.declared.formats.Format.TheVariants.{Pcap}
@@ -56,7 +56,7 @@ all_four =
     ∷ first_two
 
 abbrev pub pcap_end : ℕ → FileEnd
-pcap_end file = record { ending = record { format = Pcap; skipped = 0; was_cut = false }; interfaces = 1; named = 0 }
+pcap_end file = record { ending = record { format = Pcap; skipped = 0; cut = None }; interfaces = 1; named = 0 }
 
 -- Overlapped fragments, two of four taken, and all of them.
 pub record Overlapped : Type 0 where

@@ -9,7 +9,7 @@ use cap_blocks::{
     Block, BlockReader, Options, PacketFields, body_rule, find_block_header, is_known, is_section,
     put_interface, put_packet, put_section,
 };
-use cap_bytes::{Device, Order, Pieces, Room, Rule, Sink, Source, Tail, Window};
+use cap_bytes::{CutRest, Device, Order, Pieces, Room, Rule, Sink, Source, Tail, Window};
 use cap_time::{Interface, Resolution};
 use std::alloc::Global;
 use std::cmp::max;
@@ -102,22 +102,31 @@ fn gives_blocks<R: Source>(rt: &impl Abort, reader: &mut BlockReader<R>, blocks:
     comes(rt, reader, None);
 }
 
-// A file has these blocks, by one byte a read and by many, and was cut if that is so.
-fn has_blocks(rt: &impl Abort, alloc: Global, file: &[u8], blocks: &[Row], was_cut: bool) {
+// A file has these blocks, by one byte a read and by many, and that rest, if it was cut.
+fn has_blocks(rt: &impl Abort, alloc: Global, file: &[u8], blocks: &[Row], cut: Option<CutRest>) {
     for &piece in &[1, 4_096] {
         let mut reader = reader(rt, alloc, file, piece, Tail::Accept);
         gives_blocks(rt, &mut reader, blocks);
-        same!(rt; reader.was_cut(), was_cut);
+        same!(rt; reader.cut(), cut);
         holds!(rt; !reader.window().failed());
     }
 }
 
 #[test]
 fn always_memory_blocks_in_order(rt: HostRuntime) {
-    has_blocks(&rt, rt.alloc(), &OPTIONS_PCAPNG, &OPTION_BLOCKS, false);
+    has_blocks(&rt, rt.alloc(), &OPTIONS_PCAPNG, &OPTION_BLOCKS, None);
     let (cut, whole) = (OPTIONS_PCAPNG.split_at(167).0, OPTION_BLOCKS.split_at(3).0);
-    has_blocks(&rt, rt.alloc(), cut, whole, true);
-    has_blocks(&rt, rt.alloc(), &TWO_SECTIONS, &SECTION_BLOCKS, false);
+    has_blocks(
+        &rt,
+        rt.alloc(),
+        cut,
+        whole,
+        Some(CutRest {
+            offset: 144,
+            size: 23,
+        }),
+    );
+    has_blocks(&rt, rt.alloc(), &TWO_SECTIONS, &SECTION_BLOCKS, None);
 }
 
 // A block comes, and the window shows more.
@@ -171,7 +180,7 @@ fn bodies(rt: HostRuntime) {
 fn refuses_twice<R: Source>(rt: &impl Abort, reader: &mut BlockReader<R>, rule: Rule) {
     same!(rt; reader.next_block(), Err(refused(0, rule)));
     same!(rt; reader.next_block(), Err(refused(0, rule)));
-    holds!(rt; !reader.was_cut());
+    same!(rt; reader.cut(), None);
 }
 
 // A section of 24 bytes.

@@ -4,14 +4,48 @@ ghost use Rattle.std.specs.Prelude.{◌≤◌};
 
 use crate::checks::{holds, same};
 use cap_bytes::{
-    Broken, Device, Fault, Order, Pieces, Refusal, Room, Rule, Sink, Source, Tracked, Window,
-    put_all, put_u16, put_u32, put_u64, u16_at, u32_at, u64_at,
+    Broken, CutRest, Device, Fault, Order, Pieces, Refusal, Room, Rule, Sink, Source, Stop, Tail,
+    Tracked, Window, put_all, put_u16, put_u32, put_u64, u16_at, u32_at, u64_at,
 };
 use std::alloc::Global;
 use std::cmp::max;
 use std::io;
 use std::io::{ErrorKind, Read, Write};
 use std::process::Abort;
+
+// A rule that 19 bytes break, which are the rest of a file.
+const CUT: Refusal = Refusal {
+    file: 2,
+    offset: 24,
+    rule: Rule::Cut,
+};
+
+// What ends the pieces of a file there: the rest, if it is dropped, and what a call for a piece returns.
+fn ends(
+    inside: bool,
+    tail: Tail,
+    refusal: Refusal,
+) -> (Option<CutRest>, Result<Option<u8>, Fault>) {
+    let stop = Stop::by(inside, tail, refusal, 19);
+    (stop.cut(), stop.answer())
+}
+
+#[test]
+fn a_cut_rest_is_dropped_or_refused(rt: HostRuntime) {
+    let rest = CutRest {
+        offset: 24,
+        size: 19,
+    };
+    let short = Refusal {
+        rule: Rule::BlockTrailer,
+        ..CUT
+    };
+    same!(&rt; ends(true, Tail::Accept, CUT), (Some(rest), Ok(None)));
+    same!(&rt; ends(true, Tail::Refuse, CUT), (None, Err(Fault::Refused(CUT))));
+    same!(&rt; ends(false, Tail::Accept, CUT), (None, Err(Fault::Refused(CUT))));
+    same!(&rt; ends(true, Tail::Accept, short), (None, Err(Fault::Refused(short))));
+    same!(&rt; Stop::End.cut(), None);
+}
 
 const RULES: [(Rule, u8, &str); 21] = [
     (Rule::Magic, 1, "magic"),
@@ -194,6 +228,7 @@ fn takes_step<R: Source>(
 // The window is at the file's end.
 fn is_at_end<R: Source>(rt: &impl Abort, window: &Window<R>) {
     holds!(rt; window.bytes().is_empty());
+    same!(rt; window.read_to(), 70_000);
     same!(rt; window.file(), 7);
     holds!(rt; !window.failed());
 }
@@ -225,6 +260,7 @@ fn always_memory_a_window_shows_what_was_read(rt: HostRuntime) {
     let mut window = Window::new(rt.alloc(), pieces, 3);
     holds!(&rt; !window.has_buffered(1));
     same!(&rt; need(&mut window, 3), Ok(true));
+    same!(&rt; (window.offset(), window.read_to()), (0, 4));
     holds!(&rt; window.has_buffered(4));
     holds!(&rt; !window.has_buffered(5));
 }

@@ -4,7 +4,7 @@ ghost use Rattle.std.specs.Prelude.{◌≡◌, Some, IsSome};
 
 use crate::checks::{holds, same};
 use crate::vectors::{CARRY_PCAP, refused};
-use cap_bytes::{Device, Order, Pieces, Room, Rule, Sink, Source, Tail, Window};
+use cap_bytes::{CutRest, Device, Order, Pieces, Room, Rule, Sink, Source, Tail, Window};
 use cap_pcap::{
     PcapHeader, PcapReader, Record, RecordTime, find_header, find_record, put_header, put_record,
 };
@@ -117,7 +117,7 @@ fn gives_end<R: Source>(rt: &impl Abort, reader: &mut PcapReader<R>)
 {
     ends(rt, reader);
     ends(rt, reader);
-    holds!(rt; !reader.was_cut());
+    same!(rt; reader.cut(), None);
 }
 
 // One packet comes, and then the end.
@@ -172,7 +172,7 @@ fn gives_two<R: Source>(rt: &impl Abort, reader: &mut PcapReader<R>) {
     gives(rt, reader, record(24, 2_500_000, 4, 4), &[1, 2, 3, 4]);
     gives(rt, reader, record(44, 3_000_005, 2, 60), &[0xfe, 0xff]);
     ends(rt, reader);
-    holds!(rt; reader.was_cut());
+    same!(rt; reader.cut(), Some(CutRest { offset: 62, size: 12 }));
 }
 
 // Two records, and the first 12 bytes of a third.
@@ -241,7 +241,7 @@ const REFUSED: [(&[u8], Rule); 4] = [
 fn refuses<R: Source>(rt: &impl Abort, reader: &mut PcapReader<R>, rule: Rule) {
     same!(rt; reader.header(), Err(refused(0, rule)));
     same!(rt; reader.header(), Err(refused(0, rule)));
-    holds!(rt; !reader.was_cut());
+    same!(rt; reader.cut(), None);
 }
 
 #[test]

@@ -149,7 +149,7 @@ fn gives_options<F: PacketFeed>(rt: &impl Abort, mut feed: F)
     let ending = Ending {
         format: Format::Pcapng,
         skipped: 1,
-        was_cut: false,
+        cut: None,
     };
     ends(rt, feed, ending);
 }

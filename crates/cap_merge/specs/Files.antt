@@ -1,5 +1,5 @@
 -- The packets of several files in the order of exact time.
-use Rattle.std.specs.Prelude.{ℕ, ◌+◌, ◌==◌, List, [], ◌∷◌, false, map, if◌then◌else◌}
+use Rattle.std.specs.Prelude.{ℕ, ◌+◌, ◌==◌, List, [], ◌∷◌, None, map, if◌then◌else◌}
 use Rattle.cap_bytes.specs.declared.faults.Tail.{Tail}
 use Rattle.cap_merge.specs.Parts.{item_time, is_refusal}
 use Rattle.cap_merge.specs.Run.{Clocked, opened_track, run}
@@ -29,7 +29,7 @@ clocked_run tail files = run item_time is_refusal (map opened_track (items_of_fi
 abbrev pub endings_from : Tail → ℕ → List (List ℕ) → ℕ → FileEnd
 endings_from tail first [] file =
     record {
-      ending = record { format = Pcap; skipped = 0; was_cut = false };
+      ending = record { format = Pcap; skipped = 0; cut = None };
       interfaces = 1;
       named = 0;
     }

@@ -164,7 +164,7 @@ has_file files file = list_any (λ f. f == file) files
 unfoldable pub endings_of : List Part → ℕ → FileEnd
 endings_of [] file =
     record {
-      ending = record { format = Pcap; skipped = 0; was_cut = false };
+      ending = record { format = Pcap; skipped = 0; cut = None };
       interfaces = 1;
       named = 0;
     }

@@ -39,12 +39,12 @@ pub SeesStop-header : (there : Bool) (tail : Tail) (old new : WindowState) (rule
     → SeesStop false (pcap_header_fault old.offset (coming old)) tail
     (stops.Refused (record { file = old.file; offset = old.offset; rule = rule })) old new
 SeesStop-header true tail old new rule n fault =
-    SeesStop-fault false _ tail rule old new n.0.goes (λ t. refl)
+    SeesStop-fault false _ tail (length (coming old)) rule old new n.0.goes (λ t. refl)
     (λ t. ap (pcap_header_fault old.offset) (sym (n.0.coming_same t))
-    ∙ (header_fault-append old.offset new.shown new.unread n.1 ∙ fault))
+    ∙ (header_fault-append old.offset new.shown new.unread n.1 ∙ fault)) (λ t cut. refl)
 SeesStop-header false tail old new rule n fault =
-    SeesStop-fault false _ tail rule old new n.0.goes (λ t. refl)
-    (λ t. ap (pcap_header_fault old.offset) (all_shown old new n.0 n.2 t) ∙ fault)
+    SeesStop-fault false _ tail (length (coming old)) rule old new n.0.goes (λ t. refl)
+    (λ t. ap (pcap_header_fault old.offset) (all_shown old new n.0 n.2 t) ∙ fault) (λ t cut. refl)
 
 module _ (header : PcapHeader) (tail : Tail) (old : WindowState) where
   -- no record is there, since nothing is
@@ -57,20 +57,22 @@ module _ (header : PcapHeader) (tail : Tail) (old : WindowState) where
       → 0 < length new.shown
       → record_fault header.order old.offset new.shown ≡ Some Cut
       → SeesStop true (record_fault header.order old.offset (coming old)) tail
-      (stop_by true tail old.file old.offset Cut) old new
+      (stop_by true tail old.file old.offset (length new.shown) Cut) old new
   SeesStop-cut new s none some fault =
-      SeesStop-fault true _ tail Cut old new s.goes (some_left true old new s some)
+      SeesStop-fault true _ tail (length new.shown) Cut old new s.goes (some_left true old new s some)
       (λ t. ap (record_fault header.order old.offset) (all_shown old new s none t) ∙ fault)
+      (λ t cut. ap length (all_shown old new s none t))
 
   -- no record is there, since another condition is met
   pub SeesStop-broken : (new : WindowState) (rule : Rule) → WindowShows old new → 0 < length new.shown
       → Some rule ≡ record_fault header.order old.offset new.shown → (rule ≡ Cut → ⊥)
       → SeesStop true (record_fault header.order old.offset (coming old)) tail
-      (stop_by true tail old.file old.offset rule) old new
+      (stop_by true tail old.file old.offset (length new.shown) rule) old new
   SeesStop-broken new rule s some fault other =
-      SeesStop-fault true _ tail rule old new s.goes (some_left true old new s some)
+      SeesStop-fault true _ tail (length new.shown) rule old new s.goes (some_left true old new s some)
       (λ t. ap (record_fault header.order old.offset) (sym (s.coming_same t))
       ∙ record_fault-append header.order old.offset new.shown new.unread rule (sym fault) other)
+      (λ t cut. absurd (other cut))
 
   -- what is seen in a second look, of all the bytes that the record takes
   module _ (b c : WindowState) (size : ℕ) (p : WindowShows old b) (k : WindowKeeps old b) (head : 16 ≤ length b.shown)
@@ -97,7 +99,7 @@ module _ (header : PcapHeader) (tail : Tail) (old : WindowState) where
 
     pub SeesStop-second : b.offset + size ≤ 2 ^ 40 → Needs size b (Ok false) c
         → SeesStop true (record_fault header.order old.offset (coming old)) tail
-        (stop_by true tail old.file old.offset Cut) old c
+        (stop_by true tail old.file old.offset (length c.shown) Cut) old c
     SeesStop-second limit n =
         grind (
           arith,

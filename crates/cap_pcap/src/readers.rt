@@ -1,6 +1,7 @@
 //! A reader of pcap files.
-ghost use Rattle.std.specs.Prelude.{◌≡◌, ◌↔◌, ◌≤◌, ◌+◌, length, IsTrue, IsSome, IsNone, Some, Ok, IfSome, OnErr};
+ghost use Rattle.std.specs.Prelude.{◌≡◌, ◌≤◌, ◌+◌, length, IsTrue, IsSome, IsNone, Some, Ok, IfSome, OnErr};
 ghost use Rattle.std.specs.Prelude.{is_some};
+ghost use Rattle.cap_bytes.specs.Items.{cut_by};
 ghost use Rattle.cap_bytes.specs.inner.Reader.{opened_reader, ReaderKeeps, HasWindow};
 ghost use Rattle.cap_pcap.specs.inner.Reader.{records_to_come, GivesHeader, GivesNextRecord, KeepsHeader, KeepsRecords};
 ghost use Rattle.cap_pcap.specs.inner.Reader.{ReachesHeader};
@@ -8,7 +9,7 @@ ghost use Rattle.cap_pcap.specs.inner.Reader.{ReachesRecord, TakesRecord, Refuse
 
 use crate::headers::{HEADER_SIZE, PcapHeader, look_for_header};
 use crate::records::{HEAD_SIZE, Record, look_for_record, try_next_buffered};
-use cap_bytes::{FILE_LIMIT, Fault, Source, Stop, Tail, Window};
+use cap_bytes::{CutRest, FILE_LIMIT, Fault, Source, Stop, Tail, Window};
 use std::marker::Model;
 
 /// A reader of a pcap file, record by record. It keeps no more of the file than its window shows.
@@ -185,11 +186,14 @@ impl<R: Source> PcapReader<R> {
         frame
     }
 
-    /// Whether the file ended in a rest that was cut, and that was dropped.
-    pub fn was_cut(&self) -> bool
-        ensures { IsTrue result ↔ (self.now.stop ≡ Some Stop.Cut) }
+    /// The rest of the file that was cut, and that was dropped, if it ended so.
+    pub fn cut(&self) -> Option<CutRest>
+        ensures { result ≡ cut_by self.now.stop }
     {
-        matches!(self.stop, Some(Stop::Cut))
+        match self.stop {
+            Some(stop) => stop.cut(),
+            None => None,
+        }
     }
 
     /// The window by which the file is read.

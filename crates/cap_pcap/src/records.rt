@@ -165,15 +165,18 @@ pub fn look_for_record<R: Source>(
         return Ok(Err(if window.bytes().is_empty() {
             Stop::End
         } else {
-            Stop::by(true, tail, cut)
+            Stop::by(true, tail, cut, window.bytes().len() as u64)
         }));
     }
     let size = match measure(header.order, offset, window.bytes()) {
         Ok(size) => size,
-        Err(rule) => return Ok(Err(Stop::by(true, tail, Refusal { file, offset, rule }))),
+        Err(rule) => {
+            let size = window.bytes().len() as u64;
+            return Ok(Err(Stop::by(true, tail, Refusal { file, offset, rule }, size)));
+        }
     };
     if !window.need(size)? {
-        return Ok(Err(Stop::by(true, tail, cut)));
+        return Ok(Err(Stop::by(true, tail, cut, window.bytes().len() as u64)));
     }
     Ok(Ok(record_of(header, offset, window.bytes())))
 }

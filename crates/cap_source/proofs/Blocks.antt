@@ -10,15 +10,16 @@ use Rattle.cap_time.specs.declared.resolutions.Interface.{Interface}
 use Rattle.cap_blocks.specs.Grammar.{section_kind, interface_kind, obsolete_kind, simple_kind, enhanced_kind}
 use Rattle.cap_blocks.specs.Grammar.{is_known_kind}
 use Rattle.cap_blocks.specs.Grammar.{is_total, least_total}
-use Rattle.cap_bytes.specs.Items.{IsEnd, PieceItem, given, stopped}
+use Rattle.cap_bytes.specs.Items.{IsEnd, PieceItem, cut_by, cut_of, given, stopped}
 use Rattle.cap_bytes.specs.inner.Reader.{ReaderState, ReaderKeeps, GivesStop}
 use Rattle.cap_blocks.specs.inner.Reader.{blocks_to_come, GivesBlock, ReachesBlock}
 use Rattle.cap_blocks.specs.Split.{body_in, block_fault}
 use Rattle.cap_blocks.specs.declared.blocks.Block.{Block}
+use Rattle.cap_bytes.specs.declared.stops.CutRest.{CutRest}
 use Rattle.cap_bytes.specs.declared.stops.Stop.{Stop}
 use Rattle.cap_bytes.specs.declared.stops.Stop.TheVariants as stops
 use Rattle.cap_bytes.proofs.Parsing.{from_none}
-use Rattle.cap_source.proofs.Pcaps.{none_stops, cut_is}
+use Rattle.cap_source.proofs.Pcaps.{none_stops}
 use Rattle.cap_bytes.specs.Number.{number}
 use Rattle.cap_bytes.specs.declared.faults.Rule.TheVariants as rules
 use Rattle.cap_source.specs.TimeBases.{interface_in}
@@ -26,7 +27,7 @@ use Rattle.cap_source.specs.Contents.{fitting, of_interface, timed_in, simple_in
 use Rattle.cap_source.specs.Feed as feeds
 use Rattle.cap_source.specs.Items.{SectionProgress, behind, frame_in, items_at_block, items_of_blocks, ending_with}
 use Rattle.cap_source.specs.Items.{ending_in}
-use Rattle.cap_source.specs.Items.{unless_faulty, first_in, unless_item, is_cut}
+use Rattle.cap_source.specs.Items.{unless_faulty, first_in, unless_item}
 use Rattle.cap_source.specs.inner.FileState.{FileState, pcapng_state, lent_length, part_of, FileLearns, FileKeeps}
 use Rattle.cap_source.specs.inner.FileState.{GoesOn}
 use Rattle.cap_source.specs.inner.FileState.{StepsTo}
@@ -139,7 +140,7 @@ items_behind f g p block body content old new fg is e = rw (is, ← e, fg) refl
 pub ending_behind : (p : SectionProgress) (block : Block) (body : List ℕ) (content : Result BlockContent Rule)
     (old new : List (PieceItem Block)) → old ≡ given block body ∷ new
     → content_in p.interfaces block.kind block.order body ≡ content
-    → unless_faulty content (ending_with p false) (ending_in (behind p content) new) ≡ ending_in p old
+    → unless_faulty content (ending_with p None) (ending_in (behind p content) new) ≡ ending_in p old
 unfolding ending_in
 ending_behind p block body content old new is e = rw (is, ← e) refl
 
@@ -184,7 +185,7 @@ block_steps file old new p block content named g k taken is =
         → IsFit (length p.interfaces) (unwrap_or new.lent []) c
         → (IsTrue old.told → items_at_block new.file p block (body_in block.total old.coming) c
         (items_of_blocks new.file (behind p c) (blocks_to_come new)) ≡ items_of_blocks old.file p (blocks_to_come old))
-        → (IsTrue old.told → unless_faulty c (ending_with p false) (ending_in (behind p c) (blocks_to_come new))
+        → (IsTrue old.told → unless_faulty c (ending_with p None) (ending_in (behind p c) (blocks_to_come new))
         ≡ ending_in p (blocks_to_come old))
         → (IsTrue old.told
         → unless_item c p.first (first_in (behind p c) (blocks_to_come new)) ≡ first_in p (blocks_to_come old))
@@ -209,7 +210,7 @@ unfolding items_of_blocks
 no_items stop file p items h is = grind arith
 
 ending_stopped : (stop : Stop) (p : SectionProgress) (items : List (PieceItem Block)) → items ≡ stopped stop ∷ []
-    → ending_with p (is_cut stop) ≡ ending_in p items
+    → ending_with p (cut_of stop) ≡ ending_in p items
 unfolding ending_in
 ending_stopped stop p items is = rw is refl
 
@@ -224,14 +225,15 @@ unfolding items_of_blocks
 refused_items refusal file p items is = rw is refl
 
 -- The blocks end.
-pub end_learned : (cut : Bool) (stop : Stop) (old new : ReaderState Order) (p : SectionProgress) → old.stop ≡ None
-    → IsEnd stop → GivesStop (is_some old.known) (block_fault old.known old.offset old.coming) stop old new
-    → IsTrue cut ↔ (new.stop ≡ Some stops.Cut) → ReaderKeeps old new
+pub end_learned : (cut : Option CutRest) (stop : Stop) (old new : ReaderState Order) (p : SectionProgress)
+    → old.stop ≡ None → IsEnd stop
+    → GivesStop (is_some old.known) (block_fault old.known old.offset old.coming) stop old new
+    → cut ≡ cut_by new.stop → ReaderKeeps old new
     → (IsTrue old.told → blocks_to_come new ≡ blocks_to_come old)
     → FileLearns (pcapng_state old p) (peeks.End (ending_with p cut)) (pcapng_state new p)
 end_learned cut stop old new p free ends g was k same =
     let at = from_none old.stop _ free g.first in
-    let which = cut_is cut stop (rw (g.stop_is) at was) in
+    let which : cut ≡ cut_of stop = was ∙ ap cut_by g.stop_is in
     record {
       is = record { file = refl; lent = omega arith; captured = omega arith; behind = omega arith };
       place = k.offset;
@@ -248,7 +250,7 @@ pub refusal_learned : (refusal : Refusal) (old new : ReaderState Order) (p : Sec
     → GivesStop (is_some old.known) (block_fault old.known old.offset old.coming) (stops.Refused refusal) old new
     → ReaderKeeps old new
     → (IsTrue old.told → blocks_to_come old ≡ stopped (stops.Refused refusal) ∷ [])
-    → FileLearns (pcapng_state old p) (peeks.Refused refusal (ending_with p false)) (pcapng_state new p)
+    → FileLearns (pcapng_state old p) (peeks.Refused refusal (ending_with p None)) (pcapng_state new p)
 refusal_learned refusal old new p free g k same =
     let at = from_none old.stop _ free g.first in
     record {
@@ -294,7 +296,7 @@ pub block_kept : (old new : ReaderState Order) (p q : SectionProgress) (block : 
 block_kept old new p q block content is_q g k is = grind (arith, block_keeps)
 
 pub refusal_kept : (refusal : Refusal) (ending : FileEnd) (old new : ReaderState Order) (p : SectionProgress)
-    → ending ≡ ending_with p false → old.stop ≡ None
+    → ending ≡ ending_with p None → old.stop ≡ None
     → GivesStop (is_some old.known) (block_fault old.known old.offset old.coming) (stops.Refused refusal) old new
     → ReaderKeeps old new
     → (IsTrue old.told → blocks_to_come old ≡ stopped (stops.Refused refusal) ∷ [])

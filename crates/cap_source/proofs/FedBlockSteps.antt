@@ -196,12 +196,12 @@ module _ (old : PushView) (section : Option Order) (b : List ℕ) (at : old.stag
                 ∙ ap (λ (c : PushView). items_after c (drop n b ++ later)) (sym same))),
           )
 
-      pub skip-sound : (left : ℕ) (new : PushView) → IsSoundPush old
-          → new ≡ record old { stage = Skipping block left } → IsSoundPush new
-      skip-sound left new s same =
+      pub skip-sound : (n : ℕ) (new : PushView) → IsSoundPush old
+          → new ≡ record old { stage = Skipping block (block.total - 4 - n) } → IsSoundPush new
+      skip-sound n new s same =
           let facts = skip-facts old.file old.progress section old.tail old.offset b [] block p unknown inside in
           subst IsSoundPush (sym same)
-          (record { limit = s.limit; counted = s.counted; stage = (facts.1, facts.2, facts.0) })
+          (record { limit = s.limit; counted = s.counted; stage = (facts.1, facts.2, facts.0, omega (arith, facts.0)) })
 
       pub skip-least : 12 ≤ block.total
       skip-least = (skip-facts old.file old.progress section old.tail old.offset b [] block p unknown inside).0
@@ -231,29 +231,29 @@ module _ (old : PushView) (block : Block) (left : ℕ) (b : List ℕ) (at : old.
         → items_after old w ≡ items_of_stop stop
     here-or stop w is = ap (λ (k : Stage). items_at_stage k old w) at ∙ is
 
-    pub skip-cut : (result : Result PushEvent Fault) (new : PushView) → length b < 4
-        → BreaksBy old Cut (stop_by true old.tail old.file old.offset Cut) result new → StepsFed old b result new
-    skip-cut result new few h =
-        let stop = stop_by true old.tail old.file old.offset Cut in
+    pub skip-cut : (size : ℕ) (result : Result PushEvent Fault) (new : PushView) → length b < 4
+        → BreaksBy old Cut (stop_by true old.tail old.file old.offset size Cut) result new → StepsFed old b result new
+    skip-cut size result new few h =
+        let stop = stop_by true old.tail old.file old.offset size Cut in
         broken-by old b Cut stop
         (here-or stop b
-        (skip-short old.file old.tail old.progress block left b (grind (arith, nat_tests))
-        ∙ ap (λ (n : ℕ). items_of_stop (stop_by true old.tail old.file n Cut)) placed))
-        (λ other later. absurd (other refl)) (λ cut. stop_by-short true old.tail old.file old.offset)
+        (skip-short old.file old.tail old.progress block left b size (grind (arith, nat_tests))
+        ∙ ap (λ (n : ℕ). items_of_stop (stop_by true old.tail old.file n size Cut)) placed))
+        (λ other later. absurd (other refl)) (λ cut. stop_by-short true old.tail old.file old.offset size)
         (λ cut. omega (arith, few)) result new h
 
-    pub skip-trailer : (result : Result PushEvent Fault) (new : PushView) → 4 ≤ length b
+    pub skip-trailer : (size : ℕ) (result : Result PushEvent Fault) (new : PushView) → 4 ≤ length b
         → (number block.order 4 b ≡ block.total → ⊥)
-        → BreaksBy old BlockTrailer (stop_by true old.tail old.file old.offset BlockTrailer) result new
+        → BreaksBy old BlockTrailer (stop_by true old.tail old.file old.offset size BlockTrailer) result new
         → StepsFed old b result new
-    skip-trailer result new four differs h =
-        let stop = stop_by true old.tail old.file old.offset BlockTrailer in
+    skip-trailer size result new four differs h =
+        let stop = stop_by true old.tail old.file old.offset size BlockTrailer in
         let zero : left ≡ 0 = grind (arith, nat_tests) in
         let at_later : (later : List ℕ) → items_after old (b ++ later) ≡ items_of_stop stop =
         λ later. here-or stop (b ++ later)
         (ap (λ (n : ℕ). skipped_items old.file old.tail old.progress block n (b ++ later)) zero
-        ∙ (skip-other old.file old.tail old.progress block b later four differs
-        ∙ ap (λ (n : ℕ). items_of_stop (stop_by true old.tail old.file n BlockTrailer)) placed)) in
+        ∙ (skip-other old.file old.tail old.progress block b later size four differs
+        ∙ ap (λ (n : ℕ). items_of_stop (stop_by true old.tail old.file n size BlockTrailer)) placed)) in
         broken-by old b BlockTrailer stop (ap (items_after old) (sym (append-nil b)) ∙ at_later [])
         (λ other later. at_later later) (λ cut. cc) (λ cut. cc) result new h
 

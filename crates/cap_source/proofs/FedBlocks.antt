@@ -20,6 +20,7 @@ use Rattle.cap_blocks.specs.Split.{body_fault, body_in, fields_fault, first_faul
 use Rattle.cap_blocks.specs.inner.Parsing.{ParsesBlockHeader}
 use Rattle.cap_blocks.specs.declared.blocks.Block.{Block}
 use Rattle.cap_bytes.proofs.Items.{stop_where-fault}
+use Rattle.cap_source.proofs.FedStops.{items-sized}
 use Rattle.cap_bytes.proofs.Spelling.{number-append}
 use Rattle.cap_bytes.specs.Items.{stop_by, stop_where}
 use Rattle.cap_bytes.specs.Number.{number}
@@ -150,13 +151,13 @@ module _ (file : ℕ) (progress : SectionProgress) (section : Option Order) (tai
 
     faulty : (rule : Rule) → body_fault block.order w ≡ Some rule
         → items_of_blocks file progress (block_items_from section tail file offset w)
-        ≡ items_of_stop (stop_by true tail file block.offset rule)
+        ≡ items_of_stop (stop_by true tail file block.offset (length w) rule)
     faulty rule is =
         let fault : block_fault section offset w ≡ Some rule =
         fault-whole section offset w block (Some rule) header-is is in
-        blocks-stop w (stop_by (is_some section) tail file offset rule)
+        blocks-stop w (stop_by (is_some section) tail file offset (length w) rule)
         (stop_where-fault (is_some section) tail file offset w (block_fault section offset w) rule some fault)
-        ∙ (λ i. items_of_stop (stop_by (inside i) tail file (sym offset-is i) rule))
+        ∙ (λ i. items_of_stop (stop_by (inside i) tail file (sym offset-is i) (length w) rule))
       where
         some : (is_some section && (length w == 0)) ≡ false
         some = let f = there in grind (arith, nat_tests)
@@ -168,7 +169,9 @@ module _ (file : ℕ) (progress : SectionProgress) (section : Option Order) (tai
     skip-cut few =
         let short : nat_lt (length w) ((block.total - 4) + 4) ≡ true =
         let l = least in grind (arith, nat_tests) in
-        faulty Cut (body_fault-cut block.order w (omega (arith, few, total-is))) ∙ sym (rw short refl)
+        faulty Cut (body_fault-cut block.order w (omega (arith, few, total-is)))
+        ∙ (items-sized true tail file block.offset (length w)
+        (block.total - 4 - (block.total - 4) + length w) Cut ∙ sym (rw short refl))
 
     skip-trailer : block.total ≤ length w → (number block.order 4 (drop (block.total - 4) w) ≡ block.total → ⊥)
         → items_of_blocks file progress (block_items_from section tail file offset w)
@@ -184,7 +187,7 @@ module _ (file : ℕ) (progress : SectionProgress) (section : Option Order) (tai
         (λ same. other (subst (λ (n : ℕ). number block.order 4 (drop (n - 4) w) ≡ n) (sym total-is) same)))
         ∙ (trailer ∙ sym (rw (long, differs) refl))
       where
-        trailer : items_of_stop (stop_by true tail file block.offset BlockTrailer)
+        trailer : items_of_stop (stop_by true tail file block.offset (length w) BlockTrailer)
             ≡ refused (record { file = file; offset = block.offset; rule = BlockTrailer }) ∷ []
         trailer = grind arith
 
@@ -266,7 +269,13 @@ module _ (file : ℕ) (tail : Tail) (progress : SectionProgress) (block : Block)
       ap (λ (k : ℕ). drop k w) (sum left n within) ∙ at (left - n) in
       let two : drop (left + 4) w ≡ drop ((left - n) + 4) (drop n b ++ later) =
       ap (λ (k : ℕ). drop k w) (more left n within) ∙ at ((left - n) + 4) in
-      rw (few, one, two) refl
+      rw (
+        few,
+        one,
+        two,
+        items-sized true tail file block.offset (block.total - 4 - left + length w)
+            (block.total - 4 - (left - n) + length (drop n b ++ later)) Cut,
+      ) refl
     where
       drop-drop' : (n k : ℕ) (l : List ℕ) → drop (n + k) l ≡ drop k (drop n l)
       drop-drop' n k l = sym (drop-drop k n l)
@@ -278,16 +287,18 @@ module _ (file : ℕ) (tail : Tail) (progress : SectionProgress) (block : Block)
       more left n h = omega arith
 
   -- too few bytes are left for its trailer, or it is another number
-  pub skip-short : (left : ℕ) (w : List ℕ) → length w < left + 4
-      → skipped_items file tail progress block left w ≡ items_of_stop (stop_by true tail file block.offset Cut)
+  pub skip-short : (left : ℕ) (w : List ℕ) (size : ℕ) → length w < left + 4
+      → skipped_items file tail progress block left w ≡ items_of_stop (stop_by true tail file block.offset size Cut)
   unfolding skipped_items
-  skip-short left w few = let short : nat_lt (length w) (left + 4) ≡ true = grind (arith, nat_tests) in rw short refl
+  skip-short left w size few =
+      let short : nat_lt (length w) (left + 4) ≡ true = grind (arith, nat_tests) in
+      rw short (items-sized true tail file block.offset (block.total - 4 - left + length w) size Cut)
 
-  pub skip-other : (b later : List ℕ) → 4 ≤ length b → (number block.order 4 b ≡ block.total → ⊥)
+  pub skip-other : (b later : List ℕ) (size : ℕ) → 4 ≤ length b → (number block.order 4 b ≡ block.total → ⊥)
       → skipped_items file tail progress block 0 (b ++ later)
-      ≡ items_of_stop (stop_by true tail file block.offset BlockTrailer)
+      ≡ items_of_stop (stop_by true tail file block.offset size BlockTrailer)
   unfolding skipped_items
-  skip-other b later four differs =
+  skip-other b later size four differs =
       let long : nat_lt (length (b ++ later)) 4 ≡ false = grind (arith, nat_tests, length-append b later) in
       let same : number block.order 4 (b ++ later) ≡ number block.order 4 b = number-append block.order 4 b later four
       in

@@ -107,26 +107,26 @@ module _ (tail : Tail) (file : ℕ) (progress : SectionProgress) (offset : ℕ) 
   -- what a header is refused by
   stop-outside : (w : List ℕ) (fault : Option Rule) (stop : Stop) → stop_where false tail file offset w fault
       ≡ Some stop
-      → (rule : Rule) × (fault ≡ Some rule) × (stop ≡ stop_by false tail file offset rule)
+      → (rule : Rule) × (fault ≡ Some rule) × (stop ≡ stop_by false tail file offset (length w) rule)
   unfolding stop_where
   stop-outside w (Some rule) stop is = (rule, refl, grind arith)
   stop-outside w None stop is = absurd (grind arith)
 
-  outside : (rule : Rule)
-      → items_of_stop (stop_by false tail file offset rule)
+  outside : (size : ℕ) (rule : Rule)
+      → items_of_stop (stop_by false tail file offset size rule)
       ≡ refused (record { file = file; offset = offset; rule = rule }) ∷ []
-  outside rule = grind arith
+  outside size rule = grind arith
 
   by-format : (w : List ℕ) (pcapng : Bool) (stop : Stop) → is_pcapng w ≡ pcapng
       → stop_where false tail file offset w (if pcapng then None else pcap_header_fault offset w) ≡ Some stop
       → items_from tail file progress offset w ≡ items_of_stop stop
   by-format w true stop format is = absurd (none (stop-outside w None stop is))
     where
-      none : ((rule : Rule) × (None ≡ Some rule) × (stop ≡ stop_by false tail file offset rule)) → ⊥
+      none : ((rule : Rule) × (None ≡ Some rule) × (stop ≡ stop_by false tail file offset (length w) rule)) → ⊥
       none h = grind arith
   by-format w false stop format is =
       let h = stop-outside w (pcap_header_fault offset w) stop is in
-      header-rule w h.0 format h.1 ∙ (sym (outside h.0) ∙ ap items_of_stop (sym h.2))
+      header-rule w h.0 format h.1 ∙ (sym (outside (length w) h.0) ∙ ap items_of_stop (sym h.2))
 
   pub header-stop : (w : List ℕ) (stop : Stop) → stop_where false tail file offset w (pcap_rule offset w) ≡ Some stop
       → items_from tail file progress offset w ≡ items_of_stop stop

@@ -4,7 +4,7 @@ use Rattle.std.proofs.Common.{Option}
 use Rattle.std.proofs.Common.{Some, refl, sym, ap, ◌∙◌, subst, arith, append-nil, length-append}
 use Rattle.std.specs.Prelude.{Result}
 use Rattle.std.proofs.lemmas.Bool.Decides.{nat_tests}
-use Rattle.cap_bytes.proofs.Items.{stop_where-fault}
+use Rattle.cap_bytes.proofs.Items.{stop_by-sized, stop_where-fault}
 use Rattle.cap_bytes.specs.Items.{stop_by, stop_where}
 use Rattle.cap_bytes.specs.declared.faults.Fault.{Fault}
 use Rattle.cap_bytes.specs.declared.faults.Rule.{Rule}
@@ -19,9 +19,14 @@ use Rattle.cap_source.specs.inner.FedSteps.{AreShort, BreaksBy, BreaksIf, Breaks
 use Rattle.cap_source.specs.inner.FedSteps.{IsSoundPush, IsToldStop, StepsFed, StopsFed, is_cut_rule}
 
 -- what is cut short gives no packet
-pub stop_by-short : (inside : Bool) (tail : Tail) (file offset : ℕ) → AreShort (items_of_stop
-    (stop_by inside tail file offset Cut))
-stop_by-short inside tail file offset = grind arith
+pub stop_by-short : (inside : Bool) (tail : Tail) (file offset size : ℕ)
+    → AreShort (items_of_stop (stop_by inside tail file offset size Cut))
+stop_by-short inside tail file offset size = grind arith
+
+-- what is dropped gives none, of whatever size it is
+pub items-sized : (inside : Bool) (tail : Tail) (file offset n m : ℕ) (rule : Rule)
+    → items_of_stop (stop_by inside tail file offset n rule) ≡ items_of_stop (stop_by inside tail file offset m rule)
+items-sized inside tail file offset n m rule = grind arith
 
 pub stop-none : (inside : Bool) (tail : Tail) (file offset : ℕ) (bytes : List ℕ) (fault : Option Rule)
     → (inside && (length bytes == 0)) ≡ true → stop_where inside tail file offset bytes fault ≡ Some stops.End
@@ -36,7 +41,7 @@ module _ (old : PushView) (b : List ℕ) (result : Result PushEvent Fault) (new 
       → IsToldStop stop result → StepsFed old b result new
   stopped-by stops.End every still told =
       subst (λ (r : Result PushEvent Fault). StepsFed old b r new) (sym told) (every, still)
-  stopped-by stops.Cut every still told =
+  stopped-by (stops.Cut rest) every still told =
       subst (λ (r : Result PushEvent Fault). StepsFed old b r new) (sym told) (every, still)
   stopped-by (stops.Refused refusal) every still told =
       subst (λ (r : Result PushEvent Fault). StepsFed old b r new) (sym told) (every, still)
@@ -107,12 +112,12 @@ module _ (old : PushView) (inside : Bool) (faulty : List ℕ → Option Rule) (b
       let end : stop ≡ stops.End = cc in
       subst (λ (s : Stop). AreShort (items_of_stop s)) (sym end) tt
   short-by false stop e w cut =
-      let same : Some stop ≡ Some (stop_by inside old.tail old.file old.offset rule) =
+      let same : Some stop ≡ Some (stop_by inside old.tail old.file old.offset (length b) rule) =
       sym w ∙ stop_where-fault inside old.tail old.file old.offset b (Some rule) rule e refl in
-      let by : stop ≡ stop_by inside old.tail old.file old.offset rule = cc in
+      let by : stop ≡ stop_by inside old.tail old.file old.offset (length b) rule = cc in
       subst (λ (s : Stop). AreShort (items_of_stop s)) (sym by)
-      (subst (λ (r : Rule). AreShort (items_of_stop (stop_by inside old.tail old.file old.offset r))) (sym cut)
-      (stop_by-short inside old.tail old.file old.offset))
+      (subst (λ (r : Rule). AreShort (items_of_stop (stop_by inside old.tail old.file old.offset (length b) r)))
+      (sym cut) (stop_by-short inside old.tail old.file old.offset (length b)))
 
   not-empty : (xs : List ℕ) → 0 < length xs → (inside && (length xs == 0)) ≡ false
   not-empty xs some = grind (arith, nat_tests)
@@ -125,7 +130,9 @@ module _ (old : PushView) (inside : Bool) (faulty : List ℕ → Option Rule) (b
       let there = not-empty (b ++ later) (omega (arith, some other, length-append b later)) in
       ap (stop_where inside old.tail old.file old.offset (b ++ later)) (more other later)
       ∙ (stop_where-fault inside old.tail old.file old.offset (b ++ later) (Some rule) rule there refl
-      ∙ (sym (stop_where-fault inside old.tail old.file old.offset b (Some rule) rule here refl) ∙ e))
+      ∙ (ap Some (stop_by-sized inside old.tail old.file old.offset (length (b ++ later)) (length b) rule
+      (λ cut. absurd (other cut)))
+      ∙ sym (stop_where-fault inside old.tail old.file old.offset b (Some rule) rule here refl) ∙ e))
 
   pub broken : (result : Result PushEvent Fault) (new : PushView) → BreaksOff old inside b rule result new
       → StepsFed old b result new

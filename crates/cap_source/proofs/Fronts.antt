@@ -70,7 +70,7 @@ Fails-behind a b c offset p f = record {
   back = λ n. p.back offset (f.back n);
   items = λ n. p.items offset (f.back n) ∙ f.items n;
   so_far = λ n. f.so_far n ∙ ap Some (sym (p.ending offset (f.back n)));
-  whole = λ n. ap (λ (e : FileEnd). e.ending.was_cut) (p.ending offset (f.back n)) ∙ f.whole n;
+  whole = λ n. ap (λ (e : FileEnd). e.ending.cut) (p.ending offset (f.back n)) ∙ f.whole n;
 }
 
 taken-behind : (a b c : Fronts) (next mark : Option Peeked) → FrontsPass a None b → IfTaken mark (FrontsPass b next c)
@@ -141,7 +141,7 @@ module _ (file : ℕ) (old new : ReaderState Order) (p : SectionProgress) (block
       ≡ items_at_block new.file p block (body_in block.total old.coming) c
       (items_of_blocks new.file (behind p c) (blocks_before new end)))
       → ((end : ℕ) → new.offset ≤ end → ending_in p (blocks_before old end)
-      ≡ unless_faulty c (ending_with p false) (ending_in (behind p c) (blocks_before new end)))
+      ≡ unless_faulty c (ending_with p None) (ending_in (behind p c) (blocks_before new end)))
       → IfTaken (next_at file p block c)
       (FrontsPass (pcapng_fronts old p) (next_at file p block c) (pcapng_fronts new (behind p c)))
   by-content (Ok contents.Section) is items ending = block-pass None _ items ending
@@ -176,14 +176,14 @@ pub none-before : (offset : ℕ) (bytes : List ℕ) → bytes_before offset offs
 none-before offset bytes = let none : offset - offset ≡ 0 = omega arith in ap (λ (n : ℕ). take n bytes) none
 
 ended-items : (file : ℕ) (p : SectionProgress) (items : List (PieceItem Block)) → items ≡ stopped stops.End ∷ []
-    → (items_of_blocks file p items ≡ []) × (ending_in p items ≡ ending_with p false)
+    → (items_of_blocks file p items ≡ []) × (ending_in p items ≡ ending_with p None)
 unfolding items_of_blocks ending_in
 ended-items file p items is = rw is (refl, refl)
 
 no-blocks : (known : Option Order) (tail : Tail) (file offset : ℕ) (bytes : List ℕ) (p : SectionProgress)
     → IsTrue (is_some known)
     → (items_of_blocks file p (block_items_from known tail file offset (bytes_before offset offset bytes)) ≡ [])
-    × (ending_in p (block_items_from known tail file offset (bytes_before offset offset bytes)) ≡ ending_with p false)
+    × (ending_in p (block_items_from known tail file offset (bytes_before offset offset bytes)) ≡ ending_with p None)
 no-blocks None tail file offset bytes p is = absurd (not-both false is refl)
 no-blocks (Some order) tail file offset bytes p is =
     ended-items file p _ (ap (block_items_from (Some order) tail file offset) (none-before offset bytes)
@@ -205,7 +205,7 @@ block-fails old new p file offset b none =
       back = λ n. (omega arith, inl (subst (λ (b : Bool). IsTrue b) known n));
       items = λ n. (ends n).0;
       so_far = λ n. ap Some (sym (ends n).1);
-      whole = λ n. ap (λ (e : FileEnd). e.ending.was_cut) (ends n).1;
+      whole = λ n. ap (λ (e : FileEnd). e.ending.cut) (ends n).1;
     })
 
 pub block-fault : (old new : ReaderState Order) (p : SectionProgress) (fault : Fault) (next : Option Peeked)

@@ -152,14 +152,14 @@ module _ (header : PcapHeader) (old new : ReaderState PcapHeader) (k : ReaderKee
 
 ended-records : (file : ℕ) (known : Option PcapHeader) (bytes : List ℕ) (items : List (PieceItem Record))
     → items ≡ stopped stops.End ∷ []
-    → (pcap_items file (interface_of (header_or known bytes)) items ≡ []) × (pcap_ending items ≡ pcap_ending_with false)
+    → (pcap_items file (interface_of (header_or known bytes)) items ≡ []) × (pcap_ending items ≡ pcap_ending_with None)
 unfolding pcap_items pcap_ending
 ended-records file known bytes items is = rw is (refl, refl)
 
 no-records : (known : Option PcapHeader) (tail : Tail) (file offset : ℕ) (bytes : List ℕ) → IsTrue (is_some known)
     → (record_items_of file tail known offset (bytes_before offset offset bytes) ≡ [])
     × (pcap_ending (record_items_at known tail file offset (bytes_before offset offset bytes))
-    ≡ pcap_ending_with false)
+    ≡ pcap_ending_with None)
 no-records None tail file offset bytes is = absurd (not-both false is refl)
 no-records (Some header) tail file offset bytes is =
     ended-records file (Some header) (bytes_before offset offset bytes) _
@@ -181,7 +181,7 @@ record-fails old new file offset b none =
       back = λ n. (omega arith, inl (subst (λ (b : Bool). IsTrue b) known n));
       items = λ n. (ends n).0;
       so_far = λ n. ap Some (sym (ends n).1);
-      whole = λ n. ap (λ (e : FileEnd). e.ending.was_cut) (ends n).1;
+      whole = λ n. ap (λ (e : FileEnd). e.ending.cut) (ends n).1;
     })
 
 -- the first four bytes tell the format of a file that ends after them

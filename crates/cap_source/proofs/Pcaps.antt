@@ -6,7 +6,7 @@ use Rattle.cap_bytes.specs.declared.faults.Fault.TheVariants.{Refused}
 use Rattle.cap_bytes.specs.declared.faults.Refusal.{Refusal}
 use Rattle.cap_bytes.specs.declared.faults.Rule.{Rule}
 use Rattle.cap_time.specs.declared.resolutions.Interface.{Interface}
-use Rattle.cap_bytes.specs.Items.{IsEnd, PieceItem, given, stopped}
+use Rattle.cap_bytes.specs.Items.{IsEnd, PieceItem, cut_by, cut_of, given, stopped}
 use Rattle.cap_bytes.specs.inner.Reach.{ReachesTo}
 use Rattle.cap_bytes.specs.inner.Reader.{ReaderState, ReaderKeeps, GivesStop}
 use Rattle.cap_bytes.proofs.Items.{rule_told}
@@ -18,11 +18,11 @@ use Rattle.cap_pcap.specs.inner.Reader.{ReachesRecord}
 use Rattle.cap_pcap.specs.Split.{pcap_header_fault, header_at, record_fault}
 use Rattle.cap_pcap.specs.declared.headers.PcapHeader.{PcapHeader}
 use Rattle.cap_pcap.specs.declared.records.Record.{Record}
+use Rattle.cap_bytes.specs.declared.stops.CutRest.{CutRest}
 use Rattle.cap_bytes.specs.declared.stops.Stop.{Stop}
 use Rattle.cap_bytes.specs.declared.stops.Stop.TheVariants as stops
 use Rattle.cap_source.specs.Feed as feeds
 use Rattle.cap_source.specs.Items.{SectionProgress, interface_of, meta_of, pcap_items, pcap_ending, pcap_ending_with}
-use Rattle.cap_source.specs.Items.{is_cut}
 use Rattle.cap_source.specs.inner.FileState.{pcap_state, noted_by, header_or, first_in_pcap, lent_length, part_of}
 use Rattle.cap_source.specs.inner.FileState.{FileLearns, FileWaits}
 use Rattle.cap_source.specs.inner.FileState.{ReadsTo, FileTakes, FileKeeps}
@@ -105,24 +105,15 @@ stopped_again : (new : ReaderState PcapHeader) (stop : Stop) → new.stop ≡ So
     → records_to_come new ≡ stopped stop ∷ []
 stopped_again new stop is = rw is refl
 
--- whether the end was cut, by what was answered of it
-pub cut_is : (cut : Bool) (stop : Stop) → IsTrue cut ↔ (Some stop ≡ Some stops.Cut) → cut ≡ is_cut stop
-cut_is true stops.End both = absurd (let e = both.0 refl in cc)
-cut_is true stops.Cut both = refl
-cut_is true (stops.Refused refusal) both = absurd (let e = both.0 refl in cc)
-cut_is false stops.End both = refl
-cut_is false stops.Cut both = both.1 refl
-cut_is false (stops.Refused refusal) both = refl
-
 no_items : (stop : Stop) (file : ℕ) (i : Interface) (items : List (PieceItem Record)) → IsEnd stop
     → items ≡ stopped stop ∷ [] → [] ≡ pcap_items file i items
 unfolding pcap_items
 no_items stops.End file i items h is = rw is refl
-no_items stops.Cut file i items h is = rw is refl
+no_items (stops.Cut rest) file i items h is = rw is refl
 no_items (stops.Refused refusal) file i items h is = absurd h
 
 ending_stopped : (stop : Stop) (items : List (PieceItem Record)) → items ≡ stopped stop ∷ []
-    → pcap_ending_with (is_cut stop) ≡ pcap_ending items
+    → pcap_ending_with (cut_of stop) ≡ pcap_ending items
 unfolding pcap_ending
 ending_stopped stop items is = rw is refl
 
@@ -133,16 +124,16 @@ unfolding pcap_items
 refused_items refusal file i items is = rw is refl
 
 -- The records end.
-pub end_learned : (header : PcapHeader) (cut : Bool) (stop : Stop) (old new : ReaderState PcapHeader)
+pub end_learned : (header : PcapHeader) (cut : Option CutRest) (stop : Stop) (old new : ReaderState PcapHeader)
     (progress : SectionProgress)
     → old.known ≡ Some header → old.stop ≡ None
     → IsEnd stop → GivesStop true (record_fault header.order old.offset old.coming) stop old new
-    → IsTrue cut ↔ (new.stop ≡ Some stops.Cut) → ReaderKeeps old new
+    → cut ≡ cut_by new.stop → ReaderKeeps old new
     → (IsTrue old.told → records_to_come new ≡ records_to_come old)
     → FileLearns (pcap_state old progress) (peeks.End (pcap_ending_with cut)) (pcap_state new progress)
 end_learned header cut stop old new progress known free ends g was k same =
     let at = from_none old.stop _ free g.first in
-    let which = cut_is cut stop (rw (g.stop_is) at was) in
+    let which : cut ≡ cut_of stop = was ∙ ap cut_by g.stop_is in
     record {
       is = record { file = refl; lent = omega arith; captured = omega arith; behind = omega arith };
       place = k.offset;
@@ -163,7 +154,7 @@ pub refusal_learned : (header : PcapHeader) (refusal : Refusal) (old new : Reade
     → GivesStop true (record_fault header.order old.offset old.coming) (stops.Refused refusal) old new
     → ReaderKeeps old new
     → (IsTrue old.told → records_to_come old ≡ stopped (stops.Refused refusal) ∷ [])
-    → FileLearns (pcap_state old progress) (peeks.Refused refusal (pcap_ending_with false)) (pcap_state new progress)
+    → FileLearns (pcap_state old progress) (peeks.Refused refusal (pcap_ending_with None)) (pcap_state new progress)
 refusal_learned header refusal old new progress known free g k same =
     let at = from_none old.stop _ free g.first in
     record {
@@ -192,7 +183,7 @@ refused_first h stop offset bytes rule unknown free is = rw (unknown, free, is) 
 pub header_refused : (refusal : Refusal) (old new : ReaderState PcapHeader) (p : SectionProgress) → old.stop ≡ None
     → GivesHeader old (Err (Refused refusal)) new → ReaderKeeps old new
     → (IsTrue old.told → records_to_come old ≡ stopped (stops.Refused refusal) ∷ [])
-    → FileLearns (pcap_state old p) (peeks.Refused refusal (pcap_ending_with false)) (pcap_state new p)
+    → FileLearns (pcap_state old p) (peeks.Refused refusal (pcap_ending_with None)) (pcap_state new p)
 header_refused refusal old new p free g k same =
     let at = from_none old.stop _ free g.0.first in
     record {

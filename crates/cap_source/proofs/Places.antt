@@ -1,7 +1,7 @@
 -- What is known at a block goes by the blocks before it.
 use Rattle.std.proofs.Common.{◌≡◌, ◌==◌, ◌&&◌, ◌+◌, ◌-◌, ℕ, not, true, false, Bool, List, [], ◌∷◌, ◌++◌, ◌||◌, length}
 use Rattle.std.proofs.Common.{drop, slice_get, Some, Result, Ok, Err, IfOk, refl, sym, ap, ◌∙◌, subst, arith, cond}
-use Rattle.std.proofs.Common.{if◌then◌else◌, length-append, append_assoc, append-nil}
+use Rattle.std.proofs.Common.{None, if◌then◌else◌, length-append, append_assoc, append-nil}
 use Rattle.std.specs.List.{filter, count_by, suffix_len, before_last, after_last}
 use Rattle.std.proofs.lemmas.Bool.Decides.{nat_tests}
 use Rattle.std.proofs.lemmas.List.{length-map, drop-append-le, drop_all, take-append-le, take_at, reverse-append}
@@ -264,7 +264,7 @@ unfolding ending_in ending_behind
 ending-from before [] = refl
 ending-from before (pieces.stopped stop ∷ rest) = refl
 ending-from before (pieces.given block body ∷ rest) =
-    one (λ p content later. unless_faulty content (ending_with p false) later) (λ p rule x y. refl) before (block, body)
+    one (λ p content later. unless_faulty content (ending_with p None) later) (λ p rule x y. refl) before (block, body)
     (content_in (known_behind before).interfaces block.kind block.order body) (λ p. ending_in p rest)
     (ending_behind (before ++ (block, body) ∷ []) rest)
     (content-tells (known_behind before).interfaces (block, body)) (ending-from (before ++ (block, body) ∷ []) rest)

@@ -1,6 +1,6 @@
 -- A capture whose bytes are fed piece by piece, and the packets that still come of it, whatever bytes are fed later.
-use Rattle.std.specs.Prelude.{◌≡◌, ◌+◌, ◌==◌, ℕ, nat_lt, if◌then◌else◌, Bool, true, IsTrue, List, [], ◌∷◌, ◌++◌, length}
-use Rattle.std.specs.Prelude.{drop, Some}
+use Rattle.std.specs.Prelude.{◌≡◌, ◌+◌, ◌-◌, ◌==◌, ℕ, nat_lt, if◌then◌else◌, Bool, true, IsTrue, List, [], ◌∷◌, ◌++◌}
+use Rattle.std.specs.Prelude.{length, drop, Some}
 use Rattle.cap_blocks.specs.Split.{block_items_from}
 use Rattle.cap_blocks.specs.declared.blocks.Block.{Block}
 use Rattle.cap_bytes.specs.Items.{stop_by}
@@ -29,7 +29,8 @@ pub record PushView : Type 0 where
 -- the items of a pcapng file from within a block on that is skipped, whose trailer comes after `left` of these bytes
 unfoldable pub skipped_items : ℕ → Tail → SectionProgress → Block → ℕ → List ℕ → List Item
 skipped_items file tail progress block left bytes =
-    if nat_lt (length bytes) (left + 4) then items_of_stop (stop_by true tail file block.offset Cut) else
+    if nat_lt (length bytes) (left + 4) then
+    items_of_stop (stop_by true tail file block.offset (block.total - 4 - left + length bytes) Cut) else
     if number block.order 4 (drop left bytes) == block.total
     then items_of_blocks file (after progress contents.Other)
     (block_items_from (Some block.order) tail file (block.offset + block.total) (drop (left + 4) bytes))

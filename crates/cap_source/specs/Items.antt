@@ -13,6 +13,7 @@ use Rattle.std.specs.Prelude.{pos}
 use Rattle.cap_pcap.specs.Split as records
 use Rattle.cap_pcap.specs.declared.headers.PcapHeader.{PcapHeader}
 use Rattle.cap_pcap.specs.declared.records.Record.{Record}
+use Rattle.cap_bytes.specs.declared.stops.CutRest.{CutRest}
 use Rattle.cap_bytes.specs.declared.stops.Stop.{Stop}
 use Rattle.cap_bytes.specs.declared.stops.Stop.TheVariants as stops
 use Rattle.cap_blocks.specs.Split as blocks
@@ -109,7 +110,7 @@ behind progress (Err rule) = progress
 -- what the end of the blocks or records is as an item
 abbrev pub items_of_stop : Stop → List Item
 items_of_stop stops.End = []
-items_of_stop stops.Cut = []
+items_of_stop (stops.Cut rest) = []
 items_of_stop (stops.Refused refusal) = refused refusal ∷ []
 
 -- the items of the rest of a pcapng file, by the blocks that it splits into
@@ -120,20 +121,15 @@ items_of_blocks file progress (pieces.given block body ∷ rest) =
     let content = content_in progress.interfaces block.kind block.order body in
     items_at_block file progress block body content (items_of_blocks file (behind progress content) rest)
 
--- how a pcapng file ends that was read so far, whether a rest was dropped, how many interfaces it has, and how many of
+-- how a pcapng file ends that was read so far, the rest that was dropped, how many interfaces it has, and how many of
 -- them have a name
-abbrev pub ending_with : SectionProgress → Bool → FileEnd
-ending_with progress was_cut =
+abbrev pub ending_with : SectionProgress → Option CutRest → FileEnd
+ending_with progress cut =
     record {
-      ending = record { format = Pcapng; skipped = progress.skipped; was_cut = was_cut };
+      ending = record { format = Pcapng; skipped = progress.skipped; cut = cut };
       interfaces = progress.base + length progress.interfaces;
       named = progress.named;
     }
-
-abbrev pub is_cut : Stop → Bool
-is_cut stops.End = false
-is_cut stops.Cut = true
-is_cut (stops.Refused refusal) = false
 
 -- one of two, by whether a block breaks a rule
 abbrev pub unless_faulty : {A : Type 0} → Result BlockContent Rule → A → A → A
@@ -142,11 +138,11 @@ unless_faulty (Err rule) here later = here
 
 -- how it ends, by the blocks of its rest
 unfoldable pub ending_in : SectionProgress → List (pieces.PieceItem Block) → FileEnd
-ending_in progress [] = ending_with progress false
-ending_in progress (pieces.stopped stop ∷ rest) = ending_with progress (is_cut stop)
+ending_in progress [] = ending_with progress None
+ending_in progress (pieces.stopped stop ∷ rest) = ending_with progress (pieces.cut_of stop)
 ending_in progress (pieces.given block body ∷ rest) =
     let content = content_in progress.interfaces block.kind block.order body in
-    unless_faulty content (ending_with progress false) (ending_in (behind progress content) rest)
+    unless_faulty content (ending_with progress None) (ending_in (behind progress content) rest)
 
 -- one of two, by whether a block gives an item
 abbrev pub unless_item : {A : Type 0} → Result BlockContent Rule → A → A → A
@@ -202,17 +198,17 @@ pcap_items file interface (pieces.given r frame ∷ rest) =
     packet (meta_of file interface r) frame ∷ pcap_items file interface rest
 
 -- how a pcap file ends, which has one interface
-abbrev pub pcap_ending_with : Bool → FileEnd
-pcap_ending_with was_cut =
+abbrev pub pcap_ending_with : Option CutRest → FileEnd
+pcap_ending_with cut =
     record {
-      ending = record { format = Pcap; skipped = 0; was_cut = was_cut };
+      ending = record { format = Pcap; skipped = 0; cut = cut };
       interfaces = 1;
       named = 0;
     }
 
 unfoldable pub pcap_ending : List (pieces.PieceItem Record) → FileEnd
-pcap_ending [] = pcap_ending_with false
-pcap_ending (pieces.stopped stop ∷ rest) = pcap_ending_with (is_cut stop)
+pcap_ending [] = pcap_ending_with None
+pcap_ending (pieces.stopped stop ∷ rest) = pcap_ending_with (pieces.cut_of stop)
 pcap_ending (pieces.given r frame ∷ rest) = pcap_ending rest
 
 -- the interface of a pcap file, unless its header is refused

@@ -112,8 +112,8 @@ impl<R: Source> Capture<R> {
     {
         match &self.reader {
             Reader::Unread(_, _) | Reader::Moved => None,
-            Reader::Pcap(_) => Some(ending_of_pcap(false)),
-            Reader::Pcapng(_) => Some(ending_of_blocks(&self.reached, false)),
+            Reader::Pcap(_) => Some(ending_of_pcap(None)),
+            Reader::Pcapng(_) => Some(ending_of_blocks(&self.reached, None)),
         }
     }
 

@@ -69,7 +69,7 @@ fn stop(state: &mut PushState, stop: Stop) -> Result<PushEvent, Fault>
 {
     state.stage = Stage::Stopped(stop);
     match stop {
-        Stop::End | Stop::Cut => Ok(PushEvent::Ends),
+        Stop::End | Stop::Cut(_) => Ok(PushEvent::Ends),
         Stop::Refused(refusal) => Err(Fault::Refused(refusal)),
     }
 }
@@ -86,7 +86,7 @@ fn stop_of(state: &PushState, inside: bool, bytes: &[u8], rule: Rule) -> Stop
         offset: state.offset,
         rule,
     };
-    Stop::by(inside, state.tail, refusal)
+    Stop::by(inside, state.tail, refusal, bytes.len() as u64)
 }
 
 // Nothing comes of some bytes, since they break a rule: more are wanted, or the capture stops.
@@ -317,17 +317,17 @@ fn step_block(
     }
 }
 
-// The same in a block that is skipped.
-fn break_skip(state: &mut PushState, rule: Rule) -> Result<PushEvent, Fault>
+// The same in a block that is skipped, of which so many bytes are there.
+fn break_skip(state: &mut PushState, rule: Rule, size: u64) -> Result<PushEvent, Fault>
     ensures { BreaksBy (push_view state.old) rule
-        (stop_by true state.old.tail state.old.file state.old.offset rule) result (push_view state.new) }
+        (stop_by true state.old.tail state.old.file state.old.offset size rule) result (push_view state.new) }
 {
     let refusal = Refusal {
         file: state.file,
         offset: state.offset,
         rule,
     };
-    let end = Stop::by(true, state.tail, refusal);
+    let end = Stop::by(true, state.tail, refusal, size);
     break_by(state, rule, end)
 }
 
@@ -349,11 +349,12 @@ fn step_skip(
         state.stage = Stage::Skipping(block, left - passed as u64);
         return Ok(PushEvent::Passed(passed));
     }
+    let size = u64::from(block.total) - 4 - left + bytes.len() as u64;
     if bytes.len() < 4 {
-        return break_skip(state, Rule::Cut);
+        return break_skip(state, Rule::Cut, size);
     }
     if u32_at(block.order, bytes, 0) != block.total {
-        return break_skip(state, Rule::BlockTrailer);
+        return break_skip(state, Rule::BlockTrailer, size);
     }
     state.reached.skipped += 1;
     state.offset += u64::from(block.total);

@@ -4,7 +4,7 @@ ghost use Rattle.cap_source.specs.Feed.{Feed, GivesHead, FeedKeeps, KeepsItems, 
 ghost use Rattle.cap_source.specs.Feed.{FindsItem, FeedPasses, IsPacket, HasFile, IsFeed};
 
 use crate::packets::Meta;
-use cap_bytes::{Fault, Format, Refusal};
+use cap_bytes::{CutRest, Fault, Format, Refusal};
 
 /// What comes next of a feed, of however many files: what its caller needs to know of it, and no more.
 #[derive(Clone, Copy, Debug, PartialEq, Eq)]
@@ -24,8 +24,8 @@ pub struct Ending {
     pub skipped: u64,
     /// The format of the file.
     pub format: Format,
-    /// Whether it ended in a rest that was cut, and that was dropped.
-    pub was_cut: bool,
+    /// The rest in which it ended that was cut, and that was dropped, if it did.
+    pub cut: Option<CutRest>,
 }
 
 /// How a file ended, or was refused, and what it has of interfaces up to there.

@@ -128,7 +128,7 @@ impl PacketFeed for Listed {
         Ending {
             format: Format::Pcap,
             skipped: 0,
-            was_cut: false,
+            cut: None,
         }
     }
 

@@ -8,7 +8,7 @@ ghost use Rattle.cap_source.specs.inner.Fronts.{FrontsAnswer, FrontsPass, pcap_f
 use crate::feeds::{Ending, FileEnd};
 use crate::packets::Meta;
 use crate::peek_slots::PeekSlot;
-use cap_bytes::{Fault, Format, Source};
+use cap_bytes::{CutRest, Fault, Format, Source};
 use cap_pcap::{PcapHeader, PcapReader, Record};
 use cap_time::{Interface, Resolution, Unit};
 
@@ -36,14 +36,14 @@ fn interface_of_pcap(header: PcapHeader) -> Interface
 }
 
 /// How a pcap file ended.
-pub fn ending_of_pcap(was_cut: bool) -> FileEnd
-    ensures { result ≡ pcap_ending_with was_cut }
+pub fn ending_of_pcap(cut: Option<CutRest>) -> FileEnd
+    ensures { result ≡ pcap_ending_with cut }
 {
     FileEnd {
         ending: Ending {
             format: Format::Pcap,
             skipped: 0,
-            was_cut,
+            cut,
         },
         interfaces: 1,
         named: 0,
@@ -131,11 +131,11 @@ fn next_record_of<R: Source>(
             Ok(())
         }
         Ok(None) => {
-            known.set_end(ending_of_pcap(reader.was_cut()));
+            known.set_end(ending_of_pcap(reader.cut()));
             Ok(())
         }
         Err(Fault::Refused(refusal)) => {
-            known.set_refused(refusal, ending_of_pcap(false));
+            known.set_refused(refusal, ending_of_pcap(None));
             Ok(())
         }
         Err(fault) => Err(fault),
@@ -161,7 +161,7 @@ pub fn next_of_pcap<R: Source>(
     match reader.header() {
         Ok(header) => next_record_of(reader, header, known),
         Err(Fault::Refused(refusal)) => {
-            known.set_refused(refusal, ending_of_pcap(false));
+            known.set_refused(refusal, ending_of_pcap(None));
             Ok(())
         }
         Err(fault) => Err(fault),

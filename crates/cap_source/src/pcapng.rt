@@ -16,13 +16,13 @@ use crate::packets::Meta;
 use crate::peek_slots::PeekSlot;
 use crate::section_states::{SectionState, go_on};
 use cap_blocks::{Block, BlockReader, is_known};
-use cap_bytes::{Fault, Format, Refusal, Rule, Source};
+use cap_bytes::{CutRest, Fault, Format, Refusal, Rule, Source};
 use cap_time::Interface;
 
 /// How a pcapng file ended of which that much was read.
-pub fn ending_of_blocks(reached: &SectionState, was_cut: bool) -> FileEnd
+pub fn ending_of_blocks(reached: &SectionState, cut: Option<CutRest>) -> FileEnd
     requires { counted_blocks (progress_of reached.now) ≤ 2 ^ 40 }
-    ensures { result ≡ ending_with (progress_of reached.now) was_cut }
+    ensures { result ≡ ending_with (progress_of reached.now) cut }
 {
     let skipped = reached.skipped;
     let named = reached.named;
@@ -30,7 +30,7 @@ pub fn ending_of_blocks(reached: &SectionState, was_cut: bool) -> FileEnd
         ending: Ending {
             format: Format::Pcapng,
             skipped,
-            was_cut,
+            cut,
         },
         interfaces: reached.base + reached.interfaces.len() as u64,
         named,
@@ -166,7 +166,7 @@ fn refuse(reached: &SectionState, file: u32, block: Block, rule: Rule, known: &m
             offset: block.offset,
             rule,
         },
-        ending_of_blocks(reached, false),
+        ending_of_blocks(reached, None),
     );
 }
 
@@ -201,11 +201,11 @@ fn take_block<R: Source>(
             Ok(())
         }
         Ok(None) => {
-            known.set_end(ending_of_blocks(reached, reader.was_cut()));
+            known.set_end(ending_of_blocks(reached, reader.cut()));
             Ok(())
         }
         Err(Fault::Refused(refusal)) => {
-            known.set_refused(refusal, ending_of_blocks(reached, false));
+            known.set_refused(refusal, ending_of_blocks(reached, None));
             Ok(())
         }
         Err(fault) => Err(fault),

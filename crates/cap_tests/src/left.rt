@@ -2,8 +2,8 @@
 
 use crate::checks::{holds, same};
 use crate::files::{reader_of, room_of, sources_of};
-use crate::hex_vectors::{CUT_PCAP, File, OPTIONS_PCAPNG, RUNS_BACK, RUNS_ON};
-use cap_bytes::{Fault, Order, Pieces, Refusal, Rule, Sink, Source, Tail};
+use crate::hex_vectors::{CUT_PCAP, File, LATE, OPTIONS_PCAPNG, RUNS_BACK, RUNS_ON};
+use cap_bytes::{CutRest, Fault, Order, Pieces, Refusal, Rule, Sink, Source, Tail};
 use cap_commands::{DroppedInfo, convert_and_count, join_and_count, merge_and_count};
 use cap_merge::{Merged, merge_files};
 use cap_source::{Capture, Format, PacketFeed};
@@ -39,20 +39,13 @@ fn merge<R: Source, W: Sink>(
     rt: &impl Abort,
     alloc: Global,
     sources: Vec<R>,
+    tail: Tail,
     writer: &mut W,
 ) -> Result<DroppedInfo, Fault> {
     holds!(rt; !sources.is_empty());
     holds!(rt; sources.len() <= 32);
     let format = Format::Pcapng;
-    merge_and_count(
-        alloc,
-        sources,
-        Tail::Refuse,
-        Order::Little,
-        format,
-        true,
-        writer,
-    )
+    merge_and_count(alloc, sources, tail, Order::Little, format, true, writer)
 }
 
 // What a join of 1 to 32 files answers, whose packets that run backward are counted.
@@ -60,20 +53,13 @@ fn join<R: Source, W: Sink>(
     rt: &impl Abort,
     alloc: Global,
     sources: Vec<R>,
+    tail: Tail,
     writer: &mut W,
 ) -> Result<DroppedInfo, Fault> {
     holds!(rt; !sources.is_empty());
     holds!(rt; sources.len() <= 32);
     let format = Format::Pcapng;
-    join_and_count(
-        alloc,
-        sources,
-        Tail::Refuse,
-        Order::Little,
-        format,
-        true,
-        writer,
-    )
+    join_and_count(alloc, sources, tail, Order::Little, format, true, writer)
 }
 
 // What is answered of files that are merged or joined.
@@ -84,6 +70,7 @@ fn wanted(row: &Row) -> Result<DroppedInfo, Fault> {
         skipped,
         named,
         ran_back,
+        cuts: [None; 32],
     })
 }
 
@@ -91,7 +78,7 @@ fn wanted(row: &Row) -> Result<DroppedInfo, Fault> {
 fn merges(rt: &impl Abort, alloc: Global, row: &Row) {
     let mut writer = room_of(rt, alloc, 512);
     let sources = sources_of(rt, alloc, row.0, 4096);
-    let answer = merge(rt, alloc, sources, &mut writer);
+    let answer = merge(rt, alloc, sources, Tail::Refuse, &mut writer);
     same!(rt; answer, wanted(row), row.0);
 }
 
@@ -99,7 +86,7 @@ fn merges(rt: &impl Abort, alloc: Global, row: &Row) {
 fn joins(rt: &impl Abort, alloc: Global, row: &Row) {
     let mut writer = room_of(rt, alloc, 512);
     let sources = sources_of(rt, alloc, row.0, 4096);
-    let answer = join(rt, alloc, sources, &mut writer);
+    let answer = join(rt, alloc, sources, Tail::Refuse, &mut writer);
     same!(rt; answer, wanted(row), row.0);
 }
 
@@ -136,6 +123,7 @@ fn converts(rt: &impl Abort, alloc: Global, file: File, format: Format, kept_bac
         skipped,
         named,
         ran_back: 0,
+        cuts: [None; 32],
     };
     same!(rt; answer, Ok(left_out), file);
 }
@@ -145,6 +133,66 @@ fn always_memory_files_are_converted_with_a_count(rt: HostRuntime) {
     for (file, format, skipped, named) in &CONVERTED {
         converts(&rt, rt.alloc(), *file, *format, (*skipped, *named));
     }
+}
+
+// A file of 8 bytes behind a header and a record without bytes, one that is whole, and one whose only record of 4 bytes
+// lacks the last; and the rests that are dropped of them.
+const CUT_FILES: [File; 3] = [LATE, RUNS_ON, CUT_PCAP];
+
+const LATE_REST: CutRest = CutRest {
+    offset: 40,
+    size: 8,
+};
+
+const RECORD_REST: CutRest = CutRest {
+    offset: 24,
+    size: 19,
+};
+
+// What is answered of these files.
+fn cut_files_left() -> Result<DroppedInfo, Fault> {
+    let mut cuts = [None; 32];
+    cuts[0] = Some(LATE_REST);
+    cuts[2] = Some(RECORD_REST);
+    Ok(DroppedInfo {
+        skipped: 0,
+        named: 0,
+        ran_back: 0,
+        cuts,
+    })
+}
+
+#[test]
+fn always_memory_rests_of_merged_files_are_left(rt: HostRuntime) {
+    let mut writer = room_of(&rt, rt.alloc(), 512);
+    let sources = sources_of(&rt, rt.alloc(), &CUT_FILES, 4096);
+    let answer = merge(&rt, rt.alloc(), sources, Tail::Accept, &mut writer);
+    same!(&rt; answer, cut_files_left());
+}
+
+#[test]
+fn always_memory_rests_of_joined_files_are_left(rt: HostRuntime) {
+    let mut writer = room_of(&rt, rt.alloc(), 512);
+    let sources = sources_of(&rt, rt.alloc(), &CUT_FILES, 4096);
+    let answer = join(&rt, rt.alloc(), sources, Tail::Accept, &mut writer);
+    same!(&rt; answer, cut_files_left());
+}
+
+#[test]
+fn always_memory_the_rest_of_a_converted_file_is_left(rt: HostRuntime) {
+    let mut writer = room_of(&rt, rt.alloc(), 512);
+    let source = reader_of(&rt, rt.alloc(), CUT_PCAP, 4096);
+    let (order, format) = (Order::Little, Format::Pcap);
+    let answer = convert_and_count(rt.alloc(), source, Tail::Accept, order, format, &mut writer);
+    let mut cuts = [None; 32];
+    cuts[0] = Some(RECORD_REST);
+    let left_out = DroppedInfo {
+        skipped: 0,
+        named: 0,
+        ran_back: 0,
+        cuts,
+    };
+    same!(&rt; answer, Ok(left_out));
 }
 
 // A packet is passed, and then so many have run backward.

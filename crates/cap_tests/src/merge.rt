@@ -174,7 +174,7 @@ fn endings(rt: HostRuntime) {
     let ending = Ending {
         format: Format::Pcap,
         skipped: 0,
-        was_cut: false,
+        cut: None,
     };
     same!(&rt; feed.ending(2), ending);
 }

@@ -7,7 +7,8 @@ use Rattle.cap_check.specs.CheckText.{WritesCheck, WritesChecks}
 use Rattle.cap_check.specs.Checking.{Opened}
 use Rattle.cap_check.specs.declared.checked.CheckLine.{CheckLine}
 use Rattle.cap_print.specs.declared.forms.Form.{Form}
-use Rattle.cap_commands.specs.Jobs.{done_of, found_in, whole_by}
+use Rattle.cap_commands.specs.Jobs.{found_in, whole_by}
+use Rattle.cap_commands.specs.Left.{done_of}
 use Rattle.cap_tool.specs.NameFields.{name_field}
 use Rattle.cap_tool.specs.Streams.{is_dash, is_standard}
 use Rattle.cap_commands.specs.declared.jobs.Finding.{Finding}

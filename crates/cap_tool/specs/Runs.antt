@@ -9,7 +9,8 @@ use Rattle.cap_line.specs.Jobs.{is_surveying}
 use Rattle.cap_line.specs.declared.jobs.Job.{Job}
 use Rattle.cap_tool.specs.CheckedNames.{AreGiven, ChecksNames}
 use Rattle.cap_tool.specs.ListedNames.{ReadsList, StopsAtList, listed_fault, listed_names}
-use Rattle.cap_commands.specs.Jobs.{Does, Finds, done_of, form_by, found_in, line_by, tail_of}
+use Rattle.cap_commands.specs.Jobs.{Does, Finds, form_by, found_in, line_by, tail_of}
+use Rattle.cap_commands.specs.Left.{done_of}
 use Rattle.cap_tool.specs.Outcomes.{ends_by}
 use Rattle.cap_tool.specs.Outlets.{Outgoing}
 use Rattle.cap_tool.specs.Streams.{StopsAtDash, StopsOpening}

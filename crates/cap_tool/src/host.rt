@@ -5,6 +5,7 @@ ghost use Rattle.cap_line.specs.declared.faults.LineFault.{LineFault};
 
 use crate::causes::Cause;
 use crate::created::create_for;
+use crate::cuts::put_cuts;
 use crate::hints::{called, cause_line, hint, hint_object};
 use crate::left::{Told, left_lines};
 use crate::objects::tell_in;
@@ -20,7 +21,7 @@ use crate::streams::{Input, Output};
 use crate::systems::System;
 use crate::whole::AtomicOutput;
 use cap_bytes::{Tracked, put_all};
-use cap_commands::DroppedInfo;
+use cap_commands::{DroppedInfo, form_of};
 use cap_line::{Job, LineFault};
 use cap_print::Form;
 use std::alloc::Global;
@@ -143,9 +144,19 @@ fn explain<R: Files<File = File> + AllocGlobal>(
     let lines = left_lines(&stop.outcome, &told.left);
     // a standard error that fails doesn't change how the run ends
     let _ = put_all(faults, lines.as_slice());
+    tell_cuts(job, &told.left, faults);
     if let Some(line) = hint(rt, rt.alloc(), stop, job) {
         let is_object = matches!(job, Some(job) if job.json) && !is_of_line(&stop.outcome);
         tell_hint(rt.alloc(), line.as_str(), is_object, faults);
+    }
+}
+
+// Tells which rests of a job's files were cut and dropped.
+fn tell_cuts(job: Option<&Job<'_>>, left: &DroppedInfo, faults: &mut Tracked<Stderr>) {
+    if let Some(job) = job {
+        let form = form_of(job.json);
+        // a standard error that fails doesn't change how the run ends
+        let _ = put_cuts(&left.cuts, form, job.files.as_slice(), faults);
     }
 }
 

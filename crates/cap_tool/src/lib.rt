@@ -5,6 +5,7 @@
 mod causes;
 mod checks;
 mod created;
+mod cuts;
 mod errno_writers;
 mod hints;
 mod host;
@@ -29,6 +30,7 @@ mod whole;
 pub use crate::causes::Cause;
 pub use crate::checks::check_named;
 pub use crate::created::create_for;
+pub use crate::cuts::put_cuts;
 pub use crate::errno_writers::ErrnoWriter;
 pub use crate::hints::{hint, hint_object};
 pub use crate::host::{StandardStreams, run};

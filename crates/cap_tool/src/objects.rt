@@ -52,8 +52,8 @@ fn open_fields(file: u32) -> Line
     line
 }
 
-// The word that named the file of that number, from 1, if there is one.
-fn path_of<'a>(paths: &[&'a str], file: u32) -> Option<&'a str>
+/// The word that named the file of that number, from 1, if there is one.
+pub(crate) fn path_of<'a>(paths: &[&'a str], file: u32) -> Option<&'a str>
     ensures { option_map (λ p. p.now) result ≡ path_of (map (λ p. p.now) paths.now) file }
 {
     let place = file.checked_sub(1)?;
@@ -124,8 +124,12 @@ fn put_end<W: Sink>(path: Option<&str>, writer: &mut W) -> Result<(), Fault>
     }
 }
 
-// Writes an object, of which `fields` is what stands before the word that named its file.
-fn put_object<W: Sink>(fields: &[u8], path: Option<&str>, writer: &mut W) -> Result<(), Fault>
+/// Writes an object, of which `fields` is what stands before the word that named its file.
+pub(crate) fn put_object<W: Sink>(
+    fields: &[u8],
+    path: Option<&str>,
+    writer: &mut W,
+) -> Result<(), Fault>
     ensures text { IsTrue (W.tells_held writer.old) → Puts (W.held writer.old) result (W.held writer.new)
         (fields.now ++ (path_json (option_map (λ p. p.now) path.entry) ++ codes "}\n")) }
     ensures writer { WriterKeeps (writer_of W.Sink writer.old) (is_err result) (writer_of W.Sink writer.new) }

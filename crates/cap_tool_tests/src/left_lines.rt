@@ -49,6 +49,7 @@ fn tells(rt: &impl Abort, outcome: &Outcome, counts: [u128; 3], text: &str) {
         skipped,
         named,
         ran_back,
+        cuts: [None; 32],
     };
     let line = left_lines(outcome, &left);
     assert_eq!(rt; line.as_slice(), text.as_bytes());

@@ -1,6 +1,8 @@
 //! Tests of runs: outcomes, what is told of them, systems, the line of progress, and the public names.
 #![tactic(auto)]
 
+#[cfg(test)]
+mod cuts;
 pub mod front_door;
 #[cfg(test)]
 mod left_lines;

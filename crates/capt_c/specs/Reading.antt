@@ -1,5 +1,6 @@
 -- What the calls do to a reader that a caller holds. `feed` gives the packets to come of a capture.
-use Rattle.std.specs.Prelude.{◌≡◌, ℕ, List, [], ◌∷◌, Bool, true, false, Option, Some, None, Result, Ok, Err}
+use Rattle.std.specs.Prelude.{◌≡◌, ℕ, List, [], ◌∷◌, Bool, true, false, Option, Some, None, is_some, Result, Ok}
+use Rattle.std.specs.Prelude.{Err}
 use Rattle.cap_bytes.specs.declared.faults.Fault.{Fault}
 use Rattle.cap_bytes.specs.declared.faults.Tail.{Tail}
 use Rattle.cap_source.specs.Feed.{Feed, GivesHead, FeedKeeps}
@@ -91,7 +92,7 @@ is_pcapng_format Pcapng = true
 pub record ShowsEnding (ending : Ending) (end : End) : Type 0 where
   pub skipped : end.skipped ≡ ending.skipped
   pub format : end.is_pcapng ≡ is_pcapng_format ending.format
-  pub was_cut : end.was_cut ≡ ending.was_cut
+  pub was_cut : end.was_cut ≡ is_some ending.cut
 
 -- What is known of a feed of one file if that is returned for what comes next: how the file ended, if that is the end.
 abbrev pub EndTold : Feed → End → Result Head Fault → ℕ → End → Type 0

@@ -210,12 +210,12 @@ fn end_of_capture(capture: &mut Capture<CaptureInput>, ending: &mut End) -> u32
             let Ending {
                 skipped,
                 format,
-                was_cut,
+                cut,
             } = capture.ending(capture.file());
             *ending = End {
                 skipped,
                 is_pcapng: format == Format::Pcapng,
-                was_cut,
+                was_cut: cut.is_some(),
             };
             DONE
         }

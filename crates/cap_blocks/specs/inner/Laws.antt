@@ -94,7 +94,8 @@ abbrev pub ItemsAtFault : Type 0
 ItemsAtFault =
     (section : Option Order) (tail : Tail) (file offset : ℕ) (bytes : List ℕ) (rule : Rule)
     → (IsSome section → bytes ≡ [] → ⊥) → block_fault section offset bytes ≡ Some rule
-    → block_items_from section tail file offset bytes ≡ stopped (stop_by (is_some section) tail file offset rule) ∷ []
+    → block_items_from section tail file offset bytes
+    ≡ stopped (stop_by (is_some section) tail file offset (length bytes) rule) ∷ []
 
 abbrev pub ItemsAtBlock : Type 0
 ItemsAtBlock =

@@ -5,6 +5,7 @@ use Rattle.cap_bytes.specs.inner.Parsing.{FailsBy, LooksFor}
 use Rattle.cap_bytes.specs.inner.Window.{WindowState, WindowGoes, WindowShows, coming, read_to}
 use Rattle.cap_bytes.specs.declared.faults.Fault.{Fault}
 use Rattle.cap_bytes.specs.declared.faults.Rule.{Rule}
+use Rattle.cap_bytes.specs.declared.faults.Rule.TheVariants.{Cut}
 use Rattle.cap_bytes.specs.declared.faults.Tail.{Tail}
 use Rattle.cap_bytes.specs.declared.numbers.Order.{Order}
 use Rattle.cap_bytes.specs.declared.stops.Stop.{Stop}
@@ -73,10 +74,12 @@ LeavesBlock true total old new =
 LeavesBlock false total old new =
     (new.offset ≡ old.offset + total) × (IsTrue old.told → coming new ≡ drop total (coming old))
 
--- The body of a block is looked at, with the total length after it: they meet that condition, if one.
+-- The body of a block is looked at, with the total length after it: they meet that condition, if one. If they are cut,
+-- all that is left was read.
 pub record SeesBody (block : Block) (fault : Option Rule) (old new : WindowState) : Type 0 where
   pub goes : WindowGoes old new
   pub told_fault : IsTrue old.told → body_fault block.order (coming old) ≡ fault
+  pub all_read : IsTrue old.told → fault ≡ Some Cut → read_to new ≡ old.offset + length (coming old)
   pub left : fault ≡ None → LeavesBlock (is_known_kind block.kind) block.total old new
 
 -- what a look at the body of a block returns

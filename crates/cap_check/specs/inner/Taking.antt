@@ -57,7 +57,7 @@ pub record StopsAt (old : Fronts) (offset : ℕ) (new : Fronts) (checked : Check
   pub refusal : IsTrue new.begun → refusal_of (old.items offset) ≡ None
   pub counts : IsTrue new.begun → checked ≡ checked_after nothing_checked (old.items offset)
   pub so_far : IsTrue new.begun → new.so_far ≡ Some (old.ending offset)
-  pub whole : IsTrue new.begun → (old.ending offset).ending.was_cut ≡ false
+  pub whole : IsTrue new.begun → (old.ending offset).ending.cut ≡ None
 
 abbrev pub StopsIf : {A : Type 0} → Fronts → Result A Fault → Fronts → Checked → Type 0
 StopsIf old (Ok done) new checked = ⊤

@@ -1,6 +1,6 @@
 -- How two feeds are compared, packet by packet.
 use Rattle.std.specs.Prelude.{◌≡◌, ℕ, ◌+◌, List, Bool, false, not, IsNone, IsSome, IsTrue, Option, Some, None, Result}
-use Rattle.std.specs.Prelude.{Ok, Err}
+use Rattle.std.specs.Prelude.{Ok, Err, is_some}
 use Rattle.std.specs.Prelude.{⊤}
 use Rattle.std.specs.Prelude.{◌⊎◌}
 use Rattle.cap_bytes.specs.declared.faults.Fault.{Fault}
@@ -61,7 +61,7 @@ pub record KnowsPackets (p : Divergence) (a b : Feed) : Type 0 where
 
 -- whether a file was cut that ends so, if no packet comes next
 abbrev pub ended_cut : Option Meta → FileEnd → Bool
-ended_cut None end = end.ending.was_cut
+ended_cut None end = is_some end.ending.cut
 ended_cut (Some meta) end = false
 
 -- A failed read is of a file of the one feed or the other, whose device can fail.

@@ -39,7 +39,7 @@ pub record ReadsHeader (header : PcapHeader) (old new : ReaderState PcapHeader) 
 abbrev pub MayGoOn : Option Stop → Type 0
 MayGoOn None = ⊤
 MayGoOn (Some stops.End) = ⊤
-MayGoOn (Some stops.Cut) = ⊤
+MayGoOn (Some (stops.Cut rest)) = ⊤
 MayGoOn (Some (stops.Refused refusal)) = ⊥
 
 -- The header is given: the one that was given before, or the file's.

@@ -41,7 +41,7 @@ IsSoundStage Start offset = ⊤
 IsSoundStage (Records header) offset = ⊤
 IsSoundStage (Blocks section) offset = ⊤
 IsSoundStage (Skipping block left) offset =
-    (block.offset ≡ offset) × (offset + block.total ≤ 2 ^ 40) × (12 ≤ block.total)
+    (block.offset ≡ offset) × (offset + block.total ≤ 2 ^ 40) × (12 ≤ block.total) × (left + 4 ≤ block.total)
 IsSoundStage (Stopped stop) offset = ⊤
 
 -- what is always true of it
@@ -53,7 +53,7 @@ pub record IsSoundPush (c : PushView) : Type 0 where
 -- what is returned of what ended a capture
 abbrev pub IsToldStop : Stop → Result PushEvent Fault → Type 0
 IsToldStop stops.End result = result ≡ Ok steps.Ends
-IsToldStop stops.Cut result = result ≡ Ok steps.Ends
+IsToldStop (stops.Cut rest) result = result ≡ Ok steps.Ends
 IsToldStop (stops.Refused refusal) result = result ≡ Err (Refused refusal)
 
 -- It stops there for good.

@@ -387,7 +387,7 @@ next_at file progress block (Ok (contents.Interface described)) = None
 next_at file progress block (Ok (contents.Packet p)) = Some (peeks.Packet (meta_in file progress block p) p.place)
 next_at file progress block (Ok contents.Other) = None
 next_at file progress block (Err rule) =
-    Some (peeks.Refused (record { file = file; offset = block.offset; rule = rule }) (ending_with progress false))
+    Some (peeks.Refused (record { file = file; offset = block.offset; rule = rule }) (ending_with progress None))
 
 -- what is always true of a file and of what comes next of it, if that is known
 pub record IsSoundFile (state : FileState) (next : Option Peeked) : Type 0 where

@@ -74,7 +74,7 @@ pcap_fronts reader =
       size = reader.offset + length reader.coming;
       lent = reader.lent;
       begun = is_some reader.known;
-      so_far = Some (pcap_ending_with false);
+      so_far = Some (pcap_ending_with None);
       items = λ end. record_items_of reader.file reader.tail reader.known reader.offset
           (bytes_before end reader.offset reader.coming);
       ending = λ end. pcap_ending (record_items_at reader.known reader.tail reader.file reader.offset
@@ -91,7 +91,7 @@ pcapng_fronts reader progress =
       size = reader.offset + length reader.coming;
       lent = reader.lent;
       begun = is_some reader.known;
-      so_far = Some (ending_with progress false);
+      so_far = Some (ending_with progress None);
       items = λ end. items_of_blocks reader.file progress (block_items_from reader.known reader.tail reader.file
           reader.offset (bytes_before end reader.offset reader.coming));
       ending = λ end. ending_in progress (block_items_from reader.known reader.tail reader.file reader.offset
@@ -110,7 +110,7 @@ moved_fronts progress =
       begun = false;
       so_far = None;
       items = λ end. [];
-      ending = λ end. ending_with progress false;
+      ending = λ end. ending_with progress None;
     }
 
 abbrev pub reader_fronts : {R : Type 0} → Reader R → SectionProgress → Fronts
@@ -142,7 +142,7 @@ pub record FrontsFail (old : Fronts) (offset : ℕ) (new : Fronts) : Type 0 wher
   pub back : IsTrue new.begun → MayEnd old offset
   pub items : IsTrue new.begun → old.items offset ≡ []
   pub so_far : IsTrue new.begun → new.so_far ≡ Some (old.ending offset)
-  pub whole : IsTrue new.begun → (old.ending offset).ending.was_cut ≡ false
+  pub whole : IsTrue new.begun → (old.ending offset).ending.cut ≡ None
 
 -- what a look at what comes next makes of them
 abbrev pub FrontsAnswer : {A : Type 0} → Fronts → Result A Fault → Option Peeked → Fronts → Type 0

@@ -47,7 +47,7 @@ list_feed file interface end place times known =
       told = true;
       items = listed_items file interface end place times;
       endings = λ f. record {
-        ending = record { format = Pcap; skipped = 0; was_cut = false };
+        ending = record { format = Pcap; skipped = 0; cut = None };
         interfaces = 1;
         named = 0;
       };

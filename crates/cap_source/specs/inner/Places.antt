@@ -1,6 +1,6 @@
 -- What is known at a block of a pcapng file, by the blocks before it and the kinds that they have, whatever reads them.
-use Rattle.std.specs.Prelude.{◌≡◌, ◌==◌, ◌&&◌, ◌+◌, ℕ, not, false, Bool, List, [], ◌∷◌, ◌++◌, map, length, drop}
-use Rattle.std.specs.Prelude.{slice_get, Option}
+use Rattle.std.specs.Prelude.{◌≡◌, ◌==◌, ◌&&◌, ◌+◌, ℕ, not, Bool, List, [], ◌∷◌, ◌++◌, map, length, drop}
+use Rattle.std.specs.Prelude.{slice_get, Option, None}
 use Rattle.std.specs.List.{filter, count_by, before_last, after_last}
 use Rattle.cap_bytes.specs.Items as pieces
 use Rattle.cap_blocks.specs.Grammar.{section_kind, interface_kind, is_known_kind}
@@ -10,7 +10,7 @@ use Rattle.cap_source.specs.Feed.{Item}
 use Rattle.cap_source.specs.declared.feeds.FileEnd.{FileEnd}
 use Rattle.cap_source.specs.Contents.{content_in}
 use Rattle.cap_source.specs.Items.{SectionProgress, fresh, items_at_block, items_of_blocks, items_of_stop, ending_with}
-use Rattle.cap_source.specs.Items.{ending_in, is_cut}
+use Rattle.cap_source.specs.Items.{ending_in}
 use Rattle.cap_source.specs.Items.{unless_faulty, first_in, unless_item}
 use Rattle.cap_source.specs.TimeBases.{interface_at, is_named}
 use Rattle.cap_time.specs.declared.resolutions.Interface.{Interface}
@@ -65,11 +65,11 @@ items_behind file before (pieces.given block body ∷ rest) =
     (items_behind file (before ++ (block, body) ∷ []) rest)
 
 unfoldable pub ending_behind : List Standing → List (pieces.PieceItem Block) → FileEnd
-ending_behind before [] = ending_with (known_behind before) false
-ending_behind before (pieces.stopped stop ∷ rest) = ending_with (known_behind before) (is_cut stop)
+ending_behind before [] = ending_with (known_behind before) None
+ending_behind before (pieces.stopped stop ∷ rest) = ending_with (known_behind before) (pieces.cut_of stop)
 ending_behind before (pieces.given block body ∷ rest) =
     unless_faulty (content_in (known_behind before).interfaces block.kind block.order body)
-    (ending_with (known_behind before) false) (ending_behind (before ++ (block, body) ∷ []) rest)
+    (ending_with (known_behind before) None) (ending_behind (before ++ (block, body) ∷ []) rest)
 
 unfoldable pub first_behind : List Standing → List (pieces.PieceItem Block) → Option Interface
 first_behind before [] = (known_behind before).first

@@ -1,5 +1,6 @@
 -- The lines of files that were counted.
-use Rattle.std.specs.Prelude.{ℕ, ◌+◌, Bool, false, List, [], ◌∷◌, ◌++◌, codes, Option, Some, None, option_map}
+use Rattle.std.specs.Prelude.{ℕ, ◌+◌, Bool, false, List, [], ◌∷◌, ◌++◌, codes, Option, Some, None, is_some}
+use Rattle.std.specs.Prelude.{option_map}
 use Rattle.cap_print.specs.Facts.{Facts, one, number, word, moment, named, flagged, line_in}
 use Rattle.cap_print.specs.declared.forms.Form.{Form}
 use Rattle.cap_bytes.specs.Formats.{format_name}
@@ -31,7 +32,8 @@ counts_facts file format counts skipped was_cut =
 -- the line of a file that has ended, or that is still being read
 abbrev pub file_facts : ℕ → Counts → Option Ending → Facts
 file_facts file counts None = counts_facts file counts.format counts counts.skipped false
-file_facts file counts (Some ending) = counts_facts file (Some ending.format) counts ending.skipped ending.was_cut
+file_facts file counts (Some ending) =
+    counts_facts file (Some ending.format) counts ending.skipped (is_some ending.cut)
 
 -- how the file of that number has ended, if that is known
 abbrev pub ending_at : Option (ℕ → FileEnd) → ℕ → Option Ending

@@ -66,7 +66,7 @@ pub fn file_line(form: Form, file: u32, counts: &Counts, ending: Option<Ending>)
             Some(ending.format),
             counts,
             ending.skipped,
-            ending.was_cut,
+            ending.cut.is_some(),
         ),
     }
 }

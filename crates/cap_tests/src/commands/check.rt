@@ -288,5 +288,5 @@ fn a_check_counts_a_file(rt: HostRuntime) {
     let CheckEnd::Whole(end) = check.end else {
         panic!(&rt; "not whole");
     };
-    same!(&rt; (end.interfaces, end.named, end.ending.was_cut), (3, 0, false));
+    same!(&rt; (end.interfaces, end.named, end.ending.cut), (3, 0, None));
 }

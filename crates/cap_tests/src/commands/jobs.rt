@@ -4,8 +4,8 @@ use crate::commands::captures::{
     CARRIED_BIG, CARRIED_PCAP, CARRY_PCAP, CARRY_PCAPNG, SECTION, TWICE,
 };
 use crate::files::{ask_written, readers_of, room_of};
-use cap_bytes::{Fault, Order, Sink};
-use cap_commands::{Done, DroppedInfo, Finding, job_to};
+use cap_bytes::{CutRest, Fault, Order, Sink};
+use cap_commands::{Done, DroppedInfo, Finding, NOTHING_LEFT, job_to};
 use cap_line::{Job, NOTHING_IGNORED, Task, can_replace, is_whole};
 use cap_source::Format;
 use std::alloc::Global;
@@ -317,9 +317,39 @@ fn leaves(rt: &impl Abort, alloc: Global, task: Task, skipped: u128) {
             skipped,
             named: 0,
             ran_back: 0,
+            cuts: [None; 32],
         },
     };
     same!(rt; answer, Ok(wanted), task);
+}
+
+// The same without its last byte.
+const CUT_BLOCK: &str = "0a0d0d0a1c0000004d3c2b1a01000000ffffffffffffffff1c000000\
+    05000000180000000000000000000000a0252600180000";
+
+// A task of a capture whose end is cut off, of which so many bytes from that offset on are dropped.
+fn drops(rt: &impl Abort, alloc: Global, task: Task, capture: &str, rest: CutRest) {
+    let job = printing(rt, alloc, task, true);
+    let mut writer = room_of(rt, alloc, 1024);
+    let answer = counts(rt, alloc, &job, &[capture], &mut writer);
+    let mut left = NOTHING_LEFT;
+    left.cuts[0] = Some(rest);
+    let finding = Finding::Nothing;
+    same!(rt; answer, Ok(Done { finding, left }), task);
+}
+
+#[test]
+fn always_memory_a_job_says_what_was_cut(rt: HostRuntime) {
+    let record = CutRest {
+        offset: 24,
+        size: 19,
+    };
+    let block = CutRest {
+        offset: 28,
+        size: 23,
+    };
+    drops(&rt, rt.alloc(), Task::List, CUT_PCAP, record);
+    drops(&rt, rt.alloc(), Task::Blocks, CUT_BLOCK, block);
 }
 
 #[test]

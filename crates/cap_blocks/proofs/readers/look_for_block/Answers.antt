@@ -16,7 +16,7 @@ pub returns-in-Some-clause-answer : goal.returns-in-Some-clause-answer
 returns-in-Some-clause-answer g c =
     let header = rw c.in-Ok.is at c.in_ok-block.ensures.answer in
     let body = rw c.in-Some.is at c.in_ok-look_at_body.ensures.answer in
-    rw (c.by.ensures, c.is_some.ensures, c.file-file.ensures, header.header.offset_is)
+    rw (c.by.ensures, c.is_some.ensures, c.file-file.ensures, c.read_to.ensures, header.header.offset_is)
     (SeesStop-body c.args.section c.args.tail c.in-Ok.block c.in-Some.rule c.args.window.now c.look_at_header.new.window
     c.look_at_body.new.window
     header c.in_ok-block.ensures.stays.told body)

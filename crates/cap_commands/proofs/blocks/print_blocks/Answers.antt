@@ -1,7 +1,8 @@
 use Rattle.std.proofs.Common.{◌≡◌, ◌+◌, ◌++◌, Some, None, Ok, sym, ◌∙◌, ap, rules}
 use Rattle.std.proofs.lemmas.Result.{err_from_is_err_and}
 use Rattle.cap_blocks.specs.inner.Reader.{GivesBlock, TakesBlock, blocks_to_come}
-use Rattle.cap_commands.proofs.BlockListing.{Printing-more, Printing-none, Prints-block_fault, Prints-block_end}
+use Rattle.cap_commands.proofs.BlockListing.{Cuts-block_end, Printing-more, Printing-none, Prints-block_fault}
+use Rattle.cap_commands.proofs.BlockListing.{Prints-block_end}
 use Rattle.cap_commands.proofs.BlockListing.{block_lines-given}
 use Rattle.cap_commands.proofs.BlockWalking.{lasts-given, walks-end, walks-fault}
 use Rattle.cap_bytes.proofs.Putting.{Putting-front}
@@ -60,6 +61,15 @@ returns-clause-text g c = λ t w.
     let new = c.take_block.new.reader in
     let took : TakesBlock old (Ok None) new = rw c.in_default.is at (c.in_ok-block.ensures.items (i.told t)) in
     Prints-block_end (block_line c.args.form) _ _ _ _ c.loop-block.n old new (i.lines t) w (i.refusal_same t) took
+
+pub returns-clause-cut : goal.returns-clause-cut
+returns-clause-cut g c = λ t.
+    let i = c.loop-block.invariant in
+    let new = c.take_block.new.reader in
+    let ends = rw c.in_default.is at c.in_ok-block.ensures.answer in
+    let took : TakesBlock c.loop-block.reader (Ok None) new =
+    rw c.in_default.is at (c.in_ok-block.ensures.items (i.told t)) in
+    Cuts-block_end _ ends.0 c.loop-block.reader new (i.cut_same t) ends.2.stop_is took
 
 pub loop-block-init : goal.loop-block-init
 loop-block-init g c = Printing-none (block_line c.args.form) c.args.reader.now _ _

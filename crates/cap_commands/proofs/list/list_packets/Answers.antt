@@ -2,7 +2,7 @@ use Rattle.std.proofs.Common.{◌≡◌, ◌+◌, ◌++◌, ◌∙◌, IsTrue, S
 use Rattle.std.proofs.lemmas.Result.{err_from_is_err_and}
 use Rattle.cap_bytes.proofs.Putting.{Putting-front}
 use Rattle.cap_source.proofs.Growing.{memory-found}
-use Rattle.cap_source.proofs.Onward.{Went-more, Walks-end, Walks-fault, Walks-stop}
+use Rattle.cap_source.proofs.Onward.{Ends-end, Ends-more, Went-more, Walks-end, Walks-fault, Walks-stop}
 use Rattle.cap_source.proofs.Walking.{Walking-more, Prints-fault, Prints-end}
 use Rattle.cap_source.specs.inner.Walk.{GivesPacket, ShowsItem}
 use Rattle.cap_write.proofs.Peeking.{found-packet, found-item, found-end, found-fault, found-no-packet}
@@ -71,6 +71,8 @@ loop-feed-preserved g c =
       number = omega (arith, i.number, f.keeps.left, c.pass.ensures.passes.left);
       went = Went-more (g.F.PacketFeed.feed c.args.feed.now) mid shown new meta i.went gives f.keeps
           c.pass.ensures.passes c.pass.ensures.keeps;
+      ends = Ends-more (g.F.PacketFeed.feed c.args.feed.now) mid shown new meta i.ends i.went.keeps f.keeps shows
+          c.pass.ensures.passes;
       walk =
           Walking-more _ _ _ _ mid shown new _ _ _ _ _ _ meta (line n meta shown.frame)
           i.walk f.keeps shows
@@ -90,6 +92,18 @@ returns-clause-text g c = λ t w.
     Prints-end (plan_of line n) _ _ _ _ mid shown (plan_of-is line n) (i.text t) w (i.refusal_same t)
     (found-end mid shown (g.met.F.PacketFeed.lawful c.peek.new.self) (e.keeps.told (i.told t))
     (e.items (i.told t)) (rw c.if-branch.false at e.answer))
+
+pub returns-clause-endings : goal.returns-clause-endings
+returns-clause-endings g c =
+    let i = c.loop-feed.invariant in
+    let mid = g.F.PacketFeed.feed c.loop-feed.feed in
+    let shown = g.F.PacketFeed.feed c.peek.new.self in
+    let e = c.in_ok-peek.ensures in
+    Ends-end _ _ _ i.ends i.went.keeps (λ t. found-end mid shown (g.met.F.PacketFeed.lawful c.peek.new.self)
+    (e.keeps.told t) (e.items t) (rw c.if-branch.false at e.answer))
+
+pub returns-clause-files : goal.returns-clause-files
+returns-clause-files g c = c.in_ok-peek.ensures.keeps.files ∙ c.loop-feed.invariant.went.keeps.files
 
 pub returns-in_err-peek-clause-walks : goal.returns-in_err-peek-clause-walks
 returns-in_err-peek-clause-walks g c =

@@ -16,7 +16,7 @@ pub returns-in-Err-clause-answer : goal.returns-in-Err-clause-answer
 returns-in-Err-clause-answer g c =
     let n = rw c.if-not-branch.false at c.in_ok-need.ensures.answer in
     let e = rw (c.bytes-2.ensures, c.offset-offset.ensures.value) at c.in-Err.ensures in
-    rw (c.by-in-Err.ensures, c.file-file.ensures, c.offset-offset.ensures.value)
+    rw (c.by-in-Err.ensures, c.file-file.ensures, c.offset-offset.ensures.value, c.bytes-in-Err.ensures)
     (SeesStop-broken c.args.header c.args.tail c.args.window.now c.need.new.self c.in-Err.rule n.0
     (omega (arith, n.1)) e.0 e.1)
 
@@ -28,7 +28,12 @@ returns-then-not-branch-2-clause-answer g c =
     let n = rw c.if-not-branch.false at c.in_ok-need.ensures.answer in
     let m = rw c.if-not-branch-2.true at c.in_ok-need-2.ensures.answer in
     let e = rw c.bytes-2.ensures at c.in-Ok.ensures in
-    rw (c.by-then-not-branch-2.ensures, c.file-file.ensures, c.offset-offset.ensures.value)
+    rw (
+      c.by-then-not-branch-2.ensures,
+      c.file-file.ensures,
+      c.offset-offset.ensures.value,
+      c.bytes-then-not-branch-2.ensures,
+    )
     (SeesStop-second c.args.header c.args.tail c.args.window.now c.need.new.self c.need-2.new.self c.in-Ok.size
     n.0 c.in_ok-need.ensures.keeps n.1 e.0 e.1 (omega (arith, e.2, n.0.offset, c.offset-offset.ensures.value)) m)
 

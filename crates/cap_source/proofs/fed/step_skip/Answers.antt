@@ -15,13 +15,13 @@ returns-then-passed-gt0-clause-step c =
 pub returns-then-bytes-lt4-clause-step : goal.returns-then-bytes-lt4-clause-step
 returns-then-bytes-lt4-clause-step c =
     skip-cut (push_view c.args.state.now) c.args.block c.args.left c.args.bytes.now c.requires.stage c.requires.sound
-    (sym c.passed_of-passed.ensures ∙ grind (arith, c.if-passed-gt0.false)) c.break_skip.result
+    (sym c.passed_of-passed.ensures ∙ grind (arith, c.if-passed-gt0.false)) _ c.break_skip.result
     (push_view c.break_skip.new.state) c.if-bytes-lt4.true c.break_skip.ensures
 
 pub returns-then-u32_at-block-clause-step : goal.returns-then-u32_at-block-clause-step
 returns-then-u32_at-block-clause-step c =
     skip-trailer (push_view c.args.state.now) c.args.block c.args.left c.args.bytes.now c.requires.stage
-    c.requires.sound (sym c.passed_of-passed.ensures ∙ grind (arith, c.if-passed-gt0.false))
+    c.requires.sound (sym c.passed_of-passed.ensures ∙ grind (arith, c.if-passed-gt0.false)) _
     c.break_skip-then-u32_at-block.result (push_view c.break_skip-then-u32_at-block.new.state) c.if-bytes-lt4.false
     (λ is. c.if-u32_at-block.true (c.u32_at.ensures ∙ is)) c.break_skip-then-u32_at-block.ensures
 
@@ -34,4 +34,4 @@ returns-clause-step c =
       offset = c.args.state.now.offset + n;
       stage = Blocks (Some c.args.block.order);
       progress = after (progress_of c.args.state.now.reached) contents.Other;
-    }) c.from.ensures)
+    }) c.from-2.ensures)

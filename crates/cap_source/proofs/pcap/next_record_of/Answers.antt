@@ -24,8 +24,8 @@ returns-in-Ok-None-clause-answer g c = λ progress.
       peeks.End c.ending_of_pcap.result,
       c.set_end.ensures,
       rw c.ending_of_pcap.ensures
-          (end_learned c.args.header c.was_cut.result answer.0 c.args.reader.now c.next_record.new.self progress
-          c.requires.header c.requires.free answer.1 answer.2 c.was_cut.ensures e.keeps (λ t. (e.items t).3)),
+          (end_learned c.args.header c.cut.result answer.0 c.args.reader.now c.next_record.new.self progress
+          c.requires.header c.requires.free answer.1 answer.2 c.cut.ensures e.keeps (λ t. (e.items t).3)),
     )
 
 pub returns-in-Err-Refused-clause-answer : goal.returns-in-Err-Refused-clause-answer

@@ -33,8 +33,8 @@ pub returns-in-Ok-None-clause-answer : goal.returns-in-Ok-None-clause-answer
 returns-in-Ok-None-clause-answer g c =
     let e = rw c.in-Ok-None.field-0-is at c.in-Ok-None.ensures in
     rw (c.set_end.ensures, c.ending_of_blocks.ensures)
-    (end_learned c.was_cut.result e.answer.0 c.args.reader.now c.next_block.new.self (progress_of c.args.reached.now)
-    c.requires.free e.answer.1 e.answer.2 c.was_cut.ensures.cut e.keeps (λ t. (e.items t).3))
+    (end_learned c.cut.result e.answer.0 c.args.reader.now c.next_block.new.self (progress_of c.args.reached.now)
+    c.requires.free e.answer.1 e.answer.2 c.cut.ensures.cut e.keeps (λ t. (e.items t).3))
 
 pub returns-in-Err-Refused-clause-answer : goal.returns-in-Err-Refused-clause-answer
 returns-in-Err-Refused-clause-answer g c =

@@ -1,6 +1,7 @@
 use Rattle.std.proofs.Common.{Result, Ok, Err, IfOk, map, subst, sym}
 use Rattle.cap_bytes.specs.declared.faults.Fault.{Fault}
-use Rattle.cap_commands.specs.Jobs.{Does, Finds, done_of, finding_in, found_in}
+use Rattle.cap_commands.specs.Jobs.{Does, Finds, finding_in, found_in}
+use Rattle.cap_commands.specs.Left.{done_of}
 use Rattle.cap_commands.specs.declared.jobs.Done.{Done}
 use Rattle.cap_commands.specs.declared.jobs.Finding.{Finding}
 use Rattle.cap_tool.specs.Runs.{EndsBy}
