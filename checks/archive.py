@@ -336,16 +336,16 @@ def check_killed(count, archive):
     def had():
         return rows("SELECT COUNT(*) FROM files") == [(20,)]
 
-    for how in signal.SIGKILL, signal.SIGINT:
+    for how in signal.SIGKILL, signal.SIGINT, signal.SIGTERM:
         run = archive.begun("index", "killed.db", "--jobs", "2", *names, CAPT=archive.slowly(30))
         count.check(f"{how.name}: what comes before", waits(had), rows("SELECT path FROM files"))
         seen = archive.run("index", "killed.db", *names)
         count.check(f"{how.name}: a second writer", seen[0] == 1 and "another process writes it" in seen[2], seen)
         seen = archive.run("find", "killed.db", "10.0.0.1")
         count.check(f"{how.name}: a reader", seen[0] == 0 and seen[1].count("capture ") == 20, seen)
-        os.kill(run.pid, how) if how == signal.SIGKILL else os.killpg(run.pid, how)
+        os.killpg(run.pid, how) if how == signal.SIGINT else os.kill(run.pid, how)
         said = run.communicate(timeout=30)[1].decode()
-        is_so = run.returncode == -how if how == signal.SIGKILL else run.returncode == 130 and "interrupted" in said
+        is_so = run.returncode == -how if how == signal.SIGKILL else run.returncode == 128 + how and "interrupted" in said
         count.check(f"{how.name}: the run", is_so and "Traceback" not in said, run.returncode, said)
         count.check(f"{how.name}: its workers", waits(lambda: not workers_of(run.pid)), workers_of(run.pid))
         try:
@@ -437,6 +437,7 @@ def check_wrong(count, archive):
         (1, ["index", "one.pcap", "two.pcap"], "it is no catalogue"), (1, ["index", "other.db", "one.pcap"], "another database"),
         (1, ["totals", "other.db"], "another database"), (1, ["index", "a.db", "--files0-from", "none"], "none: No such file"),
         (1, ["index", "no folder/a.db", "one.pcap"], "No such file"), (1, ["index", "a.db", "--program", "/bin/false", "one.pcap"], "fault no line"),
+        (1, ["index", "a.db", "--program", "/bin/echo", "one.pcap"], "/bin/echo prints no JSON"),
     ]:
         seen = archive.run(*words)
         told = "".join(seen[1:])
@@ -526,9 +527,11 @@ def check_page(count, folder, program):
         blocks = re.findall(r"^```\w*\n(.*?)^```$", page.read(), re.M | re.S)
     shown = [found for it in blocks for found in re.findall(r"^\$ (.*\n(?:  .*\n)*)((?:(?!\$ ).*\n)*)", it, re.M)]
     count.check("page: it shows something", len(shown) > 4)
+    lost = []
     for line, wanted in shown:
-        tool = re.match(r"(?:.*\| )?(parallel|jq)\b", line)
-        if tool and not shutil.which(tool[1]):
+        # a line is left out whose program isn't installed, and so is one that reads what that line wrote
+        if any(not shutil.which(tool) for tool in re.findall(r"\b(parallel|jq) ", line)) or any(name in line for name in lost):
+            lost += re.findall(r"> (\S+)$", line.strip())
             continue
         ran = subprocess.run(["bash", "-c", line.replace("/captures/", f"{place}/")], cwd=place, env=environment, stdout=subprocess.PIPE,
                              stderr=subprocess.STDOUT, text=True, timeout=60)

@@ -4,6 +4,7 @@ import ipaddress
 import os
 import re
 import shutil
+import signal
 import sqlite3
 import sys
 from collections import Counter
@@ -25,7 +26,7 @@ def end_of(text: str) -> Tuple[str, Optional[int]]:
     """ADDRESS or ADDRESS:PORT."""
     address, _, port = text.partition(":")
     try:
-        ipaddress.IPv4Address(address)
+        address = str(ipaddress.IPv4Address(address))
     except ValueError:
         raise argparse.ArgumentTypeError(f"{text}: an address is one of IPv4, as 10.0.0.1")
     if ":" in text and not (re.fullmatch("[0-9]{1,5}", port) and int(port) < 65536):
@@ -82,7 +83,8 @@ class Words:
 
     def files(self) -> "Words":
         self.add("files", nargs="*", metavar="FILE")
-        self.add("--files0-from", metavar="LIST", help="read the names from LIST, in which a NUL ends each; - is standard input")
+        self.add("--files0-from", metavar="LIST",
+                 help="read the names from LIST, in which a NUL ends each; - is standard input")
         self.add("--allow-cut", action="store_true", help="accept a file whose last record or block is cut off")
         return self
 
@@ -126,10 +128,12 @@ def words_of(command: str) -> argparse.ArgumentParser:
 
 def parsed(words: List[str]) -> argparse.Namespace:
     """The command line, read; a wrong one ends the run with status 2."""
-    whole = argparse.ArgumentParser(prog=_NAME, description="The catalogue of an archive of captures, in an SQLite database.",
-                                    epilog="\n".join(f"  {name:11} {text}" for name, text in COMMANDS.items()),
-                                    formatter_class=argparse.RawDescriptionHelpFormatter)
-    whole.add_argument("command", choices=COMMANDS, metavar="COMMAND", help="one of the commands below; COMMAND --help says more")
+    whole = argparse.ArgumentParser(
+        prog=_NAME, description="The catalogue of an archive of captures, in an SQLite database.",
+        epilog="\n".join(f"  {name:11} {text}" for name, text in COMMANDS.items()),
+        formatter_class=argparse.RawDescriptionHelpFormatter)
+    whole.add_argument("command", choices=COMMANDS, metavar="COMMAND",
+                       help="one of the commands below; COMMAND --help says more")
     command = whole.parse_args(words[:1]).command
     # FILE may stand between options
     read = words_of(command).parse_intermixed_args(words[1:])
@@ -185,7 +189,8 @@ def index(words: argparse.Namespace) -> int:
                 counts["not whole"] += 1
                 progress.end()
                 put_not_whole(found.outcome, found.path, words.json)
-            progress.tell(f"{counts['read'] + counts['unchanged']} of {len(paths)} files, {counts['not whole']} not whole")
+            done = counts["read"] + counts["unchanged"]
+            progress.tell(f"{done} of {len(paths)} files, {counts['not whole']} not whole")
     progress.end()
     lines.put("indexed", {"files": counts["read"] + counts["unchanged"], "read": counts["read"],
                           "unchanged": counts["unchanged"], "not_whole": counts["not whole"]}, words.json)
@@ -200,6 +205,7 @@ def put_not_whole(outcome: str, path: str, as_json: bool) -> None:
 def answered(archive: catalogue.Catalogue) -> int:
     """Says how many captures aren't whole, of which an answer knows nothing; the status."""
     missing = sum(1 for _ in archive.not_whole())
+    sys.stdout.flush()
     if missing:
         print(f"captures that aren't whole: {missing}; they aren't in the answer", file=sys.stderr)
     return 1 if missing else 0
@@ -221,9 +227,7 @@ def find(words: argparse.Namespace) -> int:
 def _together(rows: Iterable[catalogue.TalkRow]) -> Any:
     """What some conversations of a capture are together."""
     talks = [row.talk for row in rows]
-    timed = [talk for talk in talks if talk.first is not None]
-    first = min((talk.first for talk in timed), key=catalogue.exact, default=None)      # type: ignore[type-var,arg-type]
-    last = max((talk.last for talk in timed), key=catalogue.exact, default=None)        # type: ignore[type-var,arg-type]
+    first, last = catalogue.spanned((talk.first, talk.last) for talk in talks)
     packets, size = (sum(talk[at] + talk[at + 2] for talk in talks) for at in (5, 6))
     return {"talks": len(talks), "packets": packets, "bytes": size, "first": first, "last": last}
 
@@ -255,7 +259,8 @@ def verify(words: argparse.Namespace) -> int:
                 lines.put("changed", {"outcome": it.verdict, "path": it.path}, words.json)
             progress.tell(f"{sum(counts.values())} files, {counts[False]} changed")
         progress.end()
-        lines.put("verified", {"files": sum(counts.values()), "same": counts[True], "changed": counts[False]}, words.json)
+        facts = {"files": sum(counts.values()), "same": counts[True], "changed": counts[False]}
+        lines.put("verified", facts, words.json)
         return answered(archive) or (1 if counts[False] else 0)
 
 
@@ -279,8 +284,9 @@ def totals(words: argparse.Namespace) -> int:
 def put_counts(found: catalogue.Totals, as_json: bool) -> None:
     """Prints the counts of a report, line by line."""
     counts = {"files": found.files, **found.counts}
-    for kind, names in {"files": ("files",), "total": ("packets", "bytes", "truncated"), "frames": CLASSES, "joined": JOINED,
-                        "talks": ("talks",)}.items():
+    kinds = {"files": ("files",), "total": ("packets", "bytes", "truncated"), "frames": CLASSES, "joined": JOINED,
+             "talks": ("talks",)}
+    for kind, names in kinds.items():
         facts = {name: counts[name] for name in names}
         # three lines begin with the name of their first count
         lines.put(kind if as_json or kind not in facts else "", facts, as_json)
@@ -294,9 +300,20 @@ def merge(words: argparse.Namespace) -> int:
     return 0
 
 
+class Ended(BaseException):
+    """The run is to end, as a scheduler asks for by SIGTERM."""
+
+
+def end_now(number: int, _: Any) -> None:
+    """Ends the run, and what it began."""
+    raise Ended(128 + number)
+
+
 def main() -> int:
     """Does what the command line says, and says why if it can't."""
     words = parsed(sys.argv[1:])
+    for number in (signal.SIGINT, signal.SIGTERM):
+        signal.signal(number, end_now)
     try:
         status = globals()[words.command](words)
         sys.stdout.flush()
@@ -310,9 +327,11 @@ def main() -> int:
     except BrokenPipeError:
         os.dup2(os.open(os.devnull, os.O_WRONLY), 1)
         return 1
-    except KeyboardInterrupt:
-        print(f"{_NAME}: interrupted; what is in the catalogue stays, and the same command goes on", file=sys.stderr)
-        return 130
+    except Ended as ended:
+        print(f"{_NAME}: interrupted; what is in the catalogue stays, and the same command goes on", file=sys.stderr,
+              flush=True)
+        # the workers end with this process, which doesn't wait for them
+        os._exit(ended.args[0])
 
 
 if __name__ == "__main__":

@@ -4,7 +4,7 @@ import os
 import sqlite3
 from contextlib import closing, contextmanager, suppress
 from fractions import Fraction
-from typing import Any, Dict, Iterator, List, NamedTuple, Optional, Tuple, Union
+from typing import Any, Dict, Iterable, Iterator, List, NamedTuple, Optional, Tuple, Union
 from urllib.parse import quote
 
 from .errors import ArchiveError
@@ -25,7 +25,8 @@ CREATE TABLE talks (
     backward_packets INTEGER NOT NULL, backward_bytes INTEGER NOT NULL, first TEXT, last TEXT, first_ns INTEGER,
     last_ns INTEGER);
 CREATE INDEX talks_file ON talks (file);
-CREATE TABLE totals (file INTEGER PRIMARY KEY REFERENCES files, {", ".join(f"{name} INTEGER NOT NULL" for name in _COUNTS)});
+CREATE TABLE totals (
+    file INTEGER PRIMARY KEY REFERENCES files, {", ".join(f"{name} INTEGER NOT NULL" for name in _COUNTS)});
 PRAGMA application_id = {_MARK};
 PRAGMA user_version = {_VERSION};
 """
@@ -128,7 +129,8 @@ class Catalogue:
             path = _column(found.path)
             database.execute("INSERT OR IGNORE INTO files (path, outcome) VALUES (?, '')", (path,))
             file, = database.execute("SELECT id FROM files WHERE path = ?", (path,)).fetchone()
-            database.execute(f"UPDATE files SET {', '.join(f'{name} = ?' for name in columns)} WHERE id = ?", (*facts, file))
+            marks = ", ".join(f"{name} = ?" for name in columns)
+            database.execute(f"UPDATE files SET {marks} WHERE id = ?", (*facts, file))
             for table in ("talks", "totals"):
                 database.execute(f"DELETE FROM {table} WHERE file = ?", (file,))
             if found.counts:
@@ -146,7 +148,8 @@ class Catalogue:
         """The captures that aren't whole."""
         return (NotWhole(it.path, it.outcome) for it in self.entries() if not is_whole(it.outcome))
 
-    def find(self, address: str, port: Optional[int] = None, since: Time = None, until: Time = None) -> Iterator[TalkRow]:
+    def find(self, address: str, port: Optional[int] = None, since: Time = None,
+             until: Time = None) -> Iterator[TalkRow]:
         """The conversations of an address, or of a port of it, in the order of the captures' paths. With `since` or
         `until` those whose span, from their first packet to their last, meets the time between; none without a time."""
         is_end = "{0} = :address" + (" AND {0}_port = :port" if port is not None else "")
@@ -168,15 +171,15 @@ class Catalogue:
         sums = ", ".join(f"SUM({name})" for name in Talk._fields[5:9])
         query = f"""SELECT {", ".join(keys)}, {sums} FROM talks GROUP BY {", ".join(keys)}
             ORDER BY SUM({_BY[by]}) DESC, {", ".join(keys)} LIMIT ?"""
+        spans = f"SELECT first, last FROM talks WHERE {' AND '.join(f'{key} IS ?' for key in keys)}"
         for row in self._database.execute(query, (count,)).fetchall():
-            spans = self._database.execute(
-                "SELECT first, last FROM talks WHERE protocol IS ? AND a IS ? AND a_port IS ? AND b IS ? AND b_port IS ?", row[:5])
-            yield Talk(*row, *_spanned(spans))
+            yield Talk(*row, *_timed(*spanned(self._database.execute(spans, row[:5]))))
 
     def talks(self) -> Iterator[Talk]:
         """The conversations over all captures, each once, with the sums of its counts and its whole span."""
         held: List[Tuple[Any, ...]] = []
-        for row in self._database.execute(f"SELECT {', '.join(Talk._fields)} FROM talks ORDER BY protocol, a, a_port, b, b_port"):
+        query = f"SELECT {', '.join(Talk._fields)} FROM talks ORDER BY protocol, a, a_port, b, b_port"
+        for row in self._database.execute(query):
             if held and held[0][:5] != row[:5]:
                 yield _summed(held)
                 held = []
@@ -196,13 +199,14 @@ class Catalogue:
         """The reports over each whole capture, added up."""
         names = ("packets", "bytes", *_COUNTS[:-1])
         counts, files, fragments = dict.fromkeys(names, 0), 0, []
-        query = f"SELECT path, fragments, {', '.join(names)} FROM files JOIN totals ON file = id WHERE {_WHOLE} ORDER BY path"
+        query = f"""SELECT path, fragments, {", ".join(names)} FROM files JOIN totals ON file = id
+            WHERE {_WHOLE} ORDER BY path"""
         for path, has_fragments, *numbers in self._database.execute(query):
             files += 1
             fragments += [_path(path)] * has_fragments
             for name, number in zip(names, numbers):
                 counts[name] += number
-        talks = "SELECT COUNT(*) FROM (SELECT DISTINCT protocol, a, a_port, b, b_port FROM talks)"
+        talks = "SELECT COUNT(*) FROM (SELECT 1 FROM talks GROUP BY protocol, a, a_port, b, b_port)"
         counts["talks"], = self._database.execute(talks).fetchone()
         return Totals(files, counts, fragments)
 
@@ -220,11 +224,17 @@ def _meets(row: TalkRow, since: Time, until: Time) -> bool:
     return (since is None or last >= since) and (until is None or first <= until)
 
 
-def _spanned(spans: Any) -> Tuple[Optional[str], Optional[str], Optional[int], Optional[int]]:
-    """The least of some first times and the greatest of some last ones, exact and in nanoseconds."""
-    timed = [(first, last) for first, last in spans if first is not None]
+def spanned(spans: Iterable[Tuple[Optional[str], Optional[str]]]) -> Tuple[Optional[str], Optional[str]]:
+    """The least of some first times, and the greatest of some last ones."""
+    timed = [span for span in spans if span[0] is not None]
     first = min((first for first, _ in timed), key=exact, default=None)     # type: ignore[type-var,arg-type]
     last = max((last for _, last in timed), key=exact, default=None)        # type: ignore[type-var,arg-type]
+    return first, last
+
+
+def _timed(first: Optional[str],
+           last: Optional[str]) -> Tuple[Optional[str], Optional[str], Optional[int], Optional[int]]:
+    """A span, exact and in nanoseconds."""
     return first, last, _floor(exact(first)), _floor(exact(last))
 
 
@@ -233,13 +243,14 @@ def _summed(rows: List[Tuple[Any, ...]]) -> Talk:
     if len(rows) == 1:
         return Talk(*rows[0])
     sums = [sum(numbers) for numbers in zip(*(row[5:9] for row in rows))]
-    return Talk(*rows[0][:5], *sums, *_spanned((row[9], row[10]) for row in rows))
+    return Talk(*rows[0][:5], *sums, *_timed(*spanned((row[9], row[10]) for row in rows)))
 
 
 def _checked(connection: sqlite3.Connection, path: str) -> Catalogue:
     """The catalogue of a database, if it has the mark of one."""
     try:
-        mark, version = (connection.execute(f"PRAGMA {name}").fetchone()[0] for name in ("application_id", "user_version"))
+        names = "application_id", "user_version"
+        mark, version = (connection.execute(f"PRAGMA {name}").fetchone()[0] for name in names)
     except sqlite3.DatabaseError as error:
         raise ArchiveError(f"{path}: it is no catalogue: {error}")
     if mark != _MARK:

@@ -44,7 +44,8 @@ def _ended(answers: Iterable[Any]) -> Iterator[Any]:
 
 def _begin_worker(parent: int) -> None:
     """A worker ends quietly when its run is interrupted, and ends with its parent, even if that is killed."""
-    signal.signal(signal.SIGINT, signal.SIG_DFL)
+    for number in (signal.SIGINT, signal.SIGTERM):
+        signal.signal(number, signal.SIG_DFL)
     try:
         ctypes.CDLL(None).prctl(1, signal.SIGKILL)      # PR_SET_PDEATHSIG
     except (AttributeError, OSError):
@@ -61,9 +62,9 @@ def local(jobs: int) -> Iterator[Engine]:
         yield pool
     except BrokenProcessPool:
         raise ArchiveError("a worker was killed: what is in the catalogue stays, and the same command goes on")
-    except BaseException:
+    except Exception:
         # what hasn't begun isn't waited for
-        pool.shutdown(wait=False, **({"cancel_futures": True} if sys.version_info >= (3, 9) else {}))
+        pool.shutdown(**({"cancel_futures": True} if sys.version_info >= (3, 9) else {}))
         raise
     pool.shutdown()
 

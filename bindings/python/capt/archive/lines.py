@@ -3,6 +3,7 @@ import json
 import os
 import re
 import sys
+import time
 from typing import Any, Dict, List, Optional
 
 from .program import Talk
@@ -20,7 +21,8 @@ def shown(name: str) -> str:
 def put(kind: str, facts: Dict[str, Any], as_json: bool) -> None:
     """Prints a line: its kind and its facts, of which `path` is the last."""
     if as_json:
-        print(json.dumps({"type": kind, **{name: _value(name, fact) for name, fact in facts.items()}}, separators=(",", ":")))
+        told = {"type": kind, **{name: _value(name, fact) for name, fact in facts.items()}}
+        print(json.dumps(told, separators=(",", ":")))
         return
     words = [kind] if kind else []
     for name, fact in facts.items():
@@ -50,8 +52,9 @@ def _end(address: str, port: Optional[int]) -> Dict[str, Any]:
 
 def _talk_words(talk: Talk) -> List[str]:
     ends = [address if port is None else f"{address}:{port}" for address, port in (talk[1:3], talk[3:5])]
-    return [{17: "udp", 6: "tcp"}.get(talk.protocol, f"p{talk.protocol}"), *ends,
-            *f"forward {talk[5]} {talk[6]} backward {talk[7]} {talk[8]} first {talk.first or '-'} last {talk.last or '-'}".split()]
+    counts = f"forward {talk[5]} {talk[6]} backward {talk[7]} {talk[8]}"
+    return [{17: "udp", 6: "tcp"}.get(talk.protocol, f"p{talk.protocol}"), *ends, counts,
+            f"first {talk.first or '-'} last {talk.last or '-'}"]
 
 
 def _value(name: str, fact: Any) -> Any:
@@ -64,7 +67,6 @@ class Progress:
     asked for."""
 
     def __init__(self, asked: bool, seconds: float = 1.0):
-        import time
         self._clock, self._is_terminal = time.monotonic, sys.stderr.isatty()
         self._seconds = seconds if self._is_terminal or asked else float("inf")
         self._next = self._clock() + self._seconds
@@ -73,7 +75,8 @@ class Progress:
         """Says it, if it is time."""
         if self._clock() >= self._next:
             self._next = self._clock() + self._seconds
-            print(f"\r\x1b[K{text}" if self._is_terminal else text, end="" if self._is_terminal else "\n", file=sys.stderr, flush=True)
+            begin, end = ("\r\x1b[K", "") if self._is_terminal else ("", "\n")
+            print(f"{begin}{text}", end=end, file=sys.stderr, flush=True)
 
     def end(self) -> None:
         """Wipes what a terminal shows."""

@@ -141,6 +141,8 @@ def objects(command: List[str]) -> Iterator[Dict[str, Any]]:
             yield from map(json.loads, lines)
     except _Fault as fault:
         yield fault.told
+    except ValueError:
+        raise ArchiveError(f"{command[0]} prints no JSON: is it capt?")
 
 
 def fault_of(told: Dict[str, Any]) -> str:
@@ -170,7 +172,8 @@ def _checked(task: Task) -> Tuple[Dict[str, Any], Dict[str, int], str]:
         if told["type"] != "check":
             return {}, {}, fault_of(told)
         outcome = _ending(told)
-        facts = {"digest": told["sha256"], **{name: told[name] for name in ("format", "packets", "bytes")}, **_span(told)}
+        facts = {"digest": told["sha256"], "format": told["format"], "packets": told["packets"], "bytes": told["bytes"]}
+        facts.update(_span(told))
         counts = {name: told[name] for name in CHECKED}
     return facts, counts, outcome
 
