@@ -244,14 +244,15 @@ def check_fragments(count, archive):
     archive.put("first.pcap", pcap((1, FIRST)))
     archive.put("rest.pcap", pcap((2, REST)))
     archive.put("joined.pcap", pcap((1, datagram(udp((1, 2), b"12345678")[:8], 0, True)), (2, datagram(b"12345678", 8))))
-    archive.put("bad.pcap", pcap((1, bad[0]), (2, bad[1])))
+    # its list is longer than a pipe holds
+    archive.put("bad.pcap", pcap((1, bad[0]), (2, bad[1]), *[(3, b"\x45")] * 2000))
     archive.put("worse.pcap", pcap((1, b"\x45")))
     names = ["first.pcap", "rest.pcap", "joined.pcap", "bad.pcap", "worse.pcap"]
     seen = archive.run("index", "fragments.db", *names)
     count.check("fragments: index", seen[0] == 0, seen)
     seen = archive.run("totals", "fragments.db")
-    want = (f"files 5\ntotal packets 7 bytes {28 + 24 + 28 + 28 + 28 + 24 + 1} truncated 0\n"
-            "frames other-link 0 not-ipv4 0 short 0 cut 0 bad 3 unjoined 2 counted 2\njoined 1 given-up 0\ntalks 1\nsums is-report no\n"
+    want = (f"files 5\ntotal packets 2007 bytes {28 + 24 + 28 + 28 + 28 + 24 + 2000 + 1} truncated 0\n"
+            "frames other-link 0 not-ipv4 0 short 0 cut 0 bad 2003 unjoined 2 counted 2\njoined 1 given-up 0\ntalks 1\nsums is-report no\n"
             + "".join(f"fragments name {name}\n" for name in sorted(names[:4])))
     count.check("fragments: totals", seen == (0, want, ""), seen, want)
 
@@ -259,6 +260,7 @@ def check_fragments(count, archive):
 def check_again(count, archive):
     """Captures that are unchanged are left out, changed ones are read again, and what they had is gone."""
     names = list(FILES)
+    archive.run("index", "archive.db", *names)
     seen = archive.run("index", "archive.db", *names, *names)
     count.check("unchanged", seen == (0, "indexed files 3 read 0 unchanged 3 not-whole 0\n", ""), seen)
     archive.put("two.pcap", pcap((10, ANSWER)), 1_700_000_001)
@@ -283,8 +285,6 @@ def check_again(count, archive):
     count.check("a byte turned: verify", seen == (1, want, ""), seen)
     seen = archive.run("index", "archive.db", "one.pcap", "--again")
     count.check("a byte turned: read again", seen[1] == "indexed files 1 read 1 unchanged 0 not-whole 0\n", seen)
-    for name, content in FILES.items():
-        archive.put(name, content)
 
 
 def check_duplicates(count, archive):
@@ -391,8 +391,10 @@ def check_merge(count, archive):
     out = archive.path("all.pcapng")
 
     def holds(name, seen, wanted, content):
-        with open(out, "rb") as file:
-            is_so = seen == wanted and file.read() == content
+        is_so = seen == wanted and os.path.exists(out)
+        if is_so:
+            with open(out, "rb") as file:
+                is_so = file.read() == content
         left = [it for it in os.listdir(archive.folder) if it.startswith("all.pcapng.")]
         count.check(f"merge: {name}", is_so and not left, seen, left)
 
@@ -418,7 +420,7 @@ def check_merge(count, archive):
     # in the last round: a packet of another link type
     other = archive.put("ethernet.pcap", pcap((2000, bytes(60)), link=1))
     seen = archive.run("merge", "--to", "pcap", "all.pcap", *paths, other)
-    count.check("merge: refused in the last round", seen[0] == 1 and "rule 18 link-mixed, in the merge of files 33 to 41" in seen[2], seen)
+    count.check("merge: refused in the last round", seen[0] == 1 and "rule 18 link-mixed, where that file is the merge of files 33 to 41" in seen[2], seen)
 
 
 def check_wrong(count, archive):
@@ -478,7 +480,7 @@ def check_engines(count, archive):
     """Any engine that has `map` gives the same tables: here one without processes, threads, and, where it is, dask."""
     files, want = merged(40)
     names = [*FILES, "cut.pcap", *files]
-    for name, content in {**FILES, **files}.items():
+    for name, content in {**files, "cut.pcap": pcap(*ONE)[:-1]}.items():
         archive.put(name, content)
     seen = archive.run("index", "local.db", "--jobs", "3", *names)
     count.check("engines: processes", seen[1].endswith("indexed files 44 read 44 unchanged 0 not-whole 1\n"), seen)
@@ -538,23 +540,25 @@ def check_page(count, folder, program):
         count.check(f"page: {line.strip()}", ran.stdout.replace(place, "/captures") == wanted, ran.stdout)
 
 
+CHECKS = (check_engines, check_killed, check_answers, check_merge, check_wrong, check_times, check_again, check_bad, check_fragments,
+          check_duplicates)
+
+
 def main():
     program = os.path.abspath(sys.argv[1] if len(sys.argv) > 1 else PROGRAM)
     count = Count()
-    with tempfile.TemporaryDirectory() as folder:
-        for place, check in enumerate((check_answers, check_times, check_bad, check_fragments, check_again, check_duplicates, check_killed,
-                                       check_merge, check_wrong, check_engines)):
-            archive = Archive(os.path.join(folder, str(place)), program)
+    with tempfile.TemporaryDirectory() as folder, ThreadPool(4) as threads:
+
+        def does(check):
+            if check is check_page:
+                return check_page(count, folder, program)
+            archive = Archive(os.path.join(folder, check.__name__), program)
             os.mkdir(archive.folder)
             for name, content in FILES.items():
                 archive.put(name, content)
-            if check is check_again:
-                archive.run("index", "archive.db", *FILES)
-            if check is check_engines:
-                archive.put("cut.pcap", pcap(*ONE)[:-1])
             check(count, archive)
-        if os.path.exists(os.path.join(TOP, "docs", "ARCHIVE.md")):
-            check_page(count, folder, program)
+
+        threads.map(does, [*CHECKS, check_page], chunksize=1)
     count.end()
 
 

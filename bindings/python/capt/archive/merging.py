@@ -3,13 +3,14 @@
 By the law of rounds (`rounds_bytes` of capt's crate cap_laws) the bytes are those of a single merge, if nothing is
 refused and no file of a round has more than 2^40 bytes."""
 import os
+import re
 import shutil
+import subprocess
 import tempfile
-from typing import Any, Dict, Iterator, List, NamedTuple, Optional, Sequence, Tuple
+from typing import Iterator, List, NamedTuple, Optional, Sequence, Tuple
 
 from .engines import Engine, results
 from .errors import ArchiveError
-from .program import objects
 
 MOST = 32
 
@@ -30,7 +31,7 @@ def merge(out: str, paths: Sequence[str], engine: Engine, *, program: str = "cap
     work = _folder(folder and os.path.abspath(folder) or os.path.dirname(out), out)
     beside = _folder(os.path.dirname(out), out)
     try:
-        command = (program, "merge", "--json", *(("--order", order) if order else ()))
+        command = (program, "merge", *(("--order", order) if order else ()))
         cut = ("--allow-cut",) if allow_cut else ()
         files, each, number = list(map(os.path.abspath, paths)), 1, 0
         while number == 0 or len(files) > 1:
@@ -73,26 +74,31 @@ def _groups(words: Tuple[str, ...], files: List[str], folder: str, number: int) 
         yield Group(words, os.path.join(folder, f"{number}-{first}.pcapng"), tuple(files[first:first + MOST]))
 
 
-def _merge_one(group: Group) -> Optional[Dict[str, Any]]:
-    """Merges a group, and gives what the program says if it fails."""
+def _merge_one(group: Group) -> str:
+    """Merges a group, and gives the line that the program says if it fails."""
     command = [*group.command, "-o", group.out, "--", *group.files]
-    return next(objects(command), None)
+    try:
+        done = subprocess.run(command, stdin=subprocess.DEVNULL, stdout=subprocess.DEVNULL, stderr=subprocess.PIPE)
+    except OSError as error:
+        raise ArchiveError(f"{command[0]} can't be run: {error.strerror}")
+    said = done.stderr.decode(errors="replace").strip().split("\n")[0]
+    return (said or f"fault: status {done.returncode}") if done.returncode else ""
 
 
 def _merged(groups: Sequence[Group], engine: Engine, each: int, paths: Sequence[str]) -> None:
     """Merges each group, of files that are the merge of so many captures; the first failure ends it."""
-    for place, told in enumerate(list(results(engine, _merge_one, groups))):
-        if told is not None:
-            raise ArchiveError(_told(told, place * MOST, each, paths))
+    for place, said in enumerate(list(results(engine, _merge_one, groups))):
+        if said:
+            raise ArchiveError(_told(said, place * MOST, each, paths))
 
 
-def _told(told: Dict[str, Any], before: int, each: int, paths: Sequence[str]) -> str:
-    """What the program said, of the captures in place of the files of a round."""
-    what = {"refused": "offset {offset} rule {rule} {name}"}.get(told["type"], "{fault}").format(**told)
-    if "file" not in told:
-        return f"{told['type']}: {what}"
-    number = before + told["file"]
+def _told(said: str, before: int, each: int, paths: Sequence[str]) -> str:
+    """A line that the program says, with the captures in place of the files of a round."""
+    found = re.fullmatch("(.* )?file ([0-9]+)(.*)", said)
+    if found is None:
+        return said
+    number = before + int(found[2])
     if each == 1:
-        return f"{told['type']}: file {number} {what}: {paths[number - 1]}"
+        return f"{found[1]}file {number}{found[3]}: {paths[number - 1]}"
     last = min(number * each, len(paths))
-    return f"{told['type']}: {what}, in the merge of files {(number - 1) * each + 1} to {last}"
+    return f"{said}, where that file is the merge of files {(number - 1) * each + 1} to {last}"

@@ -115,7 +115,9 @@ def _running(command: List[str]) -> Iterator[IO[bytes]]:
     except OSError as error:
         raise ArchiveError(f"{command[0]} can't be run: {error.strerror}")
     with process:
-        yield cast(IO[bytes], process.stdout)
+        with cast(IO[bytes], process.stdout) as lines:
+            yield lines
+        # what wasn't read isn't waited for
         said = cast(IO[bytes], process.stderr).read().decode(errors="replace").strip()
     if process.returncode == 2:
         why = said.split("\n")[0]
