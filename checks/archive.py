@@ -283,6 +283,14 @@ def check_again(count, archive):
     want = ("changed outcome differs name one.pcap\nchanged outcome open name three.pcapng\n"
             "changed outcome refused offset 0 rule 1 magic name two.pcap\nverified files 3 same 0 changed 3\n")
     count.check("a byte turned: verify", seen == (1, want, ""), seen)
+    touching = archive.put("touching", f'#!/bin/sh\nfor name; do :; done\ntouch "$name"\nexec {archive.program} "$@"\n'.encode())
+    os.chmod(touching, 0o755)
+    archive.put("three.pcapng", FILES["three.pcapng"])
+    for words, outcome in (["--program", touching], "not-whole outcome changed name three.pcapng\n"), ([], ""):
+        seen = archive.run("index", "times.db", "three.pcapng", *words)
+        want = f"{outcome}indexed files 1 read 1 unchanged 0 not-whole {1 if words else 0}\n"
+        count.check(f"changed while it is read {words}", seen[1] == want, seen)
+    os.remove(archive.path("three.pcapng"))
     seen = archive.run("index", "archive.db", "one.pcap", "--again")
     count.check("a byte turned: read again", seen[1] == "indexed files 1 read 1 unchanged 0 not-whole 0\n", seen)
 
@@ -444,6 +452,8 @@ def check_wrong(count, archive):
         seen = archive.run(*words)
         told = "".join(seen[1:])
         count.check(f"wrong: {words}", seen[0] == status and said in told and "Traceback" not in told, seen)
+    seen = archive.run("index", "a.db", "one.pcap")
+    count.check("read again after a fault", seen == (0, "indexed files 1 read 1 unchanged 0 not-whole 0\n", ""), seen)
     seen = archive.run("index", "empty.db", "one.pcap")
     count.check("an empty file becomes a catalogue", seen[0] == 0, seen)
     now = {name: open(archive.path(name), "rb").read() for name in kept}
@@ -504,7 +514,7 @@ def check_engines(count, archive):
         print("archive.py: the engine of dask is left out, since its package distributed isn't installed")
         return
     cluster = subprocess.Popen([pythons[0], archive.put("cluster.py", DASK.encode())], stdin=subprocess.PIPE, stdout=subprocess.PIPE,
-                               env=archive.environment, text=True)
+                               stderr=subprocess.DEVNULL, env=archive.environment, text=True)
     address = cluster.stdout.readline().strip()
     for command, wanted in [(["index", "dask.db", *names], 1), (["merge", "all.pcapng", *files], 0)]:
         seen = archive.run(*command, "--dask", address, python=pythons[0])
@@ -526,9 +536,16 @@ def check_page(count, folder, program):
     environment = {**os.environ, "PYTHONPATH": PACKAGE, "PYTHONDONTWRITEBYTECODE": "1", "CAPT_LIBRARY": "/no/libcapt.so",
                    "PATH": f"{tools}:{os.environ['PATH']}", "SLURM_ARRAY_TASK_ID": "0"}
     with open(os.path.join(TOP, "docs", "ARCHIVE.md")) as page:
-        blocks = re.findall(r"^```\w*\n(.*?)^```$", page.read(), re.M | re.S)
+        text = page.read()
+    blocks = re.findall(r"^```\w*\n(.*?)^```$", text, re.M | re.S)
     shown = [found for it in blocks for found in re.findall(r"^\$ (.*\n(?:  .*\n)*)((?:(?!\$ ).*\n)*)", it, re.M)]
     count.check("page: it shows something", len(shown) > 4)
+    for it in re.findall(r"^```python\n(.*?)^```$", text, re.M | re.S):
+        # in a file, as a worker that is begun anew reads it
+        with open(os.path.join(folder, "page.py"), "w") as out:
+            out.write(it.replace("archive.db", os.path.join(folder, "page.db")))
+        ran = subprocess.run([sys.executable, out.name], cwd=place, env=environment, stdout=subprocess.PIPE, stderr=subprocess.STDOUT, text=True)
+        count.check("page: a program", ran.stdout == "whole\n", ran.stdout)
     lost = []
     for line, wanted in shown:
         # a line is left out whose program isn't installed, and so is one that reads what that line wrote

@@ -33,7 +33,6 @@ PRAGMA user_version = {_VERSION};
 # the indexes by ends, whose pages are written all over: many captures are put in first, and then all is indexed at once
 _BY_ENDS = ("a", "b")
 _MANY = 32
-_WHOLE = "outcome IN ('whole', 'whole cut')"
 _BY = {"bytes": "forward_bytes + backward_bytes", "packets": "forward_packets + backward_packets"}
 
 Time = Optional[Fraction]
@@ -199,8 +198,7 @@ class Catalogue:
         """The reports over each whole capture, added up."""
         names = ("packets", "bytes", *_COUNTS[:-1])
         counts, files, fragments = dict.fromkeys(names, 0), 0, []
-        query = f"""SELECT path, fragments, {", ".join(names)} FROM files JOIN totals ON file = id
-            WHERE {_WHOLE} ORDER BY path"""
+        query = f"SELECT path, fragments, {', '.join(names)} FROM files JOIN totals ON file = id ORDER BY path"
         for path, has_fragments, *numbers in self._database.execute(query):
             files += 1
             fragments += [_path(path)] * has_fragments
