@@ -319,7 +319,7 @@ def workers_of(session):
     return found
 
 
-def waits(condition, seconds=30):
+def waits(condition, seconds=100):
     """Whether something becomes so."""
     until = time.monotonic() + seconds
     while not condition():
@@ -345,7 +345,7 @@ def check_killed(count, archive):
         return rows("SELECT COUNT(*) FROM files") == [(20,)]
 
     for how in signal.SIGKILL, signal.SIGINT, signal.SIGTERM:
-        run = archive.begun("index", "killed.db", "--jobs", "2", *names, CAPT=archive.slowly(30))
+        run = archive.begun("index", "killed.db", "--jobs", "2", *names, CAPT=archive.slowly(300))
         count.check(f"{how.name}: what comes before", waits(had), rows("SELECT path FROM files"))
         seen = archive.run("index", "killed.db", *names)
         count.check(f"{how.name}: a second writer", seen[0] == 1 and "another process writes it" in seen[2], seen)
