@@ -337,6 +337,8 @@ def check_wheel(count, capt, folder):
         count.check("python: the wheel is installed", seen[0] == 0, seen)
         told = run([maker, "-B", "-c", "import capt; print(capt.__file__, capt.version())"], cwd=folder, env={**os.environ, "PYTHONPATH": place})
         count.check("python: what is installed", told[0] == 0 and told[1].decode().split()[0] == os.path.join(place, "capt", "__init__.py"), told)
+        told = run([maker, "-B", "-m", "capt.archive", "--help"], cwd=folder, env={**os.environ, "PYTHONPATH": place})
+        count.check("python: the catalogue is installed", told[0] == 0 and told[1].startswith(b"usage: python -m capt.archive "), told)
         count.check("python: its hints are marked", os.path.exists(os.path.join(place, "capt", "py.typed")))
 
 

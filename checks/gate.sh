@@ -10,8 +10,8 @@
 # Use: checks/gate.sh     (the scripts want a C compiler, binutils and Python 3)
 set -u
 cd "$(dirname "$0")/.." || exit
-scripts=(program.sh edits_test.py clib.py devices.sh hints.py stack.sh papers.sh columns.py rounds.sh rows.py objects.py invariance.py
-    corpus.py hostile.py limits.py 'faults.py growths' 'faults.py devices')
+scripts=(program.sh edits_test.py clib.py devices.sh hints.py stack.sh papers.sh columns.py rounds.sh archive.py rows.py objects.py
+    invariance.py corpus.py hostile.py limits.py 'faults.py growths' 'faults.py devices')
 passed=0
 failed=0
 logs=$(mktemp -d)

@@ -115,7 +115,27 @@ def _load() -> ctypes.CDLL:
     return library
 
 
-_library = _load()
+class _Missing:
+    """In place of the library where it isn't found: a call of it raises why. What is closed was never opened."""
+
+    def __init__(self, why: OSError):
+        self._why = str(why)
+
+    def __getattr__(self, name: str) -> Any:
+        if name in ("capt_close", "capt_text_close"):
+            return lambda *_: None
+        raise OSError(self._why)
+
+
+def _load_or_miss() -> Any:
+    # `capt.archive` runs the program, and needs no library
+    try:
+        return _load()
+    except OSError as why:
+        return _Missing(why)
+
+
+_library = _load_or_miss()
 
 
 class Error(Exception):
