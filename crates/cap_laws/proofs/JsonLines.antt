@@ -5,6 +5,7 @@ use Rattle.std.specs.Prelude.{chars, codes, flat_map, pos}
 use Rattle.std.specs.List.{AllByRecursion, join_by}
 use lib.Utf8.{encode}
 use Rattle.hex.specs.Hex.{encode_lower}
+use Rattle.cap_check.specs.CheckText.{check_facts}
 use Rattle.cap_print.specs.Facts.{Fact, Facts, Field, Value, coded, end_in, fact_in, facts_in, fields_in, flag, group}
 use Rattle.cap_print.specs.Facts.{begin_in, hex, moment, name_in, number, one, open_in, word}
 use Rattle.cap_print.specs.Times.{time_json}
@@ -205,10 +206,15 @@ path-is depth name rest =
     ap (λ l. l ++ rest)
     (append_assoc (codes ",\"path\":\"") (flat_map escaped_character (chars name)) (codes "\"") ∙ sym (append-nil _))
 
-pub named-line : IsNamedLine
-named-line line name f =
+line-named : (line : Facts) (name : List ℕ) → ValueFits 4 (object (line_members line))
+    → begin_in Json line.kind (fields_in Json line.fields (path_json (Some name) ++ end_in Json))
+    ≡ json_text 4 (object (line_members line ++ (codes "path", string (chars name)) ∷ [])) ++ codes "\n"
+line-named line name f =
     ap (λ l. begin_in Json line.kind (fields_in Json line.fields l)) (path-is 2 name (end_in Json))
     ∙ line-with line ((codes "path", string (chars name)) ∷ []) (codes "\n") f
+
+pub named-line : IsNamedLine
+named-line which file check is_shown name f = line-named (check_facts which file check) name f
 
 members-of : Layer (JsonValue 3) → List (List ℕ × JsonValue 3)
 members-of null = []

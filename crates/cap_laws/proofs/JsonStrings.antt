@@ -1,7 +1,9 @@
 -- A character of a string is read back, whatever follows it.
 use Rattle.std.proofs.Common.{◌≡◌, ◌<◌, ◌≤◌, ◌+◌, ◌-◌, ◌*◌, ◌/◌, ◌%◌, ℕ, zero, suc, List, [], ◌∷◌, ◌++◌, drop, get_or}
 use Rattle.std.proofs.Common.{refl, sym, ap, ◌∙◌, subst}
-use Rattle.std.proofs.Common.{arith, append_assoc, Bool, true, false, cond, nat_lt, ◌==◌, inl, inr}
+use Rattle.std.proofs.Common.{arith, append_assoc, Bool, true, false, cond, nat_le, nat_lt, ◌==◌, ◌||◌, ◌&&◌, inl}
+use Rattle.std.proofs.Common.{inr, eqb-true}
+use Rattle.std.proofs.lemmas.Bool.{and_parts}
 use Rattle.std.proofs.lemmas.Bool.Decides.{nat_tests}
 use Rattle.std.proofs.lemmas.Bool.{cases_lt, cases_eq}
 use Rattle.std.specs.Prelude.{codes, encode_utf8, flat_map, slice_index}
@@ -27,29 +29,40 @@ seen-big c e = grind (arith, nat_tests, e)
 digit-of : ℕ → ℕ
 digit-of d = cond (nat_lt d 58) (d - 48) (d - 87)
 
+-- whether a test passes for each number below n
+abbrev are-below : (ℕ → Bool) → ℕ → Bool
+are-below test zero = true
+are-below test (suc n) = test n && are-below test n
+
+below-each : (test : ℕ → Bool) (n : ℕ) → are-below test n ≡ true → (x : ℕ) → x < n → test x ≡ true
+below-each test zero all x small = absurd (omega (arith, small))
+below-each test (suc n) all x small =
+    let parts = and_parts (test n) (are-below test n) all in
+    elim (cases_eq x n) [
+      | inl same ↦ rw same parts.0
+      | inr other ↦ below-each test n parts.1 x (omega (arith, small, other))
+    ]
+
+-- a digit of the table, as a character
+abbrev is-digit : ℕ → Bool
+is-digit c = (nat_le 48 c && nat_lt c 58) || (nat_le 97 c && nat_lt c 103)
+
+pub digit-seen : (d : ℕ) → d < 16
+    → (48 ≤ slice_index lower_digits d) × (slice_index lower_digits d < 103)
+    × (slice_index lower_digits d ≡ 92 → ⊥)
+digit-seen d small =
+    let e = below-each (λ k. is-digit (slice_index lower_digits k)) 16 refl d small in
+    seen-by (slice_index lower_digits d) e
+  where
+    seen-by : (c : ℕ) → is-digit c ≡ true → (48 ≤ c) × (c < 103) × (c ≡ 92 → ⊥)
+    seen-by c e = grind (arith, nat_tests, e)
+
 -- a digit of the table is read back
-pub Digit : ℕ → Type 0
-Digit d = digit-of (slice_index lower_digits d) ≡ d
-
--- what is so of each number below n
-unfoldable pub Each : (ℕ → Type 0) → ℕ → Type 0
-Each P zero = Unit {0}
-Each P (suc n) = P n × Each P n
-
-pub each : (P : ℕ → Type 0) (n : ℕ) → Each P n → (x : ℕ) → x < n → P x
-unfolding Each
-each P zero h x small = absurd (omega (arith, small))
-each P (suc n) h x small =
-    elim (cases_eq x n) [ inl same ↦ rw same h.0 | inr other ↦ each P n h.1 x (omega (arith, small, other)) ]
-
-digits-back : Each Digit 16
-unfolding Each Digit digit-of
-digits-back =
-    (refl, (refl, (refl, (refl, (refl, (refl, (refl, (refl, (refl, (refl, (refl, (refl, (refl, (refl, (refl, (refl, tt))))))))))))))))
-
 digit-back : (d : ℕ) → d < 16 → digit-of (slice_index lower_digits d) ≡ d
-unfolding Digit
-digit-back d small = each Digit 16 digits-back d small
+unfolding digit-of
+digit-back d small =
+    eqb-true _ d (below-each (λ k. cond (nat_lt (slice_index lower_digits k) 58) (slice_index lower_digits k - 48)
+    (slice_index lower_digits k - 87) == k) 16 refl d small)
 
 -- a character, and what is behind it
 read-hex : ℕ → ℕ → ℕ → ℕ → ℕ
@@ -98,6 +111,16 @@ byte-seen c seen quote backslash = grind (arith, nat_tests, seen, quote, backsla
 encode-1 : (c : ℕ) → c < 128 → encode_utf8 c ≡ c ∷ []
 unfolding encode
 encode-1 c small = grind (arith, nat_tests, small)
+
+-- a character of ASCII that isn't escaped, from `#` on
+pub character-plain : (c : ℕ) → 35 ≤ c → c < 127 → (c ≡ 92 → ⊥) → escaped_character c ≡ c ∷ []
+character-plain c big small other =
+    let seen : is_hidden c ≡ false = grind (arith, nat_tests, big, small) in
+    rw (
+      seen,
+      encode-1 c (omega (arith, small)),
+      byte-seen c (omega (arith, big)) (λ e. omega (arith, big, e)) other,
+    ) refl
 
 encode-2 : (c : ℕ) → 128 ≤ c → c < 2048 → encode_utf8 c ≡ (192 + c / 64) ∷ (128 + c % 64) ∷ []
 unfolding encode

@@ -1,5 +1,6 @@
 -- What capt itself puts into a line of JSON has no character that is escaped.
-use Rattle.std.proofs.Common.{◌≡◌, ◌==◌, ◌<◌, ◌/◌, ◌%◌, ℕ, zero, suc, List, [], ◌∷◌, ◌++◌, refl, sym, ap, ◌∙◌, arith}
+use Rattle.std.proofs.Common.{◌≡◌, ◌==◌, ◌<◌, ◌≤◌, ◌/◌, ◌%◌, ℕ, zero, suc, List, [], ◌∷◌, ◌++◌, refl, sym, ap, ◌∙◌}
+use Rattle.std.proofs.Common.{arith}
 use Rattle.std.proofs.Common.{Bool, true, false, Some, None, append_assoc}
 use Rattle.std.specs.Prelude.{codes, decimal, flat_map, Option}
 use Rattle.std.specs.Fmt.{digits, digits_onto, digit_glyph}
@@ -50,7 +51,8 @@ use Rattle.cap_talks.specs.declared.table.descriptions.Description.{Description}
 use Rattle.cap_talks.specs.declared.table.descriptions.Description.TheVariants as described
 use Rattle.cap_talks.specs.table.Descriptions.{description_fields}
 use Rattle.cap_laws.proofs.JsonLines.{Plain}
-use Rattle.cap_laws.proofs.JsonStrings.{Each, each}
+use Rattle.cap_laws.proofs.JsonStrings.{character-plain, digit-seen}
+use Rattle.std.proofs.lemmas.Bool.Decides.{nat_tests}
 
 -- the names and words of a field
 abbrev PlainField : Field → Type 0
@@ -110,18 +112,11 @@ reason-plain reason.TcpOffset = refl
 
 -- a decimal digit, and the digits of a number
 digit-plain : (d : ℕ) → d < 10 → Plain (digit_glyph false d ∷ [])
-unfolding encode
-digit-plain zero small = refl
-digit-plain (suc zero) small = refl
-digit-plain (suc (suc zero)) small = refl
-digit-plain (suc (suc (suc zero))) small = refl
-digit-plain (suc (suc (suc (suc zero)))) small = refl
-digit-plain (suc (suc (suc (suc (suc zero))))) small = refl
-digit-plain (suc (suc (suc (suc (suc (suc zero)))))) small = refl
-digit-plain (suc (suc (suc (suc (suc (suc (suc zero))))))) small = refl
-digit-plain (suc (suc (suc (suc (suc (suc (suc (suc zero)))))))) small = refl
-digit-plain (suc (suc (suc (suc (suc (suc (suc (suc (suc zero))))))))) small = refl
-digit-plain (suc (suc (suc (suc (suc (suc (suc (suc (suc (suc d)))))))))) small = absurd (omega (arith, small))
+digit-plain d small =
+    let low : 48 ≤ digit_glyph false d = grind (arith, nat_tests, small) in
+    let high : digit_glyph false d < 58 = grind (arith, nat_tests, small) in
+    ap (λ l. l ++ []) (character-plain (digit_glyph false d) (omega (arith, low)) (omega (arith, high))
+    (λ e. omega (arith, e, high)))
 
 onto-plain : (k n : ℕ) (acc : List ℕ) (last : Bool) → n / 10 == 0 ≡ last → Plain acc
     → Plain (digits_onto k 10 false n acc)
@@ -137,40 +132,10 @@ unfolding digits
 decimal-plain n = onto-plain 64 n [] (n / 10 == 0) refl refl
 
 -- a hexadecimal digit, and those of bytes
-HexDigit : ℕ → Type 0
-HexDigit d = escaped_character (slice_index lower_digits d) ≡ slice_index lower_digits d ∷ []
-
-hex-digits : Each HexDigit 16
-unfolding Each HexDigit encode
-hex-digits = (
-  refl,
-  (
-    refl,
-    (
-      refl,
-      (
-        refl,
-        (
-          refl,
-          (
-            refl,
-            (
-              refl,
-              (
-                refl,
-                (refl, (refl, (refl, (refl, (refl, (refl, (refl, (refl, tt)))))))),
-              ),
-            ),
-          ),
-        ),
-      ),
-    ),
-  ),
-)
-
 hex-digit-plain : (d : ℕ) → d < 16 → escaped_character (slice_index lower_digits d) ≡ slice_index lower_digits d ∷ []
-unfolding HexDigit
-hex-digit-plain d small = each HexDigit 16 hex-digits d small
+hex-digit-plain d small =
+    let k = digit-seen d small in
+    character-plain (slice_index lower_digits d) (omega (arith, k.0)) (omega (arith, k.1)) k.2
 
 hex-plain : (bytes : List ℕ) → AllByRecursion (λ b. b < 256) bytes → Plain (encode_lower bytes)
 unfolding encode_with

@@ -4,10 +4,13 @@ use Rattle.std.specs.Prelude.{◌≡◌, ◌<◌, ◌^◌, ℕ, zero, suc, ℤ, 
 use Rattle.std.specs.Prelude.{Bool, true, false, Some, None, flat_map, map, ⊤}
 use Rattle.std.specs.Fmt.{digits_onto}
 use Rattle.std.specs.List.{AllByRecursion, join_by}
-use Rattle.cap_print.specs.Facts.{Facts, Field, Value, begin_in, coded, end_in, fields_in, flag, group, hex, line_in}
-use Rattle.cap_print.specs.Facts.{moment, number, one, word}
+use Rattle.cap_check.specs.CheckText.{check_facts, check_line_in}
+use Rattle.cap_check.specs.declared.checked.Check.{Check}
+use Rattle.cap_check.specs.declared.checked.CheckLine.{CheckLine}
+use Rattle.cap_print.specs.Facts.{Facts, Field, Value, coded, flag, group, hex, line_in, moment, number, one, word}
 use Rattle.cap_print.specs.declared.forms.Form.TheVariants.{Json}
-use Rattle.cap_tool.specs.Objects.{escaped_character, path_json}
+use Rattle.cap_tool.specs.NameFields.{name_field}
+use Rattle.cap_tool.specs.Objects.{escaped_character}
 use Rattle.hex.specs.Hex.{encode_lower}
 
 -- A value (3), as far as capt prints it: a number is whole, a string is a list of characters. An array has values of
@@ -91,12 +94,14 @@ IsJsonLine =
     (line : Facts) → ValueFits 4 (object (line_members line))
     → line_in Json line ≡ json_text 4 (object (line_members line)) ++ codes "\n"
 
--- If the name of a file is behind the fields, whatever characters it has, it is the last member, `path`.
+-- So is the line of a file in `check` and `digest`, whose last member is the file's name, whatever characters it has.
 abbrev pub IsNamedLine : Type 0
 IsNamedLine =
-    (line : Facts) (name : List ℕ) → ValueFits 4 (object (line_members line))
-    → begin_in Json line.kind (fields_in Json line.fields (path_json (Some name) ++ end_in Json))
-    ≡ json_text 4 (object (line_members line ++ (codes "path", string (chars name)) ∷ [])) ++ codes "\n"
+    (which : CheckLine) (file : ℕ) (check : Check) (is_shown : Bool) (name : List ℕ)
+    → ValueFits 4 (object (line_members (check_facts which file check)))
+    → check_line_in which Json file (name_field Json is_shown name) check
+    ≡ json_text 4 (object (line_members (check_facts which file check)
+    ++ (codes "path", string (chars name)) ∷ [])) ++ codes "\n"
 
 -- No two values of any depth have the same text on a line, whatever comes after the line.
 abbrev pub ValuesReadBack : Type 0

@@ -169,9 +169,9 @@ pub fn described_classes()
 {}
 
 /// A line of facts that is printed with `--json` is the text of a value of JSON (RFC 8259): an object with the line's
-/// kind and its facts as members (`line`), and with the name of its file, whatever characters that has, if the line has
-/// it (`named`). No two values have the same text (`values`). So a line says its facts, and two lines that are the same
-/// say the same (`lines`).
+/// kind and its facts as members (`line`). So is the line of a file in `check` and `digest`, whose last member is the
+/// file's name, whatever characters it has (`named`). No two values have the same text, whatever comes after it
+/// (`values`). So two lines of facts that are the same say the same (`lines`).
 pub fn json_lines()
     ensures line { IsJsonLine }
     ensures named { IsNamedLine }
