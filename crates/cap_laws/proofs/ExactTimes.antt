@@ -6,7 +6,7 @@ use Rattle.std.specs.Prelude.{codes, decimal}
 use Rattle.std.specs.Fmt.{signed_decimal}
 use Rattle.cap_print.specs.Times.{time_text}
 use Rattle.cap_time.specs.Time.{Printed}
-use Rattle.cap_laws.proofs.JsonLines.{Stops, decimal-split, signed-split, stops-at}
+use Rattle.cap_laws.proofs.JsonNumbers.{Stops, decimal-split, signed-split, stops-at}
 use Rattle.cap_laws.specs.ExactTimes.{TimesReadBack}
 
 -- the text with what follows each number

@@ -1,344 +1,231 @@
--- A line of JSON is read back.
-use Rattle.std.proofs.Common.{◌≡◌, ◌<◌, ℕ, List, [], ◌∷◌, ◌++◌, drop, get_or, map, refl, sym, ap, ◌∙◌}
-use Rattle.std.proofs.Common.{arith}
-use Rattle.std.proofs.Common.{append_assoc, true, false, Some, None, length, subst, suc}
-use Rattle.std.proofs.lemmas.Fmt.{decimal_is_IsNumeral_wide}
-use Rattle.std.specs.Prelude.{codes, decimal, ℤ, pos, negsuc, nat_abs, ◌^◌}
-use Rattle.std.specs.Str.Parse.{AllDigits, digits_value}
-use Rattle.std.specs.Char.{digit_value}
-use Rattle.std.specs.Fmt.{signed_decimal}
-use Rattle.std.specs.List.{AllByRecursion}
-use Rattle.cap_print.specs.Facts.{Fact, Field, Value, coded, end_in, fact_in, facts_in, fields_in, flag, group}
-use Rattle.cap_print.specs.Facts.{hex}
-use Rattle.cap_print.specs.Facts.{moment, number, one, word}
-use Rattle.cap_print.specs.declared.forms.Form.TheVariants.{Json}
+-- A line of facts is the text of its object.
+use Rattle.std.proofs.Common.{◌≡◌, ℕ, suc, List, [], ◌∷◌, ◌++◌, drop, map, refl, sym, ap, ◌∙◌}
+use Rattle.std.proofs.Common.{arith, append_assoc, append-nil, true, false, Some, None}
+use Rattle.std.specs.Prelude.{chars, codes, flat_map, pos}
+use Rattle.std.specs.List.{AllByRecursion, join_by}
+use lib.Utf8.{encode}
 use Rattle.hex.specs.Hex.{encode_lower}
-use Rattle.cap_laws.specs.JsonLines.{HasNoQuote, IsObjectLine, LinesReadBack, Member, MemberFits, NamedFits}
-use Rattle.cap_laws.specs.JsonLines.{ObjectsReadBack, Scalar, ScalarFits}
-use Rattle.cap_laws.specs.JsonLines.{instant, member_of, member_then, members_of, more_named_then, more_then}
-use Rattle.cap_laws.specs.JsonLines.{named_of}
-use Rattle.cap_laws.specs.JsonLines.{named_then, nested, null, plain, scalar_of, scalar_then}
-use Rattle.cap_laws.specs.JsonLines.{scalars_then}
-use Rattle.cap_laws.specs.JsonLines.{string, string_then, truth, whole}
+use Rattle.cap_check.specs.CheckText.{check_facts}
+use Rattle.cap_print.specs.Facts.{Fact, Facts, Field, Value, coded, end_in, fact_in, facts_in, fields_in, flag, group}
+use Rattle.cap_print.specs.Facts.{begin_in, hex, moment, name_in, number, one, open_in, word}
+use Rattle.cap_print.specs.Times.{time_json}
+use Rattle.cap_print.specs.declared.forms.Form.TheVariants.{Json}
+use Rattle.cap_time.specs.Time.{Printed}
+use Rattle.cap_tool.specs.Objects.{escaped_character, path_json}
+use Rattle.cap_laws.specs.JsonLines.{fact_value, field_member, line_members}
+use Rattle.cap_laws.proofs.JsonNumbers.{decimal-whole, signed-whole}
+use Rattle.cap_laws.proofs.JsonStrings.{string-then}
+use Rattle.cap_laws.proofs.JsonValues.{member-text, member-then, object-then, values-read-back}
+use Rattle.cap_laws.specs.JsonLines.{JsonValue, Layer, LayerFits, ValueFits, IsJsonLine, IsNamedLine, LinesReadBack}
+use Rattle.cap_laws.specs.JsonLines.{array, json_text, layer_text, null, object, string, string_text, truth, whole}
+use Rattle.cap_laws.specs.JsonLines.{whole_text}
 
--- ---- a line is an object
+-- characters that aren't escaped
+abbrev pub Plain : List ℕ → Type 0
+Plain characters = flat_map escaped_character characters ≡ characters
 
--- a name of a value, as the printed lines put it
-named : (key value rest : List ℕ)
-    → codes ",\"" ++ key ++ codes "\":" ++ (value ++ rest)
-    ≡ codes "," ++ string_then key (codes ":" ++ (value ++ rest))
-named key value rest = ap (λ l. 44 ∷ 34 ∷ l) (append_assoc key (codes "\":") (value ++ rest))
+pub plain-then : (characters rest : List ℕ) → Plain characters
+    → string_text characters ++ rest ≡ 34 ∷ (characters ++ (34 ∷ rest))
+plain-then characters rest plain =
+    string-then characters rest ∙ ap (λ l. 34 ∷ (l ++ (34 ∷ rest))) plain
 
-quoted : (bytes rest : List ℕ) → (codes "\"" ++ bytes ++ codes "\"") ++ rest ≡ string_then bytes rest
-quoted bytes rest = ap (λ l. 34 ∷ l) (append_assoc bytes (codes "\"") rest)
+-- a name before a value, as the printed lines put it
+name-is : (label key rest : List ℕ) → Plain key
+    → name_in Json label key rest ≡ 44 ∷ (string_text key ++ (58 ∷ rest))
+name-is label key rest plain =
+    ap (λ l. 44 ∷ 34 ∷ l) (append_assoc key (codes "\":") rest)
+    ∙ ap (λ l. 44 ∷ l) (sym (plain-then key (58 ∷ rest) plain))
 
-time-is : (a b c rest : List ℕ)
+quoted-is : (characters rest : List ℕ) → Plain characters
+    → (codes "\"" ++ characters ++ codes "\"") ++ rest ≡ string_text characters ++ rest
+quoted-is characters rest plain =
+    ap (λ l. 34 ∷ l) (append_assoc characters (codes "\"") rest) ∙ sym (plain-then characters rest plain)
+
+three-joined : (a b c rest : List ℕ)
     → (codes "[" ++ a ++ codes "," ++ b ++ codes "," ++ c ++ codes "]") ++ rest
-    ≡ codes "[" ++ (a ++ (codes "," ++ (b ++ (codes "," ++ (c ++ (codes "]" ++ rest))))))
-time-is a b c rest = grind (arith, append_assoc)
+    ≡ (codes "[" ++ join_by (λ l. l) (codes ",") (a ∷ b ∷ c ∷ []) ++ codes "]") ++ rest
+three-joined a b c rest = grind (arith, append_assoc, append-nil)
 
-fact-is : (label key : List ℕ) (value : Value) (rest : List ℕ)
-    → fact_in Json (record { label = label; key = key; value = value }) rest
-    ≡ codes "," ++ named_then (key, scalar_of value) rest
-fact-is label key (number n) rest = named key (decimal n) rest
-fact-is label key (coded text n) rest = named key (decimal n) rest
-fact-is label key (word None) rest = named key (codes "null") rest
-fact-is label key (word (Some known)) rest =
-    named key (codes "\"" ++ known ++ codes "\"") rest
-    ∙ ap (λ l. codes "," ++ string_then key (codes ":" ++ l)) (quoted known rest)
-fact-is label key (moment None) rest = named key (codes "null") rest
-fact-is label key (moment (Some time)) rest =
-    named key (codes "[" ++ signed_decimal time.seconds ++ codes "," ++ decimal time.numerator ++ codes ","
-    ++ decimal time.denominator ++ codes "]") rest
-    ∙ ap (λ l. codes "," ++ string_then key (codes ":" ++ l))
-    (time-is (signed_decimal time.seconds) (decimal time.numerator) (decimal time.denominator) rest)
-fact-is label key (hex bytes) rest =
-    named key (codes "\"" ++ encode_lower bytes ++ codes "\"") rest
-    ∙ ap (λ l. codes "," ++ string_then key (codes ":" ++ l)) (quoted (encode_lower bytes) rest)
-fact-is label key (flag true) rest = named key (codes "true") rest
-fact-is label key (flag false) rest = named key (codes "false") rest
+-- a fact as a member
+abbrev member-of : {A : Type 0} → Fact → List ℕ × Layer (Layer A)
+member-of fact = (fact.key, fact_value fact.value)
 
-fact-member : (fact : Fact) (rest : List ℕ) → fact_in Json fact rest ≡ codes "," ++ named_then (named_of fact) rest
-fact-member fact rest = fact-is fact.label fact.key fact.value rest
+module _ {A : Type 0} (text : A → List ℕ) (fits : A → Type 0) where
+  time-is : (time : Printed) (rest : List ℕ) → LayerFits (LayerFits fits) (fact_value (moment (Some time)))
+      → time_json (Some time) ++ rest ≡ layer_text (layer_text text) (fact_value (moment (Some time))) ++ rest
+  time-is time rest f =
+      let a = signed-whole time.seconds f.0 in
+      let b = decimal-whole time.numerator f.1.0 in
+      let c = decimal-whole time.denominator f.1.1.0 in
+      (λ i. (codes "[" ++ a i ++ codes "," ++ b i ++ codes "," ++ c i ++ codes "]") ++ rest)
+      ∙ three-joined (whole_text time.seconds) (whole_text (pos time.numerator))
+      (whole_text (pos time.denominator)) rest
 
-facts-are : (facts : List Fact) (rest : List ℕ) → facts_in Json facts rest ≡ more_named_then (map named_of facts) rest
-facts-are [] rest = refl
-facts-are (fact ∷ facts) rest =
-    fact-member fact (facts_in Json facts rest)
-    ∙ ap (λ l. codes "," ++ named_then (named_of fact) l) (facts-are facts rest)
+  fact-is : (label key : List ℕ) (value : Value) (rest : List ℕ) → Plain key
+      → LayerFits (LayerFits fits) (fact_value value)
+      → fact_in Json (record { label = label; key = key; value = value }) rest
+      ≡ 44 ∷ (string_text key ++ (58 ∷ (layer_text (layer_text text) (fact_value value) ++ rest)))
+  fact-is label key (number n) rest plain f =
+      name-is label key _ plain
+      ∙ ap (λ l. 44 ∷ (string_text key ++ (58 ∷ (l ++ rest)))) (decimal-whole n f)
+  fact-is label key (coded known n) rest plain f =
+      name-is label key _ plain
+      ∙ ap (λ l. 44 ∷ (string_text key ++ (58 ∷ (l ++ rest)))) (decimal-whole n f)
+  fact-is label key (word None) rest plain f = name-is label key _ plain
+  fact-is label key (word (Some known)) rest plain f =
+      name-is label key _ plain
+      ∙ ap (λ l. 44 ∷ (string_text key ++ (58 ∷ l))) (quoted-is known rest f)
+  fact-is label key (moment None) rest plain f = name-is label key _ plain
+  fact-is label key (moment (Some time)) rest plain f =
+      name-is label key _ plain
+      ∙ ap (λ l. 44 ∷ (string_text key ++ (58 ∷ l))) (time-is time rest f)
+  fact-is label key (hex bytes) rest plain f =
+      name-is label key _ plain
+      ∙ ap (λ l. 44 ∷ (string_text key ++ (58 ∷ l))) (quoted-is (encode_lower bytes) rest f)
+  fact-is label key (flag true) rest plain f = name-is label key _ plain
+  fact-is label key (flag false) rest plain f = name-is label key _ plain
 
-opened : (key inner : List ℕ)
-    → codes ",\"" ++ key ++ codes "\":{" ++ inner ≡ codes "," ++ string_then key (codes ":" ++ (codes "{" ++ inner))
-opened key inner = ap (λ l. 44 ∷ 34 ∷ l) (append_assoc key (codes "\":{") inner)
+  -- as a member after a comma
+  fact-member : (fact : Fact) (rest : List ℕ) → Plain fact.key → LayerFits (LayerFits fits) (fact_value fact.value)
+      → fact_in Json fact rest ≡ 44 ∷ (member-text (layer_text (layer_text text)) (member-of fact) ++ rest)
+  fact-member fact rest plain f =
+      fact-is fact.label fact.key fact.value rest plain f
+      ∙ ap (λ l. 44 ∷ l) (sym (member-then (layer_text (layer_text text)) (member-of fact) rest))
 
-fields-are : (fields : List Field) (rest : List ℕ) → fields_in Json fields rest ≡ more_then (map member_of fields) rest
-fields-are [] rest = refl
-fields-are (one fact ∷ fields) rest =
-    fact-member fact (fields_in Json fields rest)
-    ∙ ap (λ l. codes "," ++ named_then (named_of fact) l) (fields-are fields rest)
-fields-are (group key fact facts ∷ fields) rest =
-    let after = codes "}" ++ fields_in Json fields rest in
+  facts-are : (facts : List Fact) (rest : List ℕ)
+      → AllByRecursion (λ m. Plain m.0 × LayerFits (LayerFits fits) m.1) (map member-of facts)
+      → facts_in Json facts rest
+      ≡ flat_map (λ m. codes "," ++ member-text (layer_text (layer_text text)) m) (map member-of facts) ++ rest
+  facts-are [] rest f = refl
+  facts-are (fact ∷ facts) rest f =
+      fact-member fact (facts_in Json facts rest) f.0.0 f.0.1
+      ∙ ap (λ l. 44 ∷ (member-text (layer_text (layer_text text)) (member-of fact) ++ l)) (facts-are facts rest f.1)
+      ∙ ap (λ l. 44 ∷ l) (sym (append_assoc (member-text (layer_text (layer_text text)) (member-of fact)) _ rest))
+
+-- ---- a line
+
+group-is : (key : List ℕ) (fact : Fact) (facts : List Fact) (rest : List ℕ) → Plain key
+    → ValueFits 3 (field_member (group key fact facts)).1
+    → open_in Json key (fact_in Json fact (facts_in Json facts (codes "}" ++ rest)))
+    ≡ 44 ∷ (member-text (json_text 3) (field_member (group key fact facts)) ++ rest)
+group-is key fact facts rest plain f =
+    let ms = map (member-of {A = JsonValue 0}) facts in
+    let m = member-of {A = JsonValue 0} fact in
+    let others = flat_map (λ m. codes "," ++ member-text (json_text 2) m) ms in
+    let inner : List ℕ = member-text (json_text 2) m ++ (others ++ (codes "}" ++ rest)) in
     ap (λ l. codes ",\"" ++ key ++ codes "\":{" ++ drop 1 l)
-    (fact-member fact (facts_in Json facts after))
-    ∙ opened key (named_then (named_of fact) (facts_in Json facts after))
-    ∙ ap (λ l. codes "," ++ string_then key (codes ":" ++ (codes "{" ++ named_then (named_of fact) l)))
-    (facts-are facts after)
-    ∙ ap (λ l. codes "," ++ string_then key (codes ":" ++ (codes "{" ++ named_then (named_of fact)
-    (more_named_then (map named_of facts) (codes "}" ++ l))))) (fields-are fields rest)
+    (fact-member (json_text 0) (ValueFits 0) fact _ f.0.0 f.0.1
+    ∙ ap (λ l. 44 ∷ (member-text (json_text 2) m ++ l)) (facts-are (json_text 0) (ValueFits 0) facts _ f.1))
+    ∙ ap (λ l. 44 ∷ 34 ∷ l) (append_assoc key (codes "\":{") inner)
+    ∙ ap (λ l. 44 ∷ l) (sym (plain-then key (58 ∷ 123 ∷ inner) plain))
+    ∙ ap (λ l. 44 ∷ (string_text key ++ (58 ∷ 123 ∷ l)))
+    (sym (append_assoc (member-text (json_text 2) m) others (codes "}" ++ rest)))
+    ∙ ap (λ l. 44 ∷ (string_text key ++ (58 ∷ l))) (sym (object-then (json_text 2) (m ∷ ms) rest))
+    ∙ ap (λ l. 44 ∷ l) (sym (member-then (json_text 3) (field_member (group key fact facts)) rest))
 
-pub object-line : IsObjectLine
-object-line line =
+fields-are : (fields : List Field) (rest : List ℕ)
+    → AllByRecursion (λ m. Plain m.0 × ValueFits 3 m.1) (map field_member fields)
+    → fields_in Json fields rest
+    ≡ flat_map (λ m. codes "," ++ member-text (json_text 3) m) (map field_member fields) ++ rest
+fields-are [] rest f = refl
+fields-are (one fact ∷ fields) rest f =
+    fact-member (json_text 1) (ValueFits 1) fact _ f.0.0 f.0.1
+    ∙ ap (λ l. 44 ∷ (member-text (json_text 3) (field_member (one fact)) ++ l)) (fields-are fields rest f.1)
+    ∙ ap (λ l. 44 ∷ l) (sym (append_assoc (member-text (json_text 3) (field_member (one fact))) _ rest))
+fields-are (group key fact facts ∷ fields) rest f =
+    group-is key fact facts (fields_in Json fields rest) f.0.0 f.0.1
+    ∙ ap (λ l. 44 ∷ (member-text (json_text 3) (field_member (group key fact facts)) ++ l)) (fields-are fields rest f.1)
+    ∙ ap (λ l. 44 ∷ l) (sym (append_assoc (member-text (json_text 3) (field_member (group key fact facts))) _ rest))
+
+-- the text of some members, each after a comma
+unfoldable pub after-commas : (depth : ℕ) → List (List ℕ × JsonValue depth) → List ℕ
+after-commas depth members = flat_map (λ m. codes "," ++ member-text (json_text depth) m) members
+
+commas-append : (depth : ℕ) (ms ns : List (List ℕ × JsonValue depth)) (rest : List ℕ)
+    → after-commas depth (ms ++ ns) ++ rest ≡ after-commas depth ms ++ (after-commas depth ns ++ rest)
+unfolding after-commas
+commas-append depth [] ns rest = refl
+commas-append depth (m ∷ ms) ns rest =
+    let g : List ℕ = codes "," ++ member-text (json_text depth) m in
+    append_assoc g (after-commas depth (ms ++ ns)) rest ∙ ap (λ l. g ++ l) (commas-append depth ms ns rest)
+    ∙ sym (append_assoc g (after-commas depth ms) (after-commas depth ns ++ rest))
+
+-- a member after a comma, and what is behind it
+pub comma-then : (depth : ℕ) (m : List ℕ × JsonValue depth) (ms : List (List ℕ × JsonValue depth)) (rest : List ℕ)
+    → after-commas depth (m ∷ ms) ++ rest
+    ≡ 44 ∷ (string_text m.0 ++ (58 ∷ (json_text depth m.1 ++ (after-commas depth ms ++ rest))))
+unfolding after-commas
+comma-then depth m ms rest =
+    append_assoc (codes "," ++ member-text (json_text depth) m) (after-commas depth ms) rest
+    ∙ ap (λ l. 44 ∷ l) (member-then (json_text depth) m (after-commas depth ms ++ rest))
+
+-- an object by its first member
+pub object-first : (depth : ℕ) (m : List ℕ × JsonValue depth) (ms : List (List ℕ × JsonValue depth)) (rest : List ℕ)
+    → json_text (suc depth) (object (m ∷ ms)) ++ rest
+    ≡ 123 ∷ (string_text m.0 ++ (58 ∷ (json_text depth m.1 ++ (after-commas depth ms ++ (125 ∷ rest)))))
+unfolding after-commas
+object-first depth m ms rest =
+    object-then (json_text depth) (m ∷ ms) rest
+    ∙ ap (λ l. 123 ∷ l)
+    (append_assoc (member-text (json_text depth) m) (after-commas depth ms) (125 ∷ rest)
+    ∙ member-then (json_text depth) m (after-commas depth ms ++ (125 ∷ rest)))
+
+-- a line of facts with more members behind them
+pub line-with : (line : Facts) (behind : List (List ℕ × JsonValue 3)) (rest : List ℕ)
+    → ValueFits 4 (object (line_members line))
+    → begin_in Json line.kind (fields_in Json line.fields (after-commas 3 behind ++ (125 ∷ rest)))
+    ≡ json_text 4 (object (line_members line ++ behind)) ++ rest
+unfolding after-commas
+line-with line behind rest f =
+    let ms = map field_member line.fields in
+    let kind : List ℕ × JsonValue 3 = (codes "type", string line.kind) in
+    let end : List ℕ = after-commas 3 behind ++ (125 ∷ rest) in
+    let others : List ℕ = after-commas 3 ms ++ end in
     ap (λ l. codes "{\"type\":\"" ++ l)
-    (append_assoc line.kind (codes "\"") (fields_in Json line.fields (end_in Json))
-    ∙ ap (λ l. line.kind ++ (codes "\"" ++ l)) (fields-are line.fields (codes "}\n")))
+    (append_assoc line.kind (codes "\"") (fields_in Json line.fields end)
+    ∙ ap (λ l. line.kind ++ (34 ∷ l)) (fields-are line.fields end f.1))
+    ∙ ap (λ l. codes "{\"type\":" ++ l) (sym (plain-then line.kind others f.0.1))
+    ∙ ap (λ l. 123 ∷ l) (sym (plain-then (codes "type") (58 ∷ (string_text line.kind ++ others)) f.0.0))
+    ∙ ap (λ l. 123 ∷ l) (sym (member-then (json_text 3) kind others))
+    ∙ ap (λ l. 123 ∷ (member-text (json_text 3) kind ++ l)) (sym (commas-append 3 ms behind (125 ∷ rest)))
+    ∙ ap (λ l. 123 ∷ l)
+    (sym (append_assoc (member-text (json_text 3) kind) (after-commas 3 (ms ++ behind)) (125 ∷ rest)))
+    ∙ sym (object-then (json_text 3) (kind ∷ (ms ++ behind)) rest)
 
--- ---- reading back
+pub object-line : IsJsonLine
+unfolding after-commas
+object-line line f =
+    line-with line [] (codes "\n") f
+    ∙ ap (λ ms. json_text 4 (object ms) ++ codes "\n") (append-nil (line_members line))
 
-first : List ℕ → ℕ
-first bytes = get_or bytes 0 0
+-- the last field of a line that names a file
+pub path-is : (depth : ℕ) (name rest : List ℕ)
+    → path_json (Some name) ++ rest ≡ after-commas (suc depth) ((codes "path", string (chars name)) ∷ []) ++ rest
+unfolding after-commas member-text encode
+path-is depth name rest =
+    ap (λ l. l ++ rest)
+    (append_assoc (codes ",\"path\":\"") (flat_map escaped_character (chars name)) (codes "\"") ∙ sym (append-nil _))
 
--- two strings without quotation marks, each with what comes after it
-bare-split : (t u r s : List ℕ) → HasNoQuote t → HasNoQuote u → t ++ (34 ∷ r) ≡ u ++ (34 ∷ s) → (t ≡ u) × (r ≡ s)
-unfolding first
-bare-split [] [] r s b c e = (refl, ap (drop 1) e)
-bare-split [] (d ∷ u) r s b c e = absurd (c.0 (sym (ap first e)))
-bare-split (d ∷ t) [] r s b c e = absurd (b.0 (ap first e))
-bare-split (d ∷ t) (f ∷ u) r s b c e =
-    let p = bare-split t u r s b.1 c.1 (ap (drop 1) e) in
-    ((λ i. ap first e i ∷ p.0 i), p.1)
+line-named : (line : Facts) (name : List ℕ) → ValueFits 4 (object (line_members line))
+    → begin_in Json line.kind (fields_in Json line.fields (path_json (Some name) ++ end_in Json))
+    ≡ json_text 4 (object (line_members line ++ (codes "path", string (chars name)) ∷ [])) ++ codes "\n"
+line-named line name f =
+    ap (λ l. begin_in Json line.kind (fields_in Json line.fields l)) (path-is 2 name (end_in Json))
+    ∙ line-with line ((codes "path", string (chars name)) ∷ []) (codes "\n") f
 
-string-split : (t u r s : List ℕ) → HasNoQuote t → HasNoQuote u → string_then t r ≡ string_then u s → (t ≡ u) × (r ≡ s)
-string-split t u r s b c e = bare-split t u r s b c (ap (drop 1) e)
+pub named-line : IsNamedLine
+named-line which file check is_shown name f = line-named (check_facts which file check) name f
 
--- what comes after a number doesn't begin with a digit
-pub Stops : List ℕ → Type 0
-Stops rest = (c : ℕ) (cs : List ℕ) → rest ≡ c ∷ cs → digit_value c < 10 → ⊥
-
-pub stops-at : (c : ℕ) (cs : List ℕ) → (digit_value c < 10 → ⊥) → Stops (c ∷ cs)
-unfolding Stops first
-stops-at c cs other d ds e is = other (subst (λ k. digit_value k < 10) (sym (ap first e)) is)
-
-stops-comma : (cs : List ℕ) → Stops (44 ∷ cs)
-stops-comma cs = stops-at 44 cs (λ is. omega (arith, is))
-
-stops-bracket : (cs : List ℕ) → Stops (93 ∷ cs)
-stops-bracket cs = stops-at 93 cs (λ is. omega (arith, is))
-
-stops-brace : (cs : List ℕ) → Stops (125 ∷ cs)
-stops-brace cs = stops-at 125 cs (λ is. omega (arith, is))
-
-digits-split : (ds es r s : List ℕ) → AllDigits 10 ds → AllDigits 10 es → Stops r → Stops s → ds ++ r ≡ es ++ s
-    → (ds ≡ es) × (r ≡ s)
-unfolding Stops first
-digits-split [] [] r s b c p q e = (refl, e)
-digits-split [] (d ∷ es) r s b c p q e = absurd (p d (es ++ s) e c.0)
-digits-split (d ∷ ds) [] r s b c p q e = absurd (q d (ds ++ r) (sym e) b.0)
-digits-split (d ∷ ds) (f ∷ es) r s b c p q e =
-    let k = digits-split ds es r s b.1 c.1 p q (ap (drop 1) e) in
-    ((λ i. ap first e i ∷ k.0 i), k.1)
-
-pub decimal-split : (m n : ℕ) (r s : List ℕ) → m < 10 ^ 64 → n < 10 ^ 64 → Stops r → Stops s
-    → decimal m ++ r ≡ decimal n ++ s → (m ≡ n) × (r ≡ s)
-decimal-split m n r s a b p q e =
-    let k = decimal_is_IsNumeral_wide m a in
-    let l = decimal_is_IsNumeral_wide n b in
-    let d = digits-split (decimal m) (decimal n) r s k.0.1 l.0.1 p q e in
-    (sym k.1 ∙ ap (digits_value 10) d.0 ∙ l.1, d.1)
-
-first-digits : (ds r : List ℕ) → 0 < length ds → AllDigits 10 ds → digit_value (first (ds ++ r)) < 10
-unfolding first
-first-digits [] r some all = absurd (omega (arith, some))
-first-digits (d ∷ ds) r some all = all.0
-
--- a number doesn't begin with any other byte than a minus or a digit
-not-number : (n : ℤ) (r : List ℕ) (c : ℕ) → nat_abs n < 10 ^ 64 → (45 ≡ c → ⊥) → (digit_value c < 10 → ⊥)
-    → first (signed_decimal n ++ r) ≡ c → ⊥
-unfolding first
-not-number (pos n) r c small minus digit e =
-    let k = decimal_is_IsNumeral_wide n small in
-    digit (subst (λ b. digit_value b < 10) e (first-digits (decimal n) r k.0.0 k.0.1))
-not-number (negsuc n) r c small minus digit e = minus e
-
-no-digit : digit_value 45 < 10 → ⊥
-no-digit is = omega (arith, is)
-
-pub signed-split : (m n : ℤ) (r s : List ℕ) → nat_abs m < 10 ^ 64 → nat_abs n < 10 ^ 64 → Stops r → Stops s
-    → signed_decimal m ++ r ≡ signed_decimal n ++ s → (m ≡ n) × (r ≡ s)
-unfolding first
-signed-split (pos m) (pos n) r s a b p q e =
-    let d = decimal-split m n r s a b p q e in (ap pos d.0, d.1)
-signed-split (pos m) (negsuc n) r s a b p q e =
-    let k = decimal_is_IsNumeral_wide m a in
-    absurd (no-digit (subst (λ b. digit_value b < 10) (ap first e) (first-digits (decimal m) r k.0.0 k.0.1)))
-signed-split (negsuc m) (pos n) r s a b p q e =
-    let k = decimal_is_IsNumeral_wide n b in
-    absurd (no-digit (subst (λ b. digit_value b < 10) (sym (ap first e)) (first-digits (decimal n) s k.0.0 k.0.1)))
-signed-split (negsuc m) (negsuc n) r s a b p q e =
-    let d = decimal-split (suc m) (suc n) r s a b p q (ap (drop 1) e) in
-    (ap negsuc (omega (arith, d.0)), d.1)
-
--- ---- values
-
-first-whole : (n : ℤ) (r : List ℕ) (c : ℕ) (x : List ℕ) → nat_abs n < 10 ^ 64 → (45 ≡ c → ⊥)
-    → (digit_value c < 10 → ⊥) → first x ≡ c → signed_decimal n ++ r ≡ x → ⊥
-first-whole n r c x small minus digit is e = not-number n r c small minus digit (ap first e ∙ is)
-
--- a value isn't followed by a digit, or is closed
-scalar-split : (v w : Scalar) (r s : List ℕ) → ScalarFits v → ScalarFits w → Stops r → Stops s
-    → scalar_then v r ≡ scalar_then w s → (v ≡ w) × (r ≡ s)
-unfolding first
-scalar-split (whole m) (whole n) r s a b p q e = let d = signed-split m n r s a b p q e in (ap whole d.0, d.1)
-scalar-split (whole m) (string u) r s a b p q e =
-    absurd (first-whole m r 34 _ a (λ is. omega (arith, is)) (λ is. omega (arith, is)) refl e)
-scalar-split (whole m) (truth true) r s a b p q e =
-    absurd (first-whole m r 116 _ a (λ is. omega (arith, is)) (λ is. omega (arith, is)) refl e)
-scalar-split (whole m) (truth false) r s a b p q e =
-    absurd (first-whole m r 102 _ a (λ is. omega (arith, is)) (λ is. omega (arith, is)) refl e)
-scalar-split (whole m) null r s a b p q e =
-    absurd (first-whole m r 110 _ a (λ is. omega (arith, is)) (λ is. omega (arith, is)) refl e)
-scalar-split (whole m) (instant t) r s a b p q e =
-    absurd (first-whole m r 91 _ a (λ is. omega (arith, is)) (λ is. omega (arith, is)) refl e)
-scalar-split (string t) (whole n) r s a b p q e =
-    absurd (first-whole n s 34 _ b (λ is. omega (arith, is)) (λ is. omega (arith, is)) refl (sym e))
-scalar-split (string t) (string u) r s a b p q e = let d = string-split t u r s a b e in (ap string d.0, d.1)
-scalar-split (string t) (truth true) r s a b p q e = absurd (omega (arith, ap first e))
-scalar-split (string t) (truth false) r s a b p q e = absurd (omega (arith, ap first e))
-scalar-split (string t) null r s a b p q e = absurd (omega (arith, ap first e))
-scalar-split (string t) (instant u) r s a b p q e = absurd (omega (arith, ap first e))
-scalar-split (truth true) (whole n) r s a b p q e =
-    absurd (first-whole n s 116 _ b (λ is. omega (arith, is)) (λ is. omega (arith, is)) refl (sym e))
-scalar-split (truth true) (string u) r s a b p q e = absurd (omega (arith, ap first e))
-scalar-split (truth true) (truth true) r s a b p q e = (refl, ap (drop 4) e)
-scalar-split (truth true) (truth false) r s a b p q e = absurd (omega (arith, ap first e))
-scalar-split (truth true) null r s a b p q e = absurd (omega (arith, ap first e))
-scalar-split (truth true) (instant u) r s a b p q e = absurd (omega (arith, ap first e))
-scalar-split (truth false) (whole n) r s a b p q e =
-    absurd (first-whole n s 102 _ b (λ is. omega (arith, is)) (λ is. omega (arith, is)) refl (sym e))
-scalar-split (truth false) (string u) r s a b p q e = absurd (omega (arith, ap first e))
-scalar-split (truth false) (truth true) r s a b p q e = absurd (omega (arith, ap first e))
-scalar-split (truth false) (truth false) r s a b p q e = (refl, ap (drop 5) e)
-scalar-split (truth false) null r s a b p q e = absurd (omega (arith, ap first e))
-scalar-split (truth false) (instant u) r s a b p q e = absurd (omega (arith, ap first e))
-scalar-split null (whole n) r s a b p q e =
-    absurd (first-whole n s 110 _ b (λ is. omega (arith, is)) (λ is. omega (arith, is)) refl (sym e))
-scalar-split null (string u) r s a b p q e = absurd (omega (arith, ap first e))
-scalar-split null (truth true) r s a b p q e = absurd (omega (arith, ap first e))
-scalar-split null (truth false) r s a b p q e = absurd (omega (arith, ap first e))
-scalar-split null null r s a b p q e = (refl, ap (drop 4) e)
-scalar-split null (instant u) r s a b p q e = absurd (omega (arith, ap first e))
-scalar-split (instant t) (whole n) r s a b p q e =
-    absurd (first-whole n s 91 _ b (λ is. omega (arith, is)) (λ is. omega (arith, is)) refl (sym e))
-scalar-split (instant t) (string u) r s a b p q e = absurd (omega (arith, ap first e))
-scalar-split (instant t) (truth true) r s a b p q e = absurd (omega (arith, ap first e))
-scalar-split (instant t) (truth false) r s a b p q e = absurd (omega (arith, ap first e))
-scalar-split (instant t) null r s a b p q e = absurd (omega (arith, ap first e))
-scalar-split (instant t) (instant u) r s a b p q e =
-    let d = signed-split t.seconds u.seconds _ _ a.0 b.0 (stops-comma _) (stops-comma _) (ap (drop 1) e) in
-    let f = decimal-split t.numerator u.numerator _ _ a.1 b.1 (stops-comma _) (stops-comma _) (ap (drop 1) d.1) in
-    let g = decimal-split t.denominator u.denominator _ _ a.2 b.2 (stops-bracket _) (stops-bracket _)
-    (ap (drop 1) f.1) in (
-      λ i. instant (record { seconds = d.0 i; numerator = f.0 i; denominator = g.0 i }),
-      ap (drop 1) g.1,
-    )
-
--- ---- members
-
-named-split : (m n : List ℕ × Scalar) (r s : List ℕ) → NamedFits m → NamedFits n → Stops r → Stops s
-    → named_then m r ≡ named_then n s → (m ≡ n) × (r ≡ s)
-named-split m n r s a b p q e =
-    let d = string-split m.0 n.0 _ _ a.0 b.0 e in
-    let f = scalar-split m.1 n.1 r s a.1 b.1 p q (ap (drop 1) d.1) in
-    ((λ i. (d.0 i, f.0 i)), f.1)
-
-stops-named : (ms : List (List ℕ × Scalar)) (r : List ℕ) → Stops (more_named_then ms (125 ∷ r))
-stops-named [] r = stops-brace r
-stops-named (m ∷ ms) r = stops-comma _
-
-more-named-split : (ms ns : List (List ℕ × Scalar)) (r s : List ℕ) → AllByRecursion NamedFits ms
-    → AllByRecursion NamedFits ns → more_named_then ms (125 ∷ r) ≡ more_named_then ns (125 ∷ s) → (ms ≡ ns) × (r ≡ s)
-unfolding first
-more-named-split [] [] r s a b e = (refl, ap (drop 1) e)
-more-named-split [] (n ∷ ns) r s a b e = absurd (omega (arith, ap first e))
-more-named-split (m ∷ ms) [] r s a b e = absurd (omega (arith, ap first e))
-more-named-split (m ∷ ms) (n ∷ ns) r s a b e =
-    let d = named-split m n _ _ a.0 b.0 (stops-named ms r) (stops-named ns s) (ap (drop 1) e) in
-    let f = more-named-split ms ns r s a.1 b.1 d.1 in
-    ((λ i. d.0 i ∷ f.0 i), f.1)
-
-scalars-split : (ms ns : List (List ℕ × Scalar)) (r s : List ℕ) → AllByRecursion NamedFits ms
-    → AllByRecursion NamedFits ns → scalars_then ms r ≡ scalars_then ns s → (ms ≡ ns) × (r ≡ s)
-unfolding first
-scalars-split [] [] r s a b e = (refl, ap (drop 2) e)
-scalars-split [] (n ∷ ns) r s a b e = absurd (omega (arith, ap (λ l. first (drop 1 l)) e))
-scalars-split (m ∷ ms) [] r s a b e = absurd (omega (arith, ap (λ l. first (drop 1 l)) e))
-scalars-split (m ∷ ms) (n ∷ ns) r s a b e =
-    let d = named-split m n _ _ a.0 b.0 (stops-named ms r) (stops-named ns s) (ap (drop 1) e) in
-    let f = more-named-split ms ns r s a.1 b.1 d.1 in
-    ((λ i. d.0 i ∷ f.0 i), f.1)
-
-first-object : (ms : List (List ℕ × Scalar)) (r : List ℕ) → first (scalars_then ms r) ≡ 123
-unfolding first
-first-object [] r = refl
-first-object (m ∷ ms) r = refl
-
--- a value that isn't an object doesn't begin like one
-not-object : (v : Scalar) (ms : List (List ℕ × Scalar)) (r s : List ℕ) → ScalarFits v
-    → scalar_then v r ≡ scalars_then ms s → ⊥
-unfolding first
-not-object (whole n) ms r s a e =
-    first-whole n r 123 (scalars_then ms s) a (λ is. omega (arith, is)) (λ is. omega (arith, is)) (first-object ms s) e
-not-object (string t) ms r s a e = omega (arith, ap first e, first-object ms s)
-not-object (truth true) ms r s a e = omega (arith, ap first e, first-object ms s)
-not-object (truth false) ms r s a e = omega (arith, ap first e, first-object ms s)
-not-object null ms r s a e = omega (arith, ap first e, first-object ms s)
-not-object (instant t) ms r s a e = omega (arith, ap first e, first-object ms s)
-
-member-split : (m n : Member) (r s : List ℕ) → MemberFits m → MemberFits n → Stops r → Stops s
-    → member_then m r ≡ member_then n s → (m ≡ n) × (r ≡ s)
-member-split (plain k v) (plain l w) r s a b p q e =
-    let d = named-split (k, v) (l, w) r s a b p q e in ((λ i. plain (d.0 i).0 (d.0 i).1), d.1)
-member-split (plain k v) (nested l ns) r s a b p q e =
-    let d = string-split k l _ _ a.0 b.0 e in absurd (not-object v ns r s a.1 (ap (drop 1) d.1))
-member-split (nested k ms) (plain l w) r s a b p q e =
-    let d = string-split k l _ _ a.0 b.0 e in absurd (not-object w ms s r b.1 (sym (ap (drop 1) d.1)))
-member-split (nested k ms) (nested l ns) r s a b p q e =
-    let d = string-split k l _ _ a.0 b.0 e in
-    let f = scalars-split ms ns r s a.1 b.1 (ap (drop 1) d.1) in
-    ((λ i. nested (d.0 i) (f.0 i)), f.1)
-
-stops-more : (ms : List Member) (r : List ℕ) → Stops (more_then ms (125 ∷ r))
-stops-more [] r = stops-brace r
-stops-more (m ∷ ms) r = stops-comma _
-
-more-split : (ms ns : List Member) (r s : List ℕ) → AllByRecursion MemberFits ms → AllByRecursion MemberFits ns
-    → more_then ms (125 ∷ r) ≡ more_then ns (125 ∷ s) → (ms ≡ ns) × (r ≡ s)
-unfolding first
-more-split [] [] r s a b e = (refl, ap (drop 1) e)
-more-split [] (n ∷ ns) r s a b e = absurd (omega (arith, ap first e))
-more-split (m ∷ ms) [] r s a b e = absurd (omega (arith, ap first e))
-more-split (m ∷ ms) (n ∷ ns) r s a b e =
-    let d = member-split m n _ _ a.0 b.0 (stops-more ms r) (stops-more ns s) (ap (drop 1) e) in
-    let f = more-split ms ns r s a.1 b.1 d.1 in
-    ((λ i. d.0 i ∷ f.0 i), f.1)
-
-second-quote : (m : Member) (r : List ℕ) → first (member_then m r) ≡ 34
-unfolding first
-second-quote (plain k v) r = refl
-second-quote (nested k ms) r = refl
-
-pub objects-read-back : ObjectsReadBack
-unfolding first
-objects-read-back [] [] r s a b e = (refl, ap (drop 2) e)
-objects-read-back [] (n ∷ ns) r s a b e =
-    absurd (omega (arith, ap (λ l. first (drop 1 l)) e, second-quote n (more_then ns (125 ∷ s))))
-objects-read-back (m ∷ ms) [] r s a b e =
-    absurd (omega (arith, ap (λ l. first (drop 1 l)) e, second-quote m (more_then ms (125 ∷ r))))
-objects-read-back (m ∷ ms) (n ∷ ns) r s a b e =
-    let d = member-split m n _ _ a.0 b.0 (stops-more ms r) (stops-more ns s) (ap (drop 1) e) in
-    let f = more-split ms ns r s a.1 b.1 d.1 in
-    ((λ i. d.0 i ∷ f.0 i), f.1)
+members-of : Layer (JsonValue 3) → List (List ℕ × JsonValue 3)
+members-of null = []
+members-of (truth is_so) = []
+members-of (whole n) = []
+members-of (string characters) = []
+members-of (array items) = []
+members-of (object members) = members
 
 pub lines-read-back : LinesReadBack
+unfolding members-of
 lines-read-back line other a b e =
-    (objects-read-back (members_of line) (members_of other) (codes "\n") (codes "\n") a b
-    (sym (object-line line) ∙ e ∙ object-line other)).0
+    ap members-of (values-read-back 4 (object (line_members line)) (object (line_members other)) [] []
+    (ap (λ l. l ++ []) (sym (object-line line a) ∙ e ∙ object-line other b))).0

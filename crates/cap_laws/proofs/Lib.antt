@@ -11,7 +11,13 @@ mod DiffsBut
 mod InOrder
 mod JoinedByPlaces
 mod JoinedUnits
+mod JsonDifferences
+mod JsonFaults
 mod JsonLines
+mod JsonNumbers
+mod JsonStrings
+mod JsonValues
+mod JsonWords
 mod LikePieces
 mod LikeReports
 mod LikeUnits

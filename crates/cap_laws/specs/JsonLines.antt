@@ -1,129 +1,117 @@
--- The lines that are printed with `--json`, as texts of JSON (RFC 8259). What stands here is JSON as far as capt prints
--- it of packets, files and conversations: without blanks, and strings without escapes. Each definition of a text takes
--- what comes after it.
-use Rattle.std.specs.Prelude.{◌≡◌, ◌≢◌, ◌<◌, ◌^◌, ℕ, ℤ, pos, nat_abs, List, [], ◌∷◌, ◌++◌, codes, decimal, map, ⊤}
-use Rattle.std.specs.Prelude.{Bool, true, false, Some, None}
-use Rattle.std.specs.Fmt.{signed_decimal}
-use Rattle.std.specs.List.{AllByRecursion}
-use Rattle.cap_print.specs.Facts.{Fact, Facts, Field, Value, coded, flag, group, hex, line_in, moment, number, one}
-use Rattle.cap_print.specs.Facts.{word}
+-- The lines that are printed with `--json`, as values of JSON and the texts of these. A number in brackets is a section
+-- of RFC 8259.
+use Rattle.std.specs.Prelude.{◌≡◌, ◌<◌, ◌^◌, ℕ, zero, suc, ℤ, pos, negsuc, nat_abs, List, [], ◌∷◌, ◌++◌, chars, codes}
+use Rattle.std.specs.Prelude.{Bool, true, false, Some, None, flat_map, map, ⊤}
+use Rattle.std.specs.Fmt.{digits_onto}
+use Rattle.std.specs.List.{AllByRecursion, join_by}
+use Rattle.cap_check.specs.CheckText.{check_facts, check_line_in}
+use Rattle.cap_check.specs.declared.checked.Check.{Check}
+use Rattle.cap_check.specs.declared.checked.CheckLine.{CheckLine}
+use Rattle.cap_print.specs.Facts.{Facts, Field, Value, coded, flag, group, hex, line_in, moment, number, one, word}
 use Rattle.cap_print.specs.declared.forms.Form.TheVariants.{Json}
-use Rattle.cap_time.specs.Time.{Printed}
+use Rattle.cap_tool.specs.NameFields.{name_field}
+use Rattle.cap_tool.specs.Objects.{escaped_character}
 use Rattle.hex.specs.Hex.{encode_lower}
 
--- A value that has no members (RFC 8259, 3): a whole number, a string, true or false, null, or an array of three whole
--- numbers, which is a time.
-pub data Scalar : Type 0 where
-  whole : ℤ → Scalar
-  string : List ℕ → Scalar
-  truth : Bool → Scalar
-  null : Scalar
-  instant : Printed → Scalar
+-- A value (3), as far as capt prints it: a number is whole, a string is a list of characters. An array has values of
+-- the type A; an object has members, each a name and such a value.
+pub data Layer (A : Type 0) : Type 0 where
+  null : Layer A
+  truth : Bool → Layer A
+  whole : ℤ → Layer A
+  string : List ℕ → Layer A
+  array : List A → Layer A
+  object : List (List ℕ × A) → Layer A
 
--- A member of an object (RFC 8259, 4): a name with such a value, or with an object of these.
-pub data Member : Type 0 where
-  plain : List ℕ → Scalar → Member
-  nested : List ℕ → List (List ℕ × Scalar) → Member
+-- A value in which values are nested at most so deep: with depth 1 its arrays and objects are empty.
+abbrev pub JsonValue : ℕ → Type 0
+JsonValue zero = ⊥
+JsonValue (suc depth) = Layer (JsonValue depth)
 
--- a string (RFC 8259, 7)
-abbrev pub string_then : List ℕ → List ℕ → List ℕ
-string_then bytes rest = codes "\"" ++ (bytes ++ (codes "\"" ++ rest))
+-- the text of a whole number (6): all its decimal digits, after a `-` if it is negative
+abbrev pub whole_text : ℤ → List ℕ
+whole_text (pos n) = digits_onto (suc n) 10 false n []
+whole_text (negsuc n) = codes "-" ++ digits_onto (suc (suc n)) 10 false (suc n) []
 
--- a value (RFC 8259, 3, 5 and 6)
-abbrev pub scalar_then : Scalar → List ℕ → List ℕ
-scalar_then (whole n) rest = signed_decimal n ++ rest
-scalar_then (string bytes) rest = string_then bytes rest
-scalar_then (truth true) rest = codes "true" ++ rest
-scalar_then (truth false) rest = codes "false" ++ rest
-scalar_then null rest = codes "null" ++ rest
-scalar_then (instant time) rest = codes "[" ++ (signed_decimal time.seconds ++ (codes "," ++ (decimal time.numerator
-    ++ (codes "," ++ (decimal time.denominator ++ (codes "]" ++ rest))))))
+-- the text of a string (7), in which some characters are escaped
+abbrev pub string_text : List ℕ → List ℕ
+string_text characters = codes "\"" ++ flat_map escaped_character characters ++ codes "\""
 
--- a member with such a value (RFC 8259, 4)
-abbrev pub named_then : List ℕ × Scalar → List ℕ → List ℕ
-named_then member rest = string_then member.0 (codes ":" ++ scalar_then member.1 rest)
+-- the text of a value (3), of an array (5) and of an object (4), by the texts of the values in it
+abbrev pub layer_text : {A : Type 0} → (A → List ℕ) → Layer A → List ℕ
+layer_text text null = codes "null"
+layer_text text (truth true) = codes "true"
+layer_text text (truth false) = codes "false"
+layer_text text (whole n) = whole_text n
+layer_text text (string characters) = string_text characters
+layer_text text (array items) = codes "[" ++ join_by text (codes ",") items ++ codes "]"
+layer_text text (object members) =
+    codes "{" ++ join_by (λ member. string_text member.0 ++ codes ":" ++ text member.1) (codes ",") members ++ codes "}"
 
--- more of these, each after a comma
-abbrev pub more_named_then : List (List ℕ × Scalar) → List ℕ → List ℕ
-more_named_then [] rest = rest
-more_named_then (member ∷ members) rest = codes "," ++ named_then member (more_named_then members rest)
+-- the text of a value with that depth
+abbrev pub json_text : (depth : ℕ) → JsonValue depth → List ℕ
+json_text zero value = []
+json_text (suc depth) value = layer_text (json_text depth) value
 
--- an object of these
-abbrev pub scalars_then : List (List ℕ × Scalar) → List ℕ → List ℕ
-scalars_then [] rest = codes "{}" ++ rest
-scalars_then (member ∷ members) rest = codes "{" ++ named_then member (more_named_then members (codes "}" ++ rest))
+-- the value of a fact; a time is an array of its three numbers
+abbrev pub fact_value : {A : Type 0} → Value → Layer (Layer A)
+fact_value (number n) = whole (pos n)
+fact_value (coded text n) = whole (pos n)
+fact_value (word None) = null
+fact_value (word (Some known)) = string known
+fact_value (moment None) = null
+fact_value (moment (Some time)) =
+    array (whole time.seconds ∷ whole (pos time.numerator) ∷ whole (pos time.denominator) ∷ [])
+fact_value (hex bytes) = string (encode_lower bytes)
+fact_value (flag is_so) = truth is_so
 
--- a member
-abbrev pub member_then : Member → List ℕ → List ℕ
-member_then (plain name value) rest = named_then (name, value) rest
-member_then (nested name members) rest = string_then name (codes ":" ++ scalars_then members rest)
-
--- more members, each after a comma
-abbrev pub more_then : List Member → List ℕ → List ℕ
-more_then [] rest = rest
-more_then (member ∷ members) rest = codes "," ++ member_then member (more_then members rest)
-
--- an object
-abbrev pub object_then : List Member → List ℕ → List ℕ
-object_then [] rest = codes "{}" ++ rest
-object_then (member ∷ members) rest = codes "{" ++ member_then member (more_then members (codes "}" ++ rest))
-
--- the value of a fact of a line
-abbrev pub scalar_of : Value → Scalar
-scalar_of (number n) = whole (pos n)
-scalar_of (coded text n) = whole (pos n)
-scalar_of (word None) = null
-scalar_of (word (Some known)) = string known
-scalar_of (moment None) = null
-scalar_of (moment (Some time)) = instant time
-scalar_of (hex bytes) = string (encode_lower bytes)
-scalar_of (flag is_so) = truth is_so
-
--- a fact, and a field, as members
-abbrev pub named_of : Fact → List ℕ × Scalar
-named_of fact = (fact.key, scalar_of fact.value)
-
-abbrev pub member_of : Field → Member
-member_of (one fact) = plain fact.key (scalar_of fact.value)
-member_of (group key fact facts) = nested key (named_of fact ∷ map named_of facts)
+-- a field of a line as a member: a fact, or an object of several facts
+abbrev pub field_member : Field → List ℕ × JsonValue 3
+field_member (one fact) = (fact.key, fact_value fact.value)
+field_member (group key fact facts) = (key, object (map (λ it. (it.key, fact_value it.value)) (fact ∷ facts)))
 
 -- the members of a line: its kind under the name `type`, and its fields
-abbrev pub members_of : Facts → List Member
-members_of line = plain (codes "type") (string line.kind) ∷ map member_of line.fields
+abbrev pub line_members : Facts → List (List ℕ × JsonValue 3)
+line_members line = (codes "type", string line.kind) ∷ map field_member line.fields
 
--- some bytes have no quotation mark
-abbrev pub HasNoQuote : List ℕ → Type 0
-HasNoQuote bytes = AllByRecursion (λ c. c ≢ 34) bytes
+-- a value whose strings have no character that is escaped, and whose numbers have up to 64 digits
+abbrev pub LayerFits : {A : Type 0} → (A → Type 0) → Layer A → Type 0
+LayerFits fits null = ⊤
+LayerFits fits (truth is_so) = ⊤
+LayerFits fits (whole n) = nat_abs n < 10 ^ 64
+LayerFits fits (string characters) = flat_map escaped_character characters ≡ characters
+LayerFits fits (array items) = AllByRecursion fits items
+LayerFits fits (object members) =
+    AllByRecursion (λ member. (flat_map escaped_character member.0 ≡ member.0) × fits member.1) members
 
--- a value, and a member, that a line may have: its strings have no quotation mark, and its numbers up to 64 digits
-abbrev pub ScalarFits : Scalar → Type 0
-ScalarFits (whole n) = nat_abs n < 10 ^ 64
-ScalarFits (string bytes) = HasNoQuote bytes
-ScalarFits (truth is_so) = ⊤
-ScalarFits null = ⊤
-ScalarFits (instant time) =
-    (nat_abs time.seconds < 10 ^ 64) × (time.numerator < 10 ^ 64) × (time.denominator < 10 ^ 64)
+abbrev pub ValueFits : (depth : ℕ) → JsonValue depth → Type 0
+ValueFits zero value = ⊤
+ValueFits (suc depth) value = LayerFits (ValueFits depth) value
 
-abbrev pub NamedFits : List ℕ × Scalar → Type 0
-NamedFits member = HasNoQuote member.0 × ScalarFits member.1
+-- A line of facts is the text of the object with its kind and its fields as members, if this object fits.
+abbrev pub IsJsonLine : Type 0
+IsJsonLine =
+    (line : Facts) → ValueFits 4 (object (line_members line))
+    → line_in Json line ≡ json_text 4 (object (line_members line)) ++ codes "\n"
 
-abbrev pub MemberFits : Member → Type 0
-MemberFits (plain name value) = NamedFits (name, value)
-MemberFits (nested name members) = HasNoQuote name × AllByRecursion NamedFits members
+-- So is the line of a file in `check` and `digest`, whose last member is the file's name, whatever characters it has.
+abbrev pub IsNamedLine : Type 0
+IsNamedLine =
+    (which : CheckLine) (file : ℕ) (check : Check) (is_shown : Bool) (name : List ℕ)
+    → ValueFits 4 (object (line_members (check_facts which file check)))
+    → check_line_in which Json file (name_field Json is_shown name) check
+    ≡ json_text 4 (object (line_members (check_facts which file check)
+    ++ (codes "path", string (chars name)) ∷ [])) ++ codes "\n"
 
--- A line is the text of the object that has its kind and its fields as members.
-abbrev pub IsObjectLine : Type 0
-IsObjectLine = (line : Facts) → line_in Json line ≡ object_then (members_of line) (codes "\n")
+-- No two values of any depth have the same text on a line, whatever comes after the line.
+abbrev pub ValuesReadBack : Type 0
+ValuesReadBack =
+    (depth : ℕ) (value other : JsonValue depth) (rest behind : List ℕ)
+    → json_text depth value ++ codes "\n" ++ rest ≡ json_text depth other ++ codes "\n" ++ behind
+    → (value ≡ other) × (rest ≡ behind)
 
--- No two objects have one text, whatever comes after them.
-abbrev pub ObjectsReadBack : Type 0
-ObjectsReadBack =
-    (members others : List Member) (rest behind : List ℕ)
-    → AllByRecursion MemberFits members → AllByRecursion MemberFits others
-    → object_then members rest ≡ object_then others behind → (members ≡ others) × (rest ≡ behind)
-
--- So a line says its members: two lines with one text have the same ones.
+-- So two lines of facts that are the same have the same members.
 abbrev pub LinesReadBack : Type 0
 LinesReadBack =
-    (line other : Facts) → AllByRecursion MemberFits (members_of line) → AllByRecursion MemberFits (members_of other)
-    → line_in Json line ≡ line_in Json other → members_of line ≡ members_of other
+    (line other : Facts) → ValueFits 4 (object (line_members line)) → ValueFits 4 (object (line_members other))
+    → line_in Json line ≡ line_in Json other → line_members line ≡ line_members other

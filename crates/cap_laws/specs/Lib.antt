@@ -9,7 +9,10 @@ pub mod Forms
 pub mod InOrder
 pub mod JoinedByPlaces
 pub mod JoinedUnits
+pub mod JsonDifferences
+pub mod JsonFaults
 pub mod JsonLines
+pub mod JsonWords
 pub mod MergeSorts
 pub mod Reports
 pub mod Rounds

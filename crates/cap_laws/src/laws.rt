@@ -9,7 +9,10 @@ ghost use Rattle.cap_laws.specs.Forms.{BodyParts, PcapReport};
 ghost use Rattle.cap_laws.specs.InOrder.{ByPlaces, ReportByPlaces};
 ghost use Rattle.cap_laws.specs.JoinedByPlaces.{JoinedByPlaces};
 ghost use Rattle.cap_laws.specs.JoinedUnits.{JoinedUnits};
-ghost use Rattle.cap_laws.specs.JsonLines.{IsObjectLine, LinesReadBack, ObjectsReadBack};
+ghost use Rattle.cap_laws.specs.JsonDifferences.{IsDifferLine, IsSideLine};
+ghost use Rattle.cap_laws.specs.JsonFaults.{IsHintLine, IsOpenLine, IsReadLine, IsRefusedLine};
+ghost use Rattle.cap_laws.specs.JsonLines.{IsJsonLine, IsNamedLine, LinesReadBack, ValuesReadBack};
+ghost use Rattle.cap_laws.specs.JsonWords.{ListedWordsPlain, PlainLinesFit, ReportWordsPlain};
 ghost use Rattle.cap_laws.specs.MergeSorts.{MergeSorts, RunSorts, SortsOnce};
 ghost use Rattle.cap_laws.specs.Reports.{MergedReport, PcapngReport, RuleLaw};
 ghost use Rattle.cap_laws.specs.Rounds.{RoundsInBytes};
@@ -165,13 +168,39 @@ pub fn described_classes()
     ensures together { DescribedTogether }
 {}
 
-/// A line that is printed with `--json` of a capture is the text of an object of JSON (RFC 8259) whose members are the
-/// line's kind and its facts (`object`); no two objects have one text (`objects`); so a line says its facts, and two
-/// lines with one text say the same (`lines`).
+/// A line of facts that is printed with `--json` is the text of a value of JSON (RFC 8259): an object with the line's
+/// kind and its facts as members (`line`). So is the line of a file in `check` and `digest`, whose last member is the
+/// file's name, whatever characters it has (`named`). No two values have the same text, whatever comes after it
+/// (`values`). So two lines of facts that are the same say the same (`lines`).
 pub fn json_lines()
-    ensures object { IsObjectLine }
-    ensures objects { ObjectsReadBack }
+    ensures line { IsJsonLine }
+    ensures named { IsNamedLine }
+    ensures values { ValuesReadBack }
     ensures lines { LinesReadBack }
+{}
+
+/// The lines of facts that the commands print have no word with a character that JSON escapes (`report`, `listed`). So
+/// `json_lines` holds for them if their numbers have up to 64 digits and the bytes that they show are below 256
+/// (`fits`).
+pub fn json_words()
+    ensures report { ReportWordsPlain }
+    ensures listed { ListedWordsPlain }
+    ensures fits { PlainLinesFit }
+{}
+
+/// The line of a refusal, of a read that failed, of a file that couldn't be opened and of what explains how a run ended
+/// is the text of a value of JSON (RFC 8259), whatever characters the name of the file and the explanation have.
+pub fn json_faults()
+    ensures refused { IsRefusedLine }
+    ensures failed { IsReadLine }
+    ensures unopened { IsOpenLine }
+    ensures explained { IsHintLine }
+{}
+
+/// The three lines that `diff --json` prints of a difference are texts of values of JSON (RFC 8259).
+pub fn json_differences()
+    ensures differ { IsDifferLine }
+    ensures side { IsSideLine }
 {}
 
 /// The exact text of a time says its seconds, its numerator and its denominator: no two times have one text, and none

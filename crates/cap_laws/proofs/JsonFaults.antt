@@ -1,0 +1,175 @@
+-- The lines of faults, and of what explains them, are texts of JSON.
+use Rattle.std.proofs.Common.{◌≡◌, ◌<◌, ◌^◌, ℕ, List, [], ◌∷◌, ◌++◌, refl, sym, ap, ◌∙◌, arith, append_assoc, Some}
+use Rattle.std.proofs.Common.{None}
+use Rattle.std.specs.Prelude.{chars, codes, decimal, flat_map, map, pos, Option, option_to_list}
+use lib.Utf8.{encode}
+use Rattle.cap_bytes.specs.Rules.{rule_name, rule_number}
+use Rattle.cap_bytes.specs.declared.faults.Rule.{Rule}
+use Rattle.cap_bytes.specs.declared.faults.Rule.TheVariants.{Magic, Version, Cut, PacketLong, BlockLength}
+use Rattle.cap_bytes.specs.declared.faults.Rule.TheVariants.{BlockTrailer}
+use Rattle.cap_bytes.specs.declared.faults.Rule.TheVariants.{OrderMagic, Captured, InterfaceUnknown, OptionEnd}
+use Rattle.cap_bytes.specs.declared.faults.Rule.TheVariants.{OptionLength, Resolution}
+use Rattle.cap_bytes.specs.declared.faults.Rule.TheVariants.{InterfaceLimit, FileLimit, OpenLimit, TalkLimit, NoTime}
+use Rattle.cap_bytes.specs.declared.faults.Rule.TheVariants.{LinkMixed}
+use Rattle.cap_bytes.specs.declared.faults.Rule.TheVariants.{Inexact, TimeRange, NoInterface}
+use Rattle.cap_laws.proofs.JsonLines.{after-commas, comma-then, object-first, path-is}
+use Rattle.cap_laws.proofs.JsonNumbers.{decimal-whole}
+use Rattle.cap_laws.proofs.JsonStrings.{string-then}
+use Rattle.cap_laws.specs.JsonFaults.{IsHintLine, IsOpenLine, IsReadLine, IsRefusedLine}
+use Rattle.cap_laws.specs.JsonLines.{JsonValue, string, whole, whole_text}
+use Rattle.cap_tool.specs.Objects.{escaped_character, path_json}
+
+-- the name of a rule has no character that is escaped
+pub rule-plain : (rule : Rule) → flat_map escaped_character (rule_name rule) ≡ rule_name rule
+unfolding encode
+rule-plain Magic = refl
+rule-plain Version = refl
+rule-plain Cut = refl
+rule-plain PacketLong = refl
+rule-plain BlockLength = refl
+rule-plain BlockTrailer = refl
+rule-plain OrderMagic = refl
+rule-plain Captured = refl
+rule-plain InterfaceUnknown = refl
+rule-plain OptionEnd = refl
+rule-plain OptionLength = refl
+rule-plain Resolution = refl
+rule-plain InterfaceLimit = refl
+rule-plain FileLimit = refl
+rule-plain OpenLimit = refl
+rule-plain TalkLimit = refl
+rule-plain NoTime = refl
+rule-plain LinkMixed = refl
+rule-plain Inexact = refl
+rule-plain TimeRange = refl
+rule-plain NoInterface = refl
+
+rule-small : (rule : Rule) → rule_number rule < 10 ^ 64
+rule-small Magic = omega arith
+rule-small Version = omega arith
+rule-small Cut = omega arith
+rule-small PacketLong = omega arith
+rule-small BlockLength = omega arith
+rule-small BlockTrailer = omega arith
+rule-small OrderMagic = omega arith
+rule-small Captured = omega arith
+rule-small InterfaceUnknown = omega arith
+rule-small OptionEnd = omega arith
+rule-small OptionLength = omega arith
+rule-small Resolution = omega arith
+rule-small InterfaceLimit = omega arith
+rule-small FileLimit = omega arith
+rule-small OpenLimit = omega arith
+rule-small TalkLimit = omega arith
+rule-small NoTime = omega arith
+rule-small LinkMixed = omega arith
+rule-small Inexact = omega arith
+rule-small TimeRange = omega arith
+rule-small NoInterface = omega arith
+
+-- the word that named a file, if there is one, as a member
+abbrev path-member : Option (List ℕ) → List (List ℕ × JsonValue 1)
+path-member path = map (λ word. (codes "path", string (chars word))) (option_to_list path)
+
+path-behind : (path : Option (List ℕ)) (rest : List ℕ)
+    → path_json path ++ rest ≡ after-commas 1 (path-member path) ++ rest
+unfolding after-commas
+path-behind None rest = refl
+path-behind (Some path) rest = path-is 0 path rest
+
+-- the text of fields, part by part
+pub parts-4 : (a b c d rest : List ℕ) → (a ++ b ++ c ++ d) ++ rest ≡ a ++ (b ++ (c ++ (d ++ rest)))
+parts-4 a b c d rest =
+    append_assoc (a ++ b ++ c) d rest
+    ∙ append_assoc (a ++ b) c (d ++ rest)
+    ∙ append_assoc a b (c ++ (d ++ rest))
+
+parts-9 : (a b c d e f g h i rest : List ℕ) → (a ++ b ++ c ++ d ++ e ++ f ++ g ++ h ++ i) ++ rest
+    ≡ a ++ (b ++ (c ++ (d ++ (e ++ (f ++ (g ++ (h ++ (i ++ rest))))))))
+parts-9 a b c d e f g h i rest =
+    append_assoc (a ++ b ++ c ++ d ++ e ++ f ++ g ++ h) i rest
+    ∙ append_assoc (a ++ b ++ c ++ d ++ e ++ f ++ g) h (i ++ rest)
+    ∙ append_assoc (a ++ b ++ c ++ d ++ e ++ f) g (h ++ (i ++ rest))
+    ∙ append_assoc (a ++ b ++ c ++ d ++ e) f (g ++ (h ++ (i ++ rest)))
+    ∙ append_assoc (a ++ b ++ c ++ d) e (f ++ (g ++ (h ++ (i ++ rest))))
+    ∙ parts-4 a b c d (e ++ (f ++ (g ++ (h ++ (i ++ rest)))))
+
+pub open-line : IsOpenLine
+unfolding encode
+open-line file path small =
+    let behind : List (List ℕ × JsonValue 1) = path-member path in
+    let number : List ℕ × JsonValue 1 = (codes "file", whole (pos file)) in
+    let left : List ℕ = codes "{\"type\":\"fault\",\"fault\":\"open\"" in
+    ap (λ l. codes "{" ++ l)
+    (append_assoc (codes "\"type\":\"fault\",\"fault\":\"open\",\"file\":") (decimal file)
+    (path_json path ++ codes "}\n"))
+    ∙ (λ i. left ++ (codes ",\"file\":" ++ (decimal-whole file small i ++ path-behind path (codes "}\n") i)))
+    ∙ ap (λ l. left ++ l) (sym (comma-then 1 number behind (codes "}\n")))
+    ∙ ap (λ l. codes "{\"type\":\"fault\"" ++ l)
+    (sym (comma-then 1 (codes "fault", string (codes "open")) (number ∷ behind) (codes "}\n")))
+    ∙ sym (object-first 1 (codes "type", string (codes "fault"))
+    ((codes "fault", string (codes "open")) ∷ number ∷ behind) (codes "\n"))
+
+pub read-line : IsReadLine
+unfolding encode
+read-line file offset path small few =
+    let behind : List (List ℕ × JsonValue 1) = path-member path in
+    let number : List ℕ × JsonValue 1 = (codes "file", whole (pos file)) in
+    let place : List ℕ × JsonValue 1 = (codes "offset", whole (pos offset)) in
+    let left : List ℕ = codes "{\"type\":\"fault\",\"fault\":\"read\"" in
+    ap (λ l. codes "{" ++ l)
+    (parts-4 (codes "\"type\":\"fault\",\"fault\":\"read\",\"file\":") (decimal file) (codes ",\"offset\":")
+    (decimal offset) (path_json path ++ codes "}\n"))
+    ∙ (λ i. left ++ (codes ",\"file\":" ++ (decimal-whole file small i ++ (codes ",\"offset\":"
+    ++ (decimal-whole offset few i ++ path-behind path (codes "}\n") i)))))
+    ∙ ap (λ l. left ++ (codes ",\"file\":" ++ (whole_text (pos file) ++ l)))
+    (sym (comma-then 1 place behind (codes "}\n")))
+    ∙ ap (λ l. left ++ l) (sym (comma-then 1 number (place ∷ behind) (codes "}\n")))
+    ∙ ap (λ l. codes "{\"type\":\"fault\"" ++ l)
+    (sym (comma-then 1 (codes "fault", string (codes "read")) (number ∷ place ∷ behind) (codes "}\n")))
+    ∙ sym (object-first 1 (codes "type", string (codes "fault"))
+    ((codes "fault", string (codes "read")) ∷ number ∷ place ∷ behind) (codes "\n"))
+
+pub refused-line : IsRefusedLine
+unfolding encode
+refused-line refusal path small few =
+    let behind : List (List ℕ × JsonValue 1) = path-member path in
+    let number : List ℕ × JsonValue 1 = (codes "file", whole (pos refusal.file)) in
+    let place : List ℕ × JsonValue 1 = (codes "offset", whole (pos refusal.offset)) in
+    let rule : List ℕ × JsonValue 1 = (codes "rule", whole (pos (rule_number refusal.rule))) in
+    let name : List ℕ × JsonValue 1 = (codes "name", string (rule_name refusal.rule)) in
+    let end : List ℕ = after-commas 1 behind ++ codes "}\n" in
+    let plain : rule_name refusal.rule ≡ flat_map escaped_character (rule_name refusal.rule) =
+    sym (rule-plain refusal.rule) in
+    let left : List ℕ = codes "{\"type\":\"refused\"" in
+    ap (λ l. codes "{" ++ l)
+    (parts-9 (codes "\"type\":\"refused\",\"file\":") (decimal refusal.file) (codes ",\"offset\":")
+    (decimal refusal.offset) (codes ",\"rule\":") (decimal (rule_number refusal.rule)) (codes ",\"name\":\"")
+    (rule_name refusal.rule) (codes "\"") (path_json path ++ codes "}\n"))
+    ∙ (λ i. left ++ (codes ",\"file\":" ++ (decimal-whole refusal.file small i ++ (codes ",\"offset\":"
+    ++ (decimal-whole refusal.offset few i ++ (codes ",\"rule\":"
+    ++ (decimal-whole (rule_number refusal.rule) (rule-small refusal.rule) i ++ (codes ",\"name\":\""
+    ++ (plain i ++ (codes "\"" ++ path-behind path (codes "}\n") i))))))))))
+    ∙ ap (λ l. left ++ (codes ",\"file\":" ++ (whole_text (pos refusal.file) ++ (codes ",\"offset\":"
+    ++ (whole_text (pos refusal.offset) ++ (codes ",\"rule\":"
+    ++ (whole_text (pos (rule_number refusal.rule)) ++ (codes ",\"name\":" ++ l))))))))
+    (sym (string-then (rule_name refusal.rule) end))
+    ∙ ap (λ l. left ++ (codes ",\"file\":" ++ (whole_text (pos refusal.file) ++ (codes ",\"offset\":"
+    ++ (whole_text (pos refusal.offset) ++ (codes ",\"rule\":"
+    ++ (whole_text (pos (rule_number refusal.rule)) ++ l)))))))
+    (sym (comma-then 1 name behind (codes "}\n")))
+    ∙ ap (λ l. left ++ (codes ",\"file\":" ++ (whole_text (pos refusal.file) ++ (codes ",\"offset\":"
+    ++ (whole_text (pos refusal.offset) ++ l)))))
+    (sym (comma-then 1 rule (name ∷ behind) (codes "}\n")))
+    ∙ ap (λ l. left ++ (codes ",\"file\":" ++ (whole_text (pos refusal.file) ++ l)))
+    (sym (comma-then 1 place (rule ∷ name ∷ behind) (codes "}\n")))
+    ∙ ap (λ l. left ++ l) (sym (comma-then 1 number (place ∷ rule ∷ name ∷ behind) (codes "}\n")))
+    ∙ sym (object-first 1 (codes "type", string (codes "refused")) (number ∷ place ∷ rule ∷ name ∷ behind) (codes "\n"))
+
+pub hint-line : IsHintLine
+unfolding encode after-commas
+hint-line text =
+    let said : List ℕ × JsonValue 1 = (codes "hint", string (chars text)) in
+    ap (λ l. codes "{\"type\":\"hint\",\"hint\":" ++ l) (sym (string-then (chars text) (codes "}\n")))
+    ∙ ap (λ l. codes "{\"type\":\"hint\"" ++ l) (sym (comma-then 1 said [] (codes "}\n")))
+    ∙ sym (object-first 1 (codes "type", string (codes "hint")) (said ∷ []) (codes "\n"))
