@@ -2,7 +2,7 @@
 use Rattle.std.proofs.Common.{◌≡◌, ◌==◌, ◌<◌, ◌≤◌, ◌/◌, ◌%◌, ℕ, zero, suc, List, [], ◌∷◌, ◌++◌, refl, sym, ap, ◌∙◌}
 use Rattle.std.proofs.Common.{arith}
 use Rattle.std.proofs.Common.{Bool, true, false, Some, None, append_assoc}
-use Rattle.std.specs.Prelude.{codes, decimal, flat_map, Option}
+use Rattle.std.specs.Prelude.{codes, decimal, flat_map, is_some, Option}
 use Rattle.std.specs.Fmt.{digits, digits_onto, digit_glyph}
 use Rattle.std.specs.List.{AllByRecursion}
 use Rattle.cap_bytes.specs.Number.{bytes_of}
@@ -193,7 +193,8 @@ counted-plain file format counts skipped was_cut =
 
 file-plain : (file : ℕ) (counts : Counts) (ending : Option Ending) → HasPlainWords (file_facts file counts ending)
 file-plain file counts None = counted-plain file counts.format counts counts.skipped false
-file-plain file counts (Some ending) = counted-plain file (Some ending.format) counts ending.skipped ending.was_cut
+file-plain file counts (Some ending) =
+    counted-plain file (Some ending.format) counts ending.skipped (is_some ending.cut)
 
 pub report-words : ReportWordsPlain
 unfolding encode
