@@ -84,6 +84,7 @@ fn wanted(row: &Row) -> Result<DroppedInfo, Fault> {
         skipped,
         named,
         ran_back,
+        left_out: None,
     })
 }
 
@@ -100,6 +101,11 @@ fn joins(rt: &impl Abort, alloc: Global, row: &Row) {
     let mut writer = room_of(rt, alloc, 512);
     let sources = sources_of(rt, alloc, row.0, 4096);
     let answer = join(rt, alloc, sources, &mut writer);
+    // `left_out` has the packets that aren't joined
+    let answer = answer.map(|left| DroppedInfo {
+        left_out: None,
+        ..left
+    });
     same!(rt; answer, wanted(row), row.0);
 }
 
@@ -136,6 +142,7 @@ fn converts(rt: &impl Abort, alloc: Global, file: File, format: Format, kept_bac
         skipped,
         named,
         ran_back: 0,
+        left_out: None,
     };
     same!(rt; answer, Ok(left_out), file);
 }

@@ -7,6 +7,7 @@ use crate::causes::Cause;
 use crate::created::create_for;
 use crate::hints::{called, cause_line, hint, hint_object};
 use crate::left::{Told, left_lines};
+use crate::left_out::left_out_line;
 use crate::objects::tell_in;
 use crate::openers::Opener;
 use crate::outcomes::{Outcome, RunStop, status_of, tell};
@@ -143,6 +144,7 @@ fn explain<R: Files<File = File> + AllocGlobal>(
     let lines = left_lines(&stop.outcome, &told.left);
     // a standard error that fails doesn't change how the run ends
     let _ = put_all(faults, lines.as_slice());
+    let _ = put_all(faults, left_out_line(&stop.outcome, &told.left).as_slice());
     if let Some(line) = hint(rt, rt.alloc(), stop, job) {
         let is_object = matches!(job, Some(job) if job.json) && !is_of_line(&stop.outcome);
         tell_hint(rt.alloc(), line.as_str(), is_object, faults);

@@ -8,6 +8,7 @@ use cap_bytes::{Fault, Order, Sink};
 use cap_commands::{Done, DroppedInfo, Finding, job_to};
 use cap_line::{Job, NOTHING_IGNORED, Task, can_replace, is_whole};
 use cap_source::Format;
+use cap_write::NO_PACKETS_LEFT_OUT;
 use std::alloc::Global;
 use std::process::Abort;
 
@@ -317,6 +318,10 @@ fn leaves(rt: &impl Abort, alloc: Global, task: Task, skipped: u128) {
             skipped,
             named: 0,
             ran_back: 0,
+            left_out: match task {
+                Task::Join => Some(NO_PACKETS_LEFT_OUT),
+                _ => None,
+            },
         },
     };
     same!(rt; answer, Ok(wanted), task);
