@@ -417,7 +417,7 @@ check 'check of closed standard input' 1 "check 1 - $none 0 open
 check 2 pcap $held whole" ''
 "$program" convert --to pcapng -o "$work/new" - < "$work/empty.pcap" > "$work/out" 2>&-; status=$?; : > "$work/err"; check 'closed standard error' 1 '' ''; same 'closed standard error' "$work/new" "$work/section"
 # With --explain lines tell after work that is done how many blocks and names of interfaces aren't carried on, of all files, and
-# how many packets ran back; without it nothing does, nor after a refusal.
+# how many packets ran back, and which packets join leaves out; without it nothing does, nor after a refusal.
 corpus=$top/checks/corpus
 many=$corpus/skipped-blocks-of-many-kinds.pcapng; one_skipped=$corpus/worked-options.pcapng; back=$corpus/runs-back.pcap
 counted() {
@@ -427,14 +427,19 @@ counted() {
 }
 counted 'blocks not carried on' 'not carried on: 8 blocks' merge --explain -o "$work/new" "$many"
 counted 'a block not carried on' 'not carried on: 1 block, names of 1 interface' convert --explain --to pcap -o "$work/new" "$one_skipped"
-counted 'a block not joined' 'not carried on: 1 block, names of 1 interface' join --explain -o "$work/new" "$one_skipped"
+counted 'a block not joined' 'not carried on: 1 block, names of 1 interface
+left out: 1 packet: short 1' join --explain -o "$work/new" "$one_skipped"
 head -c 144 "$one_skipped" > "$work/named"
 counted 'a name alone' 'not carried on: names of 1 interface' convert --explain --to pcapng -o "$work/new" "$work/named"
 counted 'names of two files' 'not carried on: names of 2 interfaces' merge --explain -o "$work/new" "$work/named" "$one" "$work/named"
 counted 'a name in what was written of one' '' convert --explain --to pcapng -o "$work/newer" "$work/new"
 counted 'blocks of two files' 'not carried on: 9 blocks, names of 1 interface' merge --explain -o "$work/new" "$one_skipped" "$one" "$many"
 counted 'a packet that ran back' 'ran back: 1 packet' merge --explain -o "$work/new" "$back" "$corpus/runs-on.pcap"
-counted 'packets of two files that ran back' 'ran back: 2 packets' join --explain -o "$work/new" "$back" "$back"
+counted 'packets of two files that ran back' 'ran back: 2 packets
+left out: 4 packets: cut 4' join --explain -o "$work/new" "$back" "$back"
+counted 'a datagram without all of its data' 'left out: 1 packet: truncated 1' join --explain -o "$work/new" "$corpus/captured-in-the-data.pcap"
+counted 'packets of several classes' 'left out: 3 packets: short 1, cut 1, truncated 1' join --explain --to pcapng -o "$work/new" "$corpus/captured-in-the-data.pcap" "$one" "$corpus/captured-in-the-ports.pcap"
+counted 'packets that no one asks for' '' join -o "$work/new" "$back"
 counted 'both' 'not carried on: 1 block, names of 1 interface
 ran back: 2 packets' merge --explain --whole -o "$work/new" "$back" "$one_skipped" "$back"
 counted 'a packet that ran back, converted' '' convert --explain --to pcapng -o "$work/new" "$back"
@@ -490,7 +495,8 @@ if command -v script > /dev/null; then
 ran back: 1 packet' merge -o new "$many" "$back"
     shown 'a block at a terminal' 'not carried on: 1 block, names of 1 interface' convert --to pcapng -o new "$one_skipped"
     shown 'a cut end at a terminal' 'cut: file 1 offset 24, 19 bytes dropped' list --allow-cut cut.pcap
-    shown 'nothing to tell at a terminal' '' join -o new one.pcap
+    shown 'nothing to tell at a terminal' '' merge -o new one.pcap
+    shown 'a packet left out at a terminal' 'left out: 1 packet: short 1' join -o new one.pcap
     (cd "$work" && script -qec "$(printf '%q ' "$program" merge -o - "$many") | cat > written" /dev/null) < /dev/null | tr -d '\r' > "$work/shown"
     if [ "$(cat "$work/shown")" = 'not carried on: 8 blocks' ]; then passed=$((passed + 1)); else failed=$((failed + 1)); echo 'blocks through a pipe at a terminal'; cat "$work/shown"; fi
     # a line is seen at a terminal as it comes, while the pipe it is read from stays open

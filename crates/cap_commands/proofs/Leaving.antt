@@ -1,8 +1,8 @@
 -- What is left of files that were written.
-use Rattle.std.proofs.Common.{◌≡◌, ◌+◌, ◌<◌, ℕ, zero, suc, List, map, length, Bool, IsTrue, Some, Result, Ok, Err, OnOk}
-use Rattle.std.proofs.Common.{◌-◌, ◌++◌, ◌∷◌, [], take, drop, slice_set, Option, None, take-append-drop}
-use Rattle.std.proofs.Common.{refl, sym, ap, ◌∙◌, subst, arith}
-use Rattle.std.specs.Prelude.{replicate}
+use Rattle.std.proofs.Common.{◌≡◌, ◌+◌, ◌<◌, ℕ, zero, suc, List, [], map, length, Bool, IsTrue, Some, Result}
+use Rattle.std.proofs.Common.{◌-◌, ◌++◌, ◌∷◌, take, drop, slice_set, Option, None, take-append-drop}
+use Rattle.std.proofs.Common.{Ok, Err, OnOk, refl, sym, ap, ◌∙◌, subst, arith}
+use Rattle.std.specs.Prelude.{is_some, replicate}
 use Rattle.std.specs.List.{list_all, range_with_len}
 use Rattle.cap_bytes.specs.Printing.{Prints}
 use Rattle.cap_bytes.specs.declared.faults.Fault.{Fault}
@@ -10,8 +10,8 @@ use Rattle.cap_bytes.specs.declared.faults.Tail.{Tail}
 use Rattle.cap_bytes.specs.declared.numbers.Order.{Order}
 use Rattle.cap_bytes.specs.declared.stops.CutRest.{CutRest}
 use Rattle.cap_merge.proofs.Unread.{told-readers, bytes-readers}
-use Rattle.cap_merge.specs.Files.{endings_of_files}
-use Rattle.cap_merge.specs.Parts.{Part, merged_feed}
+use Rattle.cap_merge.specs.Files.{clocked_run, endings_of_files}
+use Rattle.cap_merge.specs.Parts.{Part, merged_feed, run_of}
 use Rattle.cap_merge.specs.inner.Readers.{ReaderFacts, IsUnreadRun}
 use Rattle.cap_source.specs.Feed.{Feed, HasFile, Item, FeedKeeps}
 use Rattle.cap_source.specs.Items.{file_first, file_items}
@@ -25,8 +25,11 @@ use Rattle.std.proofs.lemmas.List.{length-map, take_more_set, drop-set-lt, drop-
 use Rattle.std.proofs.lemmas.List.FromFn.{length-range_with_len}
 use Rattle.cap_commands.specs.Converted.{convert_text, convert_refusal}
 use Rattle.cap_commands.specs.inner.FileText.{written_file_text, file_refusal}
+use Rattle.cap_talks.specs.talks.ReportText.{taken_after}
+use Rattle.cap_write.specs.LeftOut.{CountsLeftOut}
+use Rattle.cap_write.specs.declared.left_out.LeftOut.{LeftOut}
 use Rattle.cap_commands.specs.Left.{left_of_file, sum_of_files, skipped_in, named_in, rests_in}
-use Rattle.cap_commands.specs.Left.{LeavesOut}
+use Rattle.cap_commands.specs.Left.{LeavesOut, LeavesPackets}
 use Rattle.cap_commands.specs.declared.left.DroppedInfo.{DroppedInfo}
 
 -- a walk that is done has come to the end
@@ -111,6 +114,22 @@ Drops-merged reader tail sources ps new (Ok x) left u keeps ends is = λ t.
     (λ file. ends told file
     ∙ (u.endings file ∙ ap (λ l. endings_of_files tail l file) (bytes-readers reader sources))) is
 Drops-merged reader tail sources ps new (Err fault) left u keeps ends is = tt
+
+-- of the packets of files that were joined
+pub LeavesPackets-joined : {A : Type 0} (reader : A → ReaderFacts) (tail : Tail) (sources : List A) (ps : List Part)
+    (counts : Bool) (before new : Option LeftOut) (left : DroppedInfo)
+    → IsUnreadRun tail (map reader sources) ps → is_some before ≡ counts → is_some new ≡ is_some before
+    → (IsTrue (merged_feed ps).told → CountsLeftOut new (taken_after [] (run_of ps))) → left.left_out ≡ new
+    → IsTrue (list_all (λ s. (reader s).told) sources)
+    → LeavesPackets counts (clocked_run tail (map (λ s. (reader s).bytes) sources)) left
+LeavesPackets-joined reader tail sources ps counts before new left u asked same counted is t = record {
+  asked = ap is_some is ∙ (same ∙ asked);
+  packets =
+      subst (λ run. CountsLeftOut left.left_out (taken_after [] run))
+      (u.run ∙ ap (clocked_run tail) (bytes-readers reader sources))
+      (subst (λ l. CountsLeftOut l (taken_after [] (run_of ps))) (sym is)
+      (counted (told-readers reader tail sources ps u t)));
+}
 
 -- of one file
 pub DroppedInfo-one : (old new : Feed) (told : Bool) (ending : FileEnd) (result : Result (Unit {0}) Fault)

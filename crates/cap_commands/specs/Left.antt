@@ -1,9 +1,13 @@
 -- What a command that writes a capture leaves out, or leaves as it was.
-use Rattle.std.specs.Prelude.{◌≡◌, ℕ, zero, suc, ◌+◌, ◌-◌, List, [], ◌∷◌, ◌++◌, replicate, Option, None}
-use Rattle.std.specs.Prelude.{Result, Ok, Err}
+use Rattle.std.specs.Prelude.{◌≡◌, ℕ, zero, suc, ◌+◌, ◌-◌, List, [], ◌∷◌, ◌++◌, replicate, Option, None, Bool}
+use Rattle.std.specs.Prelude.{is_some, Result, Ok, Err}
 use Rattle.cap_bytes.specs.declared.faults.Fault.{Fault}
 use Rattle.cap_bytes.specs.declared.stops.CutRest.{CutRest}
+use Rattle.cap_merge.specs.Run.{Clocked}
+use Rattle.cap_source.specs.Feed.{Item}
 use Rattle.cap_source.specs.declared.feeds.FileEnd.{FileEnd}
+use Rattle.cap_talks.specs.talks.ReportText.{taken_after}
+use Rattle.cap_write.specs.LeftOut.{CountsLeftOut}
 use Rattle.cap_commands.specs.declared.left.DroppedInfo.{DroppedInfo}
 
 -- what a call returns, but for what it finds or leaves
@@ -13,7 +17,7 @@ done_of (Err fault) = Err fault
 
 -- nothing was left out, and nothing ran back
 abbrev pub nothing_left : DroppedInfo
-nothing_left = record { skipped = 0; named = 0; ran_back = 0; cuts = replicate 32 None }
+nothing_left = record { skipped = 0; named = 0; ran_back = 0; cuts = replicate 32 None; left_out = None }
 
 -- the rest of the only file, if it was cut
 abbrev pub only_cut : Option CutRest → DroppedInfo
@@ -46,3 +50,8 @@ pub record LeavesOut (endings : ℕ → FileEnd) (count : ℕ) (left : DroppedIn
   pub skipped : left.skipped ≡ skipped_in endings count
   pub named : left.named ≡ named_in endings count
   pub cuts : left.cuts ≡ rests_in endings count ++ replicate (32 - count) None
+
+-- the packets of a run that a join leaves out, by their class in a report of the run, if they are counted
+pub record LeavesPackets (counts : Bool) (run : List (Clocked Item)) (left : DroppedInfo) : Type 0 where
+  pub asked : is_some left.left_out ≡ counts
+  pub packets : CountsLeftOut left.left_out (taken_after [] run)

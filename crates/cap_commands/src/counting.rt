@@ -1,10 +1,10 @@
 //! What `capt convert`, `merge` and `join` write of files, and what they leave out of it or as it was.
 ghost use Rattle.std.specs.Prelude.{◌≡◌, ◌≤◌, ◌∷◌, [], IsTrue, IfOk, IsOkUnless, OnOk, Some, length, map};
-ghost use Rattle.std.specs.Prelude.{vec_len};
+ghost use Rattle.std.specs.Prelude.{None, is_some, vec_len};
 ghost use Rattle.std.specs.List.{list_all, range_with_len};
 ghost use Rattle.cap_bytes.specs.Device.{WriterKeeps, writer_of};
 ghost use Rattle.cap_bytes.specs.Printing.{Prints, is_write};
-ghost use Rattle.cap_merge.specs.Files.{endings_of_files};
+ghost use Rattle.cap_merge.specs.Files.{clocked_run, endings_of_files};
 ghost use Rattle.cap_merge.specs.Parts.{merged_feed, run_of};
 ghost use Rattle.cap_merge.specs.inner.Readers.{IsUnreadRun, reader_of};
 ghost use Rattle.cap_merge.specs.inner.View.{backward_of, counts_backward, parts_of};
@@ -17,8 +17,10 @@ ghost use Rattle.cap_source.specs.declared.feeds.Head.{Head};
 ghost use Rattle.cap_commands.specs.Converted.{convert_text, convert_refusal};
 ghost use Rattle.cap_commands.specs.inner.FileText.{written_file_text, file_refusal};
 ghost use Rattle.cap_commands.specs.JoinText.{join_text, join_text_in, join_refusal, join_refusal_in};
-ghost use Rattle.cap_commands.specs.Left.{left_of_file, LeavesOut};
+ghost use Rattle.cap_commands.specs.Left.{left_of_file, LeavesOut, LeavesPackets};
 ghost use Rattle.cap_commands.specs.MergeText.{merge_text, merge_text_in, merge_refusal, merge_refusal_in};
+ghost use Rattle.cap_talks.specs.talks.ReportText.{taken_after};
+ghost use Rattle.cap_write.specs.LeftOut.{CountsLeftOut};
 ghost use Rattle.cap_commands.specs.RunText.{datagrams_refusal, datagrams_text, packets_refusal, packets_text};
 
 use crate::left::{DroppedInfo, only_cut};
@@ -26,7 +28,8 @@ use cap_bytes::{CutRest, Fault, Order, Sink, Source, Tail};
 use cap_merge::{Merged, merge_files};
 use cap_source::{Capture, Format, PacketFeed};
 use cap_write::{
-    to_pcap, to_pcapng, write_joined, write_joined_pcap, write_merged, write_merged_pcap,
+    LeftOut, NO_PACKETS_LEFT_OUT, to_pcap, to_pcapng, write_joined, write_joined_pcap,
+    write_merged, write_merged_pcap,
 };
 use std::alloc::Global;
 
@@ -51,15 +54,17 @@ fn dropped_of<F: PacketFeed>(feed: &F, files: u32) -> DroppedInfo
         named,
         ran_back: 0,
         cuts,
+        left_out: None,
     }
 }
 
-// What is left of files that were merged, once they have come to their end.
-fn left_of_merged<F: PacketFeed>(merged: &Merged<F>) -> DroppedInfo
+// What is left of files that were merged, once they have come to their end, and of whose packets that was left out.
+fn left_of_merged<F: PacketFeed>(merged: &Merged<F>, left_out: Option<LeftOut>) -> DroppedInfo
     requires end { (merged_feed (parts_of merged.now)).known ≡ Some Head.End }
     ensures dropped { LeavesOut (merged_feed (parts_of merged.now)).endings
         (length (merged_feed (parts_of merged.now)).files) result }
     ensures backward { result.ran_back ≡ backward_of merged.now }
+    ensures packets { result.left_out ≡ left_out }
 {
     let dropped = dropped_of(merged, merged.files());
     let cuts = dropped.cuts;
@@ -68,6 +73,7 @@ fn left_of_merged<F: PacketFeed>(merged: &Merged<F>) -> DroppedInfo
         named: dropped.named,
         ran_back: u128::from(merged.backward()),
         cuts,
+        left_out,
     }
 }
 
@@ -177,14 +183,28 @@ fn write_run<F: PacketFeed, W: Sink>(
     }
 }
 
+// No packet was left out yet, if packets are counted.
+fn no_packets_if(counts: bool) -> Option<LeftOut>
+    ensures none { CountsLeftOut result [] }
+    ensures asked { is_some result ≡ counts }
+{
+    if counts {
+        Some(NO_PACKETS_LEFT_OUT)
+    } else {
+        None
+    }
+}
+
 // Writes the datagrams of a run, before any packet was passed.
 fn write_datagrams<F: PacketFeed, W: Sink>(
     alloc: Global,
     merged: &mut Merged<F>,
     order: Order,
     format: Format,
+    left: &mut Option<LeftOut>,
     writer: &mut W,
 ) -> Result<(), Fault>
+    requires none { CountsLeftOut left.old [] }
     ensures text { IsTrue (merged_feed (parts_of merged.old)).told → IsTrue (W.tells_held writer.old)
         → Prints (datagrams_text format order (run_of (parts_of merged.old)))
         (datagrams_refusal format (run_of (parts_of merged.old)))
@@ -193,11 +213,14 @@ fn write_datagrams<F: PacketFeed, W: Sink>(
     ensures walks { Walks (merged_feed (parts_of merged.old)) result (merged_feed (parts_of merged.new)) }
     ensures endings { OnOk result (IsTrue (merged_feed (parts_of merged.old)).told
         → SameEndings (merged_feed (parts_of merged.old)) (merged_feed (parts_of merged.new))) }
+    ensures left { OnOk result (IsTrue (merged_feed (parts_of merged.old)).told
+        → CountsLeftOut left.new (taken_after [] (run_of (parts_of merged.old)))) }
+    ensures asked { is_some left.new ≡ is_some left.old }
     ensures keeps { FeedKeeps (merged_feed (parts_of merged.old)) (merged_feed (parts_of merged.new)) }
 {
     match format {
-        Format::Pcap => write_joined_pcap(alloc, merged, order, writer),
-        Format::Pcapng => write_joined(alloc, merged, order, writer),
+        Format::Pcap => write_joined_pcap(alloc, merged, order, left, writer),
+        Format::Pcapng => write_joined(alloc, merged, order, left, writer),
     }
 }
 
@@ -223,15 +246,17 @@ pub fn merge_and_count<R: Source, W: Sink>(
     ensures read { FailsOf (map R.can_fail sources.items) result }
     ensures dropped { IfOk result (λ left. IsTrue (list_all R.tells_coming sources.items)
         → LeavesOut (endings_of_files tail (map R.coming sources.items)) (length sources.items) left) }
+    ensures packets { IfOk result (λ left. left.left_out ≡ None) }
 {
     let mut merged = merge_counted(alloc, sources, tail, counts)?;
     write_run(alloc, &mut merged, order, format, writer)?;
-    Ok(left_of_merged(&merged))
+    Ok(left_of_merged(&merged, None))
 }
 
 /// Writes what `join_to` writes, in either format, and returns the faults that it returns, or what is left out: how
 /// many blocks of the files and names of their interfaces aren't carried on, and, if `counts` asks for it, how many
-/// packets had a time that is earlier than that of a packet before them in their file.
+/// packets had a time that is earlier than that of a packet before them in their file, and how many packets are in no
+/// datagram that is written, by their class in a report of the files.
 pub fn join_and_count<R: Source, W: Sink>(
     alloc: Global,
     sources: Vec<R>,
@@ -251,8 +276,11 @@ pub fn join_and_count<R: Source, W: Sink>(
     ensures read { FailsOf (map R.can_fail sources.items) result }
     ensures dropped { IfOk result (λ left. IsTrue (list_all R.tells_coming sources.items)
         → LeavesOut (endings_of_files tail (map R.coming sources.items)) (length sources.items) left) }
+    ensures packets { IfOk result (λ left. IsTrue (list_all R.tells_coming sources.items)
+        → LeavesPackets counts (clocked_run tail (map R.coming sources.items)) left) }
 {
     let mut run = merge_counted(alloc, sources, tail, counts)?;
-    write_datagrams(alloc, &mut run, order, format, writer)?;
-    Ok(left_of_merged(&run))
+    let mut left_out = no_packets_if(counts);
+    write_datagrams(alloc, &mut run, order, format, &mut left_out, writer)?;
+    Ok(left_of_merged(&run, left_out))
 }

@@ -249,12 +249,12 @@ fn written(answer: Result<DroppedInfo, Fault>) -> Result<Done, Fault>
 /// the job has. It returns what it found: `Difference` exactly if it is `diff` of captures that differ, `NotWhole`
 /// exactly if it is `digest` or `check` of files that aren't all whole. And it returns what it left out, as
 /// `convert_and_count`, `merge_and_count` and `join_and_count` say: nothing of other tasks. Packets that run backward
-/// are counted if `counts` says so. `info`, `report` and `diff` write all of their text, or nothing if they return
-/// `Refused`, `Read` or `Memory`; `digest` and `check` have a line for a file that is refused or of which a read fails,
-/// and return neither; the others write up to the first refusal, which they return, and a prefix of their text if they
-/// return another fault. It returns `Read` if a read fails, `Write` if a write does, and `Memory` if a growth is
-/// refused. The lines of `digest` and `check` don't name their files. The job's list isn't read: over no sources
-/// `digest` and `check` write nothing, and find nothing.
+/// are counted if `counts` says so, and those that `join` leaves out, by their class. `info`, `report` and `diff` write
+/// all of their text, or nothing if they return `Refused`, `Read` or `Memory`; `digest` and `check` have a line for a
+/// file that is refused or of which a read fails, and return neither; the others write up to the first refusal, which
+/// they return, and a prefix of their text if they return another fault. It returns `Read` if a read fails, `Write` if
+/// a write does, and `Memory` if a growth is refused. The lines of `digest` and `check` don't name their files. The
+/// job's list isn't read: over no sources `digest` and `check` write nothing, and find nothing.
 #[inline(never)]
 pub fn job_to<R: Source, W: Sink>(
     alloc: Global,
@@ -271,7 +271,7 @@ pub fn job_to<R: Source, W: Sink>(
     ensures writer { WriterKeeps (writer_of W.Sink writer.old) (is_write result) (writer_of W.Sink writer.new) }
     ensures read { FailsOf (map R.can_fail sources.items) result }
     ensures left { IfOk result (λ done. IsTrue (list_all R.tells_coming sources.items)
-        → JobLeaves job.now (map R.coming sources.items) done.left) }
+        → JobLeaves job.now (map R.coming sources.items) counts done.left) }
     ensures finding { IfOk result (λ done. IsTrue (list_all R.tells_coming sources.items)
         → Finds job.now (map R.coming sources.items) done.finding) }
 {

@@ -5,6 +5,7 @@ ghost use Rattle.cap_bytes.specs.Printing.{is_write};
 ghost use Rattle.cap_commands.specs.Left.{done_of, nothing_left, only_cut};
 
 use cap_bytes::{CutRest, Fault};
+use cap_write::LeftOut;
 
 /// What a command that writes a capture leaves out, or leaves as it was.
 #[derive(Clone, Copy, Debug, PartialEq, Eq)]
@@ -17,6 +18,8 @@ pub struct DroppedInfo {
     pub ran_back: u128,
     /// The rest of each file, by its place, that was cut and is dropped: of 32 files at most.
     pub cuts: [Option<CutRest>; 32],
+    /// How many packets `join` leaves out, by their class in a report of the files, if they were counted.
+    pub left_out: Option<LeftOut>,
 }
 
 /// Nothing was left out, and nothing ran back.
@@ -25,6 +28,7 @@ pub const NOTHING_LEFT: DroppedInfo = DroppedInfo {
     named: 0,
     ran_back: 0,
     cuts: [None; 32],
+    left_out: None,
 };
 
 /// What is left of the only file that is read, and that ended in that rest, if it was cut.
@@ -38,6 +42,7 @@ pub(crate) fn only_cut(cut: Option<CutRest>) -> DroppedInfo
         named: 0,
         ran_back: 0,
         cuts,
+        left_out: None,
     }
 }
 

@@ -68,7 +68,7 @@ moved_by : (t : Transport) (n : ℕ) (new old : List Class) → Moves (class_of 
     → counts_of new ≡ with_group (class_of t) n (counts_of old)
 moved_by t n new old h = grind arith
 
-counts-moved : (ps : List Piece) (n : ℕ) (new old : List Class) → Moves (group_class ps) n new old
+pub counts-moved : (ps : List Piece) (n : ℕ) (new old : List Class) → Moves (group_class ps) n new old
     → counts_of new ≡ with_group (group_class ps) n (counts_of old)
 unfolding group_class
 counts-moved ps n new old h = moved_by (joined_transport ps) n new old h

@@ -6,7 +6,8 @@ mod table;
 mod talks;
 
 pub use crate::table::{
-    CountedUnit, Description, Endpoint, Held, Step, Table, TalkKey, TalkRow, TimedFrame, describe,
-    packet_class, put_description, talk_laws,
+    ClassCounts, CountedUnit, Description, Endpoint, Held, NO_PACKETS, Step, Table, TalkKey,
+    TalkRow, TimedFrame, class_of, describe, joined_class, packet_class, put_description,
+    talk_laws, with_frames, with_group,
 };
 pub use crate::talks::{file_lines, file_lines_in, report, report_in};

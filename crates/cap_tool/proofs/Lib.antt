@@ -1,5 +1,6 @@
 pub mod CheckedFiles
 pub mod Escaping
 pub mod Paths
+mod LeftOutTexts
 mod ListedNames
 mod Running

@@ -8,6 +8,7 @@ use crate::created::create_for;
 use crate::cuts::put_cuts;
 use crate::hints::{called, cause_line, hint, hint_object};
 use crate::left::{Told, left_lines};
+use crate::left_out::left_out_line;
 use crate::objects::tell_in;
 use crate::openers::Opener;
 use crate::outcomes::{Outcome, RunStop, status_of, tell};
@@ -144,6 +145,7 @@ fn explain<R: Files<File = File> + AllocGlobal>(
     let lines = left_lines(&stop.outcome, &told.left);
     // a standard error that fails doesn't change how the run ends
     let _ = put_all(faults, lines.as_slice());
+    let _ = put_all(faults, left_out_line(&stop.outcome, &told.left).as_slice());
     tell_cuts(job, &told.left, faults);
     if let Some(line) = hint(rt, rt.alloc(), stop, job) {
         let is_object = matches!(job, Some(job) if job.json) && !is_of_line(&stop.outcome);

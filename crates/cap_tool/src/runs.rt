@@ -80,7 +80,7 @@ pub fn run_job<R: Source, W: Outlet>(
         (W.held writer.new) (W.waiting writer.new) }
     ensures help { IsFalse (is_help (outcome_after result)) }
     ensures left { IfOk result (λ left. IsTrue (list_all R.tells_coming sources.items)
-        → JobLeaves job.now (map R.coming sources.items) left) }
+        → JobLeaves job.now (map R.coming sources.items) counts left) }
 {
     let answer = job_to(alloc, job, sources, counts, writer);
     let (answer, left) = split(answer);

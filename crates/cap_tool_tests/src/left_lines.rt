@@ -1,7 +1,9 @@
 //! The lines that tell what a command left out.
 use cap_bytes::{Fault, Refusal, Rule};
 use cap_line::LineFault;
-use cap_tool::{DroppedInfo, Outcome, left_lines};
+use cap_talks::ClassCounts;
+use cap_tool::{DroppedInfo, Outcome, left_lines, left_out_line};
+use cap_write::LeftOut;
 use std::process::Abort;
 
 const CUT: Fault = Fault::Refused(Refusal {
@@ -50,6 +52,7 @@ fn tells(rt: &impl Abort, outcome: &Outcome, counts: [u128; 3], text: &str) {
         named,
         ran_back,
         cuts: [None; 32],
+        left_out: None,
     };
     let line = left_lines(outcome, &left);
     assert_eq!(rt; line.as_slice(), text.as_bytes());
@@ -59,5 +62,72 @@ fn tells(rt: &impl Abort, outcome: &Outcome, counts: [u128; 3], text: &str) {
 fn what_is_left_is_told(rt: HostRuntime) {
     for (outcome, counts, text) in &TOLD {
         tells(&rt, outcome, *counts, *text);
+    }
+}
+
+// How a run ended, how many packets there are of other links, not IPv4, short, cut, bad, unjoined, counted and
+// truncated, and what is known of these.
+const TOLD_OF_PACKETS: [(Outcome, [u64; 8], &str); 7] = [
+    (Outcome::Done, [0, 0, 0, 0, 0, 0, 9, 0], ""),
+    (
+        Outcome::Done,
+        [0, 24745, 0, 0, 0, 0, 0, 0],
+        "left out: 24745 packets: not-ipv4 24745\n",
+    ),
+    (
+        Outcome::Done,
+        [0, 0, 0, 0, 1, 0, 3, 0],
+        "left out: 1 packet: bad 1\n",
+    ),
+    (
+        Outcome::Done,
+        [0, 0, 0, 0, 0, 0, 3, 2],
+        "left out: 2 packets: truncated 2\n",
+    ),
+    (
+        Outcome::Done,
+        [1, 2, 3, 4, 5, 6, 7, 7],
+        "left out: 28 packets: other-link 1, not-ipv4 2, short 3, cut 4, bad 5, unjoined 6, truncated 7\n",
+    ),
+    (Outcome::Fault(CUT), [1, 1, 1, 1, 1, 1, 1, 1], ""),
+    (Outcome::NotWhole, [1, 1, 1, 1, 1, 1, 1, 1], ""),
+];
+
+// What is printed of packets that are left out.
+fn tells_packets(rt: &impl Abort, outcome: &Outcome, numbers: [u64; 8], text: &str) {
+    let [
+        other_link,
+        not_ipv4,
+        short,
+        cut,
+        bad,
+        unjoined,
+        counted,
+        truncated,
+    ] = numbers;
+    let classes = ClassCounts {
+        other_link,
+        not_ipv4,
+        short,
+        cut,
+        bad,
+        unjoined,
+        counted,
+    };
+    let left = DroppedInfo {
+        skipped: 0,
+        named: 0,
+        ran_back: 0,
+        cuts: [None; 32],
+        left_out: Some(LeftOut { classes, truncated }),
+    };
+    let line = left_out_line(outcome, &left);
+    assert_eq!(rt; line.as_slice(), text.as_bytes());
+}
+
+#[test]
+fn packets_that_are_left_out_are_told(rt: HostRuntime) {
+    for (outcome, numbers, text) in &TOLD_OF_PACKETS {
+        tells_packets(&rt, outcome, *numbers, *text);
     }
 }

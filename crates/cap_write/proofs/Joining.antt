@@ -21,7 +21,7 @@ use Rattle.cap_write.proofs.Forming.{Prints-part, behind}
 use Rattle.cap_write.specs.inner.Forms.{FormState, IsFew, form_behind, form_refusal, form_stop, form_text}
 use Rattle.cap_write.specs.Joined.{items_of_packet, events_after, joined_items}
 
-run-first : (mid shown new : List Part) (meta : Meta) (frame : List ℕ) (clock : Option Stamp)
+pub run-first : (mid shown new : List Part) (meta : Meta) (frame : List ℕ) (clock : Option Stamp)
     → (merged_feed mid).items ≡ packet meta frame ∷ drop 1 (merged_feed mid).items → run_of shown ≡ run_of mid
     → BeginsAt clock (run_of shown) → run_of new ≡ drop 1 (run_of shown)
     → run_of mid ≡ record { clock = clock; item = packet meta frame } ∷ run_of new

@@ -2,6 +2,9 @@ mod Completed
 pub mod Feeding
 mod Forming
 mod Joining
+mod CountingOut
+pub mod LeavingOut
+mod CarriedPackets
 mod Lengths
 mod Numbers
 pub mod Peeking

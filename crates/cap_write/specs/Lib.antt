@@ -1,4 +1,5 @@
 pub mod Joined
+pub mod LeftOut
 pub mod Numbering
 pub mod Pcap
 pub mod PcapRun

@@ -1,5 +1,6 @@
 pub mod Datagrams
 pub mod Forms
 pub mod Interfaces
+pub mod LeftCounts
 pub mod RunPackets
 pub mod Times

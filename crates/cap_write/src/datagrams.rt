@@ -1,19 +1,22 @@
 //! IPv4 datagrams as packets: whole ones, and those that are joined of fragments.
 ghost use Rattle.std.specs.Prelude.{◌≡◌, ◌+◌, ◌≤◌, ◌<◌, ◌^◌, ◌++◌, ◌==◌, ◌&&◌, ◌∷◌, length, List, IsTrue, IsOkUnless};
-ghost use Rattle.std.specs.Prelude.{IfOk, OnOk, IsSome};
-ghost use Rattle.cap_class.specs.Taken.{stamped_of};
+ghost use Rattle.std.specs.Prelude.{IfOk, OnOk, IsSome, is_some, ℕ};
+ghost use Rattle.cap_class.specs.Taken.{Taken, classify, fragment, stamped_of};
 ghost use Rattle.cap_ip.specs.Header.{IsWellFormed};
 ghost use Rattle.cap_ip.specs.Transport.{transport_of};
 ghost use Rattle.cap_ip.specs.Written.{ipv4_header_bytes};
 ghost use Rattle.cap_join.specs.Fragments.{piece_of};
 ghost use Rattle.cap_join.specs.History.{Event, arrives};
 ghost use Rattle.cap_join.specs.Joiners.{JoinerStandsFor};
+ghost use Rattle.cap_talks.specs.inner.table.Looking.{taken_of};
 ghost use Rattle.cap_write.specs.inner.Datagrams.{IsFilled, JoinerStands};
+ghost use Rattle.cap_write.specs.inner.LeftCounts.{StandsForTaken};
 ghost use Rattle.cap_write.specs.inner.RunPackets.{completed_by, events_behind};
 ghost use Rattle.cap_write.specs.Joined.{complete_of, group_after, has_form, joined_of};
 
+use crate::left_out::{LeftOut, count_class, count_datagram, count_group};
 use cap_bytes::Fault;
-use cap_class::{Classified, classify, stamped_of};
+use cap_class::{Class, Classified, classify, stamped_of};
 use cap_ip::{Header, Transport, transport};
 use cap_join::{Joiner, Put};
 use cap_merge::RunPacket;
@@ -27,6 +30,8 @@ pub(crate) struct Joining {
     pub packet: Vec<u8>,
     /// The place in the run of the packet that comes next, from 0.
     pub place: u64,
+    /// How many packets are left out so far, if they are counted.
+    pub left: Option<LeftOut>,
 }
 
 // Appends bytes.
@@ -105,6 +110,9 @@ fn take_fragment(
     requires stands { JoinerStands joining.old.joiner }
     requires place { joining.old.joiner.next ≤ joining.old.place }
     requires last { joining.old.place < 2 ^ 63 }
+    requires taken { (xs : List Taken) × StandsForTaken xs joining.old.place joining.old.joiner joining.old.left }
+    requires classify { (place : ℕ) → classify place (taken_of run)
+        ≡ fragment (piece_of header.now bytes.now (stamped_of place run.meta.now)) }
     ensures filled { IfOk result (λ some. (events : List Event) → JoinerStandsFor joining.old.joiner events →
         IsFilled (joined_of (group_after run.entry.clock.now events
         (piece_of header.now bytes.now (stamped_of joining.old.place run.entry.meta.now)))) some
@@ -114,13 +122,21 @@ fn take_fragment(
         (piece_of header.now bytes.now (stamped_of joining.old.place run.entry.meta.now)) ∷ events)) }
     ensures next { OnOk result (joining.new.joiner.next ≤ joining.old.place + 1) }
     ensures short { IfOk result (λ some. IsTrue some → length joining.new.packet.items ≤ 65535) }
+    ensures taken { OnOk result ((xs : List Taken) → StandsForTaken xs joining.old.place joining.old.joiner
+        joining.old.left → StandsForTaken (taken_of run.entry ∷ xs) (joining.old.place + 1) joining.new.joiner
+        joining.new.left) }
+    ensures asked { is_some joining.new.left ≡ is_some joining.old.left }
     ensures same { joining.new.place ≡ joining.old.place }
     ensures fault { IsOkUnless result Fault.Memory }
 {
     let stamped = stamped_of(joining.place, run.meta.time(), run.meta);
     match joining.joiner.put(*run.clock, header, bytes, stamped) {
-        Ok(Put::Kept) => Ok(false),
+        Ok(Put::Kept) => {
+            count_class(&mut joining.left, Class::Unjoined);
+            Ok(false)
+        }
         Ok(Put::Joined(datagram)) => {
+            count_group(&mut joining.left, &datagram);
             let data = datagram.payload.as_slice();
             fill_complete(
                 &mut joining.packet,
@@ -135,25 +151,34 @@ fn take_fragment(
 
 /// Takes a packet of a run, and puts the datagram that it completes into `joining.packet`. Returns whether there
 /// is one: a whole datagram, or one whose last missing fragment this is, if all of its data was captured and has
-/// the form of its protocol. Returns `Memory` if a growth was refused.
+/// the form of its protocol. If packets are counted it counts the packet. Returns `Memory` if a growth was refused.
 #[tactic(auto, unfolding(crate::specs::Joined::completed, crate::specs::Joined::events_after))]
 pub(crate) fn take_packet(joining: &mut Joining, run: RunPacket<'_>) -> Result<bool, Fault>
     requires stands { JoinerStands joining.old.joiner }
     requires place { joining.old.joiner.next ≤ joining.old.place }
     requires last { joining.old.place < 2 ^ 63 }
+    requires taken { (xs : List Taken) × StandsForTaken xs joining.old.place joining.old.joiner joining.old.left }
     ensures filled { IfOk result (λ some. (events : List Event) → JoinerStandsFor joining.old.joiner events →
         IsFilled (completed_by joining.old.place run.entry events) some joining.new.packet.items) }
     ensures stands { OnOk result ((events : List Event) → JoinerStandsFor joining.old.joiner events →
         JoinerStandsFor joining.new.joiner (events_behind joining.old.place run.entry events)) }
     ensures next { OnOk result (joining.new.joiner.next ≤ joining.old.place + 1) }
     ensures short { IfOk result (λ some. IsTrue some → length joining.new.packet.items ≤ 65535) }
+    ensures taken { OnOk result ((xs : List Taken) → StandsForTaken xs joining.old.place joining.old.joiner
+        joining.old.left → StandsForTaken (taken_of run.entry ∷ xs) (joining.old.place + 1) joining.new.joiner
+        joining.new.left) }
+    ensures asked { is_some joining.new.left ≡ is_some joining.old.left }
     ensures same { joining.new.place ≡ joining.old.place }
     ensures fault { IsOkUnless result Fault.Memory }
 {
     match classify(run.meta, run.frame) {
-        Classified::Plain(_) => Ok(false),
+        Classified::Plain(class) => {
+            count_class(&mut joining.left, class);
+            Ok(false)
+        }
         Classified::Datagram(header, captured) => {
             joining.joiner.flush(header.key());
+            count_datagram(&mut joining.left, &header, captured);
             fill_complete(&mut joining.packet, &header, captured, header.data_length())
         }
         Classified::Fragment(header, bytes) => take_fragment(joining, run, &header, bytes),

@@ -1,7 +1,9 @@
 //! Files of whole datagrams.
 ghost use Rattle.std.specs.Prelude.{◌≡◌, ◌+◌, ◌≤◌, ◌<◌, ◌^◌, length, List, [], IsSome, IsTrue, OnOk, None};
+ghost use Rattle.std.specs.Prelude.{◌∷◌, is_some};
 ghost use Rattle.cap_bytes.specs.Device.{WriterKeeps, writer_of};
 ghost use Rattle.cap_bytes.specs.Printing.{Prints, IsReadFault, is_write};
+ghost use Rattle.cap_class.specs.Taken.{Taken};
 ghost use Rattle.cap_join.specs.History.{Event};
 ghost use Rattle.cap_join.specs.Joiners.{JoinerStandsFor};
 ghost use Rattle.cap_merge.specs.Parts.{merged_feed, run_of};
@@ -9,8 +11,12 @@ ghost use Rattle.cap_merge.specs.inner.View.{parts_of};
 ghost use Rattle.cap_source.specs.Feed.{FeedKeeps};
 ghost use Rattle.cap_source.specs.inner.Walk.{Walks, SameEndings};
 ghost use Rattle.cap_source.specs.inner.Growing.{IfMemory, IsAtPacket};
+ghost use Rattle.cap_talks.specs.inner.table.Looking.{taken_of};
+ghost use Rattle.cap_talks.specs.talks.ReportText.{taken_after};
+ghost use Rattle.cap_write.specs.LeftOut.{CountsLeftOut};
 ghost use Rattle.cap_write.specs.inner.Datagrams.{JoinerStands};
 ghost use Rattle.cap_write.specs.inner.Forms.{IsFew, form_behind, form_refusal, form_stop, form_text, form_state};
+ghost use Rattle.cap_write.specs.inner.LeftCounts.{StandsForTaken};
 ghost use Rattle.cap_write.specs.Joined.{datagram_meta, joined_items, joined_bytes, joined_refusal};
 ghost use Rattle.cap_write.specs.PcapRun.{joined_pcap_bytes, joined_pcap_refusal};
 ghost use Rattle.cap_write.specs.inner.RunPackets.{events_behind, items_by};
@@ -18,6 +24,7 @@ ghost use Rattle.cap_write.specs.inner.RunPackets.{events_behind, items_by};
 use crate::datagrams::{Joining, take_packet};
 use crate::forms::{WrittenForm, end_of, put_in};
 use crate::interfaces::{Origins, units_of};
+use crate::left_out::LeftOut;
 use cap_blocks::put_section;
 use cap_bytes::{Fault, Order, Sink};
 use cap_join::Joiner;
@@ -63,6 +70,7 @@ fn put_completed<W: Sink>(
     requires stands { JoinerStands joining.old.joiner }
     requires place { joining.old.joiner.next ≤ joining.old.place }
     requires last { joining.old.place < 2 ^ 63 }
+    requires taken { (xs : List Taken) × StandsForTaken xs joining.old.place joining.old.joiner joining.old.left }
     ensures text { IsTrue (W.tells_held writer.old) → (events : List Event) → JoinerStandsFor joining.old.joiner events
         → Prints (form_text order (form_state form.old) (items_by joining.old.place run.entry events))
         (form_stop (form_state form.old) (items_by joining.old.place run.entry events))
@@ -74,6 +82,10 @@ fn put_completed<W: Sink>(
         → JoinerStandsFor joining.new.joiner
         (events_behind joining.old.place run.entry events)) }
     ensures next { OnOk result (joining.new.joiner.next ≤ joining.old.place + 1) }
+    ensures taken { OnOk result ((xs : List Taken) → StandsForTaken xs joining.old.place joining.old.joiner
+        joining.old.left → StandsForTaken (taken_of run.entry ∷ xs) (joining.old.place + 1) joining.new.joiner
+        joining.new.left) }
+    ensures asked { is_some joining.new.left ≡ is_some joining.old.left }
     ensures same { joining.new.place ≡ joining.old.place }
     ensures limit { IsFew (form_state form.new) }
     ensures writer { WriterKeeps (writer_of W.Sink writer.old) (is_write result) (writer_of W.Sink writer.new) }
@@ -95,15 +107,20 @@ fn put_joined<F: PacketFeed, W: Sink>(
     merged: &mut Merged<F>,
     order: Order,
     form: &mut WrittenForm,
+    left: &mut Option<LeftOut>,
     writer: &mut W,
 ) -> Result<(), Fault>
     requires limit { IsFew (form_state form.old) }
+    requires none { CountsLeftOut left.old [] }
     ensures text { IsTrue (merged_feed (parts_of merged.old)).told → IsTrue (W.tells_held writer.old)
         → Prints (form_text order (form_state form.old) (joined_items 0 [] (run_of (parts_of merged.old))))
         (form_refusal (form_state form.old) (joined_items 0 [] (run_of (parts_of merged.old))))
         (W.held writer.old) result (W.held writer.new) }
     ensures writer { WriterKeeps (writer_of W.Sink writer.old) (is_write result) (writer_of W.Sink writer.new) }
     ensures walks { Walks (merged_feed (parts_of merged.old)) result (merged_feed (parts_of merged.new)) }
+    ensures left { OnOk result (IsTrue (merged_feed (parts_of merged.old)).told
+        → CountsLeftOut left.new (taken_after [] (run_of (parts_of merged.old)))) }
+    ensures asked { is_some left.new ≡ is_some left.old }
     ensures endings { OnOk result (IsTrue (merged_feed (parts_of merged.old)).told
         → SameEndings (merged_feed (parts_of merged.old)) (merged_feed (parts_of merged.new))) }
     ensures memory { IfMemory result (IsAtPacket (merged_feed (parts_of merged.new)).known) }
@@ -113,6 +130,7 @@ fn put_joined<F: PacketFeed, W: Sink>(
         joiner: Joiner::new(alloc),
         packet: Vec::new(alloc),
         place: 0,
+        left: *left,
     };
     // 32 files at most, of fewer than 2^40 packets each: so the place stays below 2^63
     let _ = merged.files();
@@ -121,6 +139,7 @@ fn put_joined<F: PacketFeed, W: Sink>(
         merged.pass();
         joining.place += 1;
     }
+    *left = joining.left;
     end_of(form)
 }
 
@@ -131,6 +150,9 @@ fn put_joined<F: PacketFeed, W: Sink>(
 /// A datagram isn't written if some of its data wasn't captured, or if it is UDP or TCP and its data doesn't have
 /// that form; nor is a frame that isn't IPv4. Interfaces are numbered by first use.
 ///
+/// If `left` is some, the packets of the run that are in no written datagram are counted there, by their class in a
+/// report of the run: it is to be `NO_PACKETS_LEFT_OUT` before. It says so once all is done.
+///
 /// Returns `Refused` at a packet that has no time (rule 17, no-time), whatever it holds, at one that
 /// completes a datagram whose interface would be the 1,025th (rule 13, interface-limit), and if the run
 /// ends in a refusal: what is written is the text of the datagrams before it. After `Read`, `Write` or
@@ -139,13 +161,18 @@ pub fn write_joined<F: PacketFeed, W: Sink>(
     alloc: Global,
     merged: &mut Merged<F>,
     order: Order,
+    left: &mut Option<LeftOut>,
     writer: &mut W,
 ) -> Result<(), Fault>
+    requires none { CountsLeftOut left.old [] }
     ensures text { IsTrue (merged_feed (parts_of merged.old)).told → IsTrue (W.tells_held writer.old)
         → Prints (joined_bytes order (run_of (parts_of merged.old))) (joined_refusal (run_of (parts_of merged.old)))
         (W.held writer.old) result (W.held writer.new) }
     ensures writer { WriterKeeps (writer_of W.Sink writer.old) (is_write result) (writer_of W.Sink writer.new) }
     ensures walks { Walks (merged_feed (parts_of merged.old)) result (merged_feed (parts_of merged.new)) }
+    ensures left { OnOk result (IsTrue (merged_feed (parts_of merged.old)).told
+        → CountsLeftOut left.new (taken_after [] (run_of (parts_of merged.old)))) }
+    ensures asked { is_some left.new ≡ is_some left.old }
     ensures endings { OnOk result (IsTrue (merged_feed (parts_of merged.old)).told
         → SameEndings (merged_feed (parts_of merged.old)) (merged_feed (parts_of merged.new))) }
     ensures memory { IfMemory result (IsAtPacket (merged_feed (parts_of merged.new)).known) }
@@ -153,12 +180,12 @@ pub fn write_joined<F: PacketFeed, W: Sink>(
 {
     put_section(writer, order)?;
     let mut numbered = WrittenForm::Pcapng(Origins::new(alloc));
-    put_joined(alloc, merged, order, &mut numbered, writer)
+    put_joined(alloc, merged, order, &mut numbered, left, writer)
 }
 
 /// Writes the datagrams of a run of packets as a pcap file (draft-ietf-opsawg-pcap, 4 and 5) in that byte order: the
 /// datagrams that `write_joined` writes, with link 101 and no snaplen, in microseconds if each unit of the first
-/// datagram's interface is a whole number of them, else in nanoseconds.
+/// datagram's interface is a whole number of them, else in nanoseconds. Packets are counted in `left` as there.
 ///
 /// Returns `Refused` at a packet that has no time (rule 17, no-time), whatever it holds, at one that completes a
 /// datagram and has a time that isn't whole in that fraction (19, inexact) or one whose seconds are below 0 or above
@@ -170,19 +197,24 @@ pub fn write_joined_pcap<F: PacketFeed, W: Sink>(
     alloc: Global,
     merged: &mut Merged<F>,
     order: Order,
+    left: &mut Option<LeftOut>,
     writer: &mut W,
 ) -> Result<(), Fault>
+    requires none { CountsLeftOut left.old [] }
     ensures text { IsTrue (merged_feed (parts_of merged.old)).told → IsTrue (W.tells_held writer.old)
         → Prints (joined_pcap_bytes order (run_of (parts_of merged.old)))
         (joined_pcap_refusal (run_of (parts_of merged.old)))
         (W.held writer.old) result (W.held writer.new) }
     ensures writer { WriterKeeps (writer_of W.Sink writer.old) (is_write result) (writer_of W.Sink writer.new) }
     ensures walks { Walks (merged_feed (parts_of merged.old)) result (merged_feed (parts_of merged.new)) }
+    ensures left { OnOk result (IsTrue (merged_feed (parts_of merged.old)).told
+        → CountsLeftOut left.new (taken_after [] (run_of (parts_of merged.old)))) }
+    ensures asked { is_some left.new ≡ is_some left.old }
     ensures endings { OnOk result (IsTrue (merged_feed (parts_of merged.old)).told
         → SameEndings (merged_feed (parts_of merged.old)) (merged_feed (parts_of merged.new))) }
     ensures memory { IfMemory result (IsAtPacket (merged_feed (parts_of merged.new)).known) }
     ensures keeps { FeedKeeps (merged_feed (parts_of merged.old)) (merged_feed (parts_of merged.new)) }
 {
     let mut headed = WrittenForm::Pcap(None);
-    put_joined(alloc, merged, order, &mut headed, writer)
+    put_joined(alloc, merged, order, &mut headed, left, writer)
 }

@@ -7,6 +7,8 @@ mod files;
 mod forms;
 mod interfaces;
 mod joined;
+mod laws;
+mod left_out;
 mod merged;
 mod packets;
 mod pcap;
@@ -14,4 +16,6 @@ mod pcapng;
 
 pub use crate::files::{to_pcap, to_pcapng};
 pub use crate::joined::{write_joined, write_joined_pcap};
+pub use crate::laws::left_out_law;
+pub use crate::left_out::{LeftOut, NO_PACKETS_LEFT_OUT};
 pub use crate::merged::{write_merged, write_merged_pcap};

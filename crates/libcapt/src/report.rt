@@ -5,6 +5,6 @@ pub use cap_digest::PacketDigest;
 pub use cap_ip::Reason;
 pub use cap_print::Form;
 pub use cap_talks::{
-    Description, Held, Step, Table, describe, file_lines, file_lines_in, packet_class, report,
-    report_in,
+    ClassCounts, Description, Held, Step, Table, describe, file_lines, file_lines_in, packet_class,
+    report, report_in,
 };

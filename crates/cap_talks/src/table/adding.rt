@@ -26,8 +26,8 @@ fn timed_frame(frame: Option<Stamped>) -> Option<TimedFrame>
     })
 }
 
-/// A datagram's class, by what its data says of its ports.
-pub(crate) fn class_of(transport: Transport) -> Class
+/// A datagram's class, by what its data says of its ports: `Counted` if it has them, or its protocol has none.
+pub fn class_of(transport: Transport) -> Class
     ensures { result ≡ class_of transport }
 {
     match transport {
@@ -85,7 +85,7 @@ pub(crate) fn joined_unit(datagram: &Datagram) -> Option<CountedUnit>
 
 /// The class of a joined datagram's frames.
 #[tactic(auto, unfolding(crate::specs::inner::table::Adding::datagram_class))]
-pub(crate) fn joined_class(datagram: &Datagram) -> Class
+pub fn joined_class(datagram: &Datagram) -> Class
     requires short { length datagram.now.payload.items ≤ 65520 }
     ensures { result ≡ datagram_class datagram.now }
 {

@@ -13,14 +13,13 @@ ghost use Rattle.cap_class.specs.Taken.{Taken, datagram, fragment, classify, pla
 ghost use Rattle.cap_talks.specs.inner.table.Tallies.{TallyStands, LimitBy, one_if_waiting, tally_text_in};
 ghost use Rattle.cap_talks.specs.inner.table.Tallies.{counted_one, waiting_bytes};
 ghost use Rattle.cap_talks.specs.inner.table.Tallies.{Looks};
-ghost use Rattle.cap_talks.specs.inner.table.Tallies.{WaitsIf, with_frames, with_group};
+ghost use Rattle.cap_talks.specs.inner.table.Tallies.{WaitsIf};
 ghost use Rattle.cap_source.specs.Times.{meta_time};
 ghost use Rattle.cap_talks.specs.declared.table.conversations.ConversationsFault.TheVariants.{Memory};
-ghost use Rattle.cap_talks.specs.table.Classes.{sum_of};
 ghost use Rattle.cap_talks.specs.table.CountedUnits.{is_limit_at};
 
 use crate::table::adding::{add_unit, class_of, joined_class, joined_unit, whole_unit};
-use crate::table::classes::ClassCounts;
+use crate::table::classes::{ClassCounts, NO_PACKETS, count_frames, with_frames, with_group};
 use crate::table::conversations::{Conversations, ConversationsFault};
 use crate::table::report_lines::{frames_line, joined_line};
 use crate::table::talk_lines::put_talks;
@@ -59,45 +58,6 @@ impl Model for Tally {
     ghost invariant = { IsSoundTallyInside };
 }
 
-// Counts more packets of a class.
-#[inline(always)]
-fn count_frames(counts: &mut ClassCounts, class: Class, frames: u64)
-    requires few { sum_of counts.old + frames < 2 ^ 64 }
-    ensures { counts.new ≡ with_frames class frames counts.old }
-{
-    match class {
-        Class::OtherLink => counts.other_link += frames,
-        Class::NotIpv4 => counts.not_ipv4 += frames,
-        Class::Short => counts.short += frames,
-        Class::Cut => counts.cut += frames,
-        Class::Bad => counts.bad += frames,
-        Class::Unjoined => counts.unjoined += frames,
-        Class::Counted => counts.counted += frames,
-    }
-}
-
-// The counts with more packets of a class.
-fn with_frames(counts: ClassCounts, class: Class, frames: u64) -> ClassCounts
-    requires few { sum_of counts + frames < 2 ^ 64 }
-    ensures { result ≡ with_frames class frames counts }
-{
-    let mut counts = counts;
-    count_frames(&mut counts, class, frames);
-    counts
-}
-
-// The counts after a packet completes a group of `frames` fragments, itself one of them: they move from the unjoined
-// ones to a class.
-fn with_group(counts: ClassCounts, class: Class, frames: u64) -> ClassCounts
-    requires unjoined { frames ≤ counts.unjoined + 1 }
-    requires few { sum_of counts + 1 < 2 ^ 64 }
-    ensures { result ≡ with_group class frames counts }
-{
-    let mut counts = counts;
-    counts.unjoined = counts.unjoined + 1 - frames;
-    with_frames(counts, class, frames)
-}
-
 // One, of a class that counts.
 fn counted_one(class: Class) -> u64
     ensures { result ≡ counted_one class }
@@ -115,15 +75,7 @@ impl Tally {
     {
         Tally {
             place: 0,
-            classes: ClassCounts {
-                other_link: 0,
-                not_ipv4: 0,
-                short: 0,
-                cut: 0,
-                bad: 0,
-                unjoined: 0,
-                counted: 0,
-            },
+            classes: NO_PACKETS,
             joined: 0,
             talks: Conversations::new(alloc),
             joiner: Joiner::new(alloc),

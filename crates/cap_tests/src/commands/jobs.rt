@@ -8,6 +8,7 @@ use cap_bytes::{CutRest, Fault, Order, Sink};
 use cap_commands::{Done, DroppedInfo, Finding, NOTHING_LEFT, job_to};
 use cap_line::{Job, NOTHING_IGNORED, Task, can_replace, is_whole};
 use cap_source::Format;
+use cap_write::NO_PACKETS_LEFT_OUT;
 use std::alloc::Global;
 use std::process::Abort;
 
@@ -318,6 +319,10 @@ fn leaves(rt: &impl Abort, alloc: Global, task: Task, skipped: u128) {
             named: 0,
             ran_back: 0,
             cuts: [None; 32],
+            left_out: match task {
+                Task::Join => Some(NO_PACKETS_LEFT_OUT),
+                _ => None,
+            },
         },
     };
     same!(rt; answer, Ok(wanted), task);

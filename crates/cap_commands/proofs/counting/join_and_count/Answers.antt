@@ -4,7 +4,7 @@ use Rattle.cap_merge.proofs.Unread.{Fails-merged}
 use Rattle.cap_merge.specs.Parts.{merged_feed}
 use Rattle.cap_merge.specs.inner.Readers.{reader_of}
 use Rattle.cap_merge.specs.inner.View.{parts_of}
-use Rattle.cap_commands.proofs.Leaving.{Walks-done, Drops-merged}
+use Rattle.cap_commands.proofs.Leaving.{Walks-done, Drops-merged, LeavesPackets-joined}
 use Rattle.cap_commands.proofs.Merging.{Prints-joined, Prints-nothing}
 use Rattle.cap_commands.proofs.Telling.{FailsOf-fault, Prints-fault}
 use Rattle.cap_commands.specs.declared.left.DroppedInfo.{DroppedInfo}
@@ -54,3 +54,10 @@ returns-clause-dropped g c =
     Drops-merged reader c.args.tail c.args.sources.items _ (merged_feed (parts_of c.write_datagrams.new.merged))
     (Ok c.in_ok-write_datagrams.field-0) c.left_of_merged.result c.in_ok-run.ensures.unread
     c.in_ok-write_datagrams.ensures.keeps c.in_ok-write_datagrams.ensures.endings c.left_of_merged.ensures.dropped
+
+pub returns-clause-packets : goal.returns-clause-packets
+returns-clause-packets g c =
+    let reader = reader_of g.R.Source.tells_coming g.R.Device.can_fail g.R.Source.coming in
+    LeavesPackets-joined reader c.args.tail c.args.sources.items _ c.args.counts c.no_packets_if-left_out.result
+    c.write_datagrams.new.left c.left_of_merged.result c.in_ok-run.ensures.unread c.no_packets_if-left_out.ensures.asked
+    c.in_ok-write_datagrams.ensures.asked c.in_ok-write_datagrams.ensures.left c.left_of_merged.ensures.packets

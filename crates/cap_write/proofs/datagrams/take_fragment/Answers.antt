@@ -1,12 +1,15 @@
-use Rattle.std.proofs.Common.{ℕ, List, length, false, ap, ◌∙◌, subst}
-use Rattle.cap_class.specs.Taken.{stamped_of}
+use Rattle.std.proofs.Common.{ℕ, List, ◌∷◌, ◌+◌, length, false, sym, ap, ◌∙◌, subst}
+use Rattle.cap_class.specs.Taken.{events_of, stamped_of}
 use Rattle.cap_join.specs.Fragments.{piece_of}
 use Rattle.cap_join.specs.History.{Event, joined_pieces, open_groups_after}
 use Rattle.cap_join.specs.Joiners.{JoinerStandsFor, open_limit}
 use Rattle.cap_join.specs.declared.datagrams.Stamped.{Stamped}
 use Rattle.cap_write.proofs.Completed.{filled-all, filled-kept, joined-put}
+use Rattle.cap_talks.specs.inner.table.Looking.{taken_of}
+use Rattle.cap_write.proofs.LeavingOut.{OnOk-of, has-room, moves-few-at, taken-joined-at, taken-kept-at}
 use Rattle.cap_write.proofs.Lengths.{joined-short}
 use Rattle.cap_write.specs.inner.Datagrams.{IsFilled}
+use Rattle.cap_write.specs.inner.LeftCounts.{StandsForTaken}
 use Rattle.cap_write.specs.Joined.{complete_of, joined_of}
 use Rattle.cap_write.proofs.datagrams.take_fragment.Goals as goal
 
@@ -46,3 +49,36 @@ returns-in-Ok-Joined-clause-filled c =
     (c.in-Ok-Joined.ensures.answer events stands)
     ∙ ap (λ (s : Stamped). joined_of (pieces events s)) c.stamped_of-stamped.ensures))
     c.fill_complete.ensures.filled
+
+pub count_class-requires : goal.count_class-requires
+count_class-requires c = has-room _ c.requires.taken.0 _ _ c.requires.taken.1 c.requires.last
+
+pub count_group-requires-clause-room : goal.count_group-requires-clause-room
+count_group-requires-clause-room c = has-room _ c.requires.taken.0 _ _ c.requires.taken.1 c.requires.last
+
+pub count_group-requires-clause-unjoined : goal.count_group-requires-clause-unjoined
+count_group-requires-clause-unjoined c =
+    let xs = c.requires.taken.0 in
+    let h = c.requires.taken.1 in
+    moves-few-at (taken_of c.args.run) xs c.args.joining.now.place c.args.joining.now.joiner c.put.new.self
+    c.args.joining.now.left h (λ s. piece_of c.args.header.now c.args.bytes.now s) c.requires.classify
+    c.stamped_of-stamped.result c.stamped_of-stamped.ensures c.in-Ok-Joined.field-0 c.in-Ok-Joined.datagram
+    c.in-Ok-Joined.field-0-is (c.in-Ok-Joined.ensures.answer (events_of xs) h.joins)
+
+pub returns-in-Ok-Kept-clause-taken : goal.returns-in-Ok-Kept-clause-taken
+returns-in-Ok-Kept-clause-taken c = λ xs h.
+    let x = taken_of c.args.run in
+    subst (StandsForTaken (x ∷ xs) (c.args.joining.now.place + 1) c.put.new.self) (sym c.count_class.ensures)
+    (taken-kept-at x xs c.args.joining.now.place c.args.joining.now.joiner c.put.new.self c.args.joining.now.left h
+    (λ s. piece_of c.args.header.now c.args.bytes.now s) c.requires.classify c.stamped_of-stamped.result
+    c.stamped_of-stamped.ensures c.in-Ok-Kept.field-0 c.in-Ok-Kept.field-0-is
+    (c.in-Ok-Kept.ensures.answer (events_of xs) h.joins) (c.in-Ok-Kept.ensures.stands (events_of xs) h.joins))
+
+pub returns-in-Ok-Joined-clause-taken : goal.returns-in-Ok-Joined-clause-taken
+returns-in-Ok-Joined-clause-taken c = OnOk-of c.fill_complete.result _ (λ xs h.
+    let x = taken_of c.args.run in
+    subst (StandsForTaken (x ∷ xs) (c.args.joining.now.place + 1) c.put.new.self) (sym c.count_group.ensures)
+    (taken-joined-at x xs c.args.joining.now.place c.args.joining.now.joiner c.put.new.self c.args.joining.now.left h
+    (λ s. piece_of c.args.header.now c.args.bytes.now s) c.requires.classify c.stamped_of-stamped.result
+    c.stamped_of-stamped.ensures c.in-Ok-Joined.field-0 c.in-Ok-Joined.datagram c.in-Ok-Joined.field-0-is
+    (c.in-Ok-Joined.ensures.answer (events_of xs) h.joins) (c.in-Ok-Joined.ensures.stands (events_of xs) h.joins)))
