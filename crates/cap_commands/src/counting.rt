@@ -28,8 +28,8 @@ use cap_bytes::{CutRest, Fault, Order, Sink, Source, Tail};
 use cap_merge::{Merged, merge_files};
 use cap_source::{Capture, Format, PacketFeed};
 use cap_write::{
-    LeftOut, NO_PACKETS_LEFT_OUT, to_pcap, to_pcapng, write_joined, write_joined_pcap,
-    write_merged, write_merged_pcap,
+    LeftOut, NO_PACKETS_LEFT_OUT, to_pcap, to_pcapng, write_joined_and_count,
+    write_joined_pcap_and_count, write_merged, write_merged_pcap,
 };
 use std::alloc::Global;
 
@@ -219,8 +219,8 @@ fn write_datagrams<F: PacketFeed, W: Sink>(
     ensures keeps { FeedKeeps (merged_feed (parts_of merged.old)) (merged_feed (parts_of merged.new)) }
 {
     match format {
-        Format::Pcap => write_joined_pcap(alloc, merged, order, left, writer),
-        Format::Pcapng => write_joined(alloc, merged, order, left, writer),
+        Format::Pcap => write_joined_pcap_and_count(alloc, merged, order, left, writer),
+        Format::Pcapng => write_joined_and_count(alloc, merged, order, left, writer),
     }
 }
 

@@ -84,12 +84,12 @@ fn join<R: Source, W: Sink>(
     rt: &impl Abort,
     alloc: Global,
     sources: Vec<R>,
+    format: Format,
     counts: bool,
     writer: &mut W,
 ) -> Result<DroppedInfo, Fault> {
     holds!(rt; !sources.is_empty());
     holds!(rt; sources.len() <= 32);
-    let format = Format::Pcapng;
     join_and_count(
         alloc,
         sources,
@@ -101,14 +101,15 @@ fn join<R: Source, W: Sink>(
     )
 }
 
-// What is left out of files that are joined.
-fn joins(rt: &impl Abort, alloc: Global, row: &Row, counts: bool) {
+// What is left out of files that are joined in a format.
+fn joins(rt: &impl Abort, alloc: Global, row: &Row, format: Format, counts: bool) {
     let (files, numbers, truncated) = *row;
     let mut writer = room_of(rt, alloc, 512);
     let answer = join(
         rt,
         alloc,
         sources_of(rt, alloc, files, 4096),
+        format,
         counts,
         &mut writer,
     );
@@ -123,9 +124,11 @@ fn joins(rt: &impl Abort, alloc: Global, row: &Row, counts: bool) {
 #[test]
 fn always_memory_joined_files_leave_packets_out(rt: HostRuntime) {
     for row in &JOINED {
-        joins(&rt, rt.alloc(), row, true);
-        joins(&rt, rt.alloc(), row, false);
+        joins(&rt, rt.alloc(), row, Format::Pcapng, true);
+        joins(&rt, rt.alloc(), row, Format::Pcapng, false);
     }
+    // a pcap file without a datagram has no interface
+    joins(&rt, rt.alloc(), &JOINED[0], Format::Pcap, true);
 }
 
 #[test]

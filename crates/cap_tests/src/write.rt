@@ -242,7 +242,7 @@ fn joins(rt: &impl Abort, alloc: Global, row: &Row) {
     let (input, output, ending) = *row;
     let mut merged = merged_of(rt, alloc, sources_of(rt, alloc, input, 1));
     let mut writer = room_of(rt, alloc, 512);
-    let answer = write_joined(alloc, &mut merged, Order::Little, &mut None, &mut writer);
+    let answer = write_joined(alloc, &mut merged, Order::Little, &mut writer);
     let found = (answer, writer.bytes());
     ask_written(rt, alloc, found, answer_of_files(ending), output);
 }
@@ -274,7 +274,7 @@ fn joins_as_pcap(rt: &impl Abort, alloc: Global, row: &Row) {
     let (input, output, ending) = *row;
     let mut merged = merged_of(rt, alloc, sources_of(rt, alloc, input, 1));
     let mut writer = room_of(rt, alloc, 512);
-    let answer = write_joined_pcap(alloc, &mut merged, Order::Little, &mut None, &mut writer);
+    let answer = write_joined_pcap(alloc, &mut merged, Order::Little, &mut writer);
     let found = (answer, writer.bytes());
     ask_written(rt, alloc, found, answer_of_files(ending), output);
 }

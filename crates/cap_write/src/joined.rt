@@ -143,21 +143,10 @@ fn put_joined<F: PacketFeed, W: Sink>(
     end_of(form)
 }
 
-/// Writes the datagrams of a run of packets as a pcapng file (draft-ietf-opsawg-pcapng, 4) of one section in
-/// that byte order: each whole IPv4 datagram, and each that is joined of fragments (RFC 791, 3.2), as one packet
-/// without a link header, of the datagram's header without options and all of its data. It has the place, the
-/// time and the interface's number of the packet that completed it; the interface has link 101 and no snaplen.
-/// A datagram isn't written if some of its data wasn't captured, or if it is UDP or TCP and its data doesn't have
-/// that form; nor is a frame that isn't IPv4. Interfaces are numbered by first use.
-///
-/// If `left` is some, the packets of the run that are in no written datagram are counted there, by their class in a
-/// report of the run: it is to be `NO_PACKETS_LEFT_OUT` before. It says so once all is done.
-///
-/// Returns `Refused` at a packet that has no time (rule 17, no-time), whatever it holds, at one that
-/// completes a datagram whose interface would be the 1,025th (rule 13, interface-limit), and if the run
-/// ends in a refusal: what is written is the text of the datagrams before it. After `Read`, `Write` or
-/// `Memory` a prefix of the text is written.
-pub fn write_joined<F: PacketFeed, W: Sink>(
+/// Writes what `write_joined` writes, and returns what it returns. If `left` is some, the packets of the run that are in
+/// no written datagram are counted there, by their class in a report of the run: it is to be `NO_PACKETS_LEFT_OUT`
+/// before. It says so once all is done.
+pub fn write_joined_and_count<F: PacketFeed, W: Sink>(
     alloc: Global,
     merged: &mut Merged<F>,
     order: Order,
@@ -183,17 +172,40 @@ pub fn write_joined<F: PacketFeed, W: Sink>(
     put_joined(alloc, merged, order, &mut numbered, left, writer)
 }
 
-/// Writes the datagrams of a run of packets as a pcap file (draft-ietf-opsawg-pcap, 4 and 5) in that byte order: the
-/// datagrams that `write_joined` writes, with link 101 and no snaplen, in microseconds if each unit of the first
-/// datagram's interface is a whole number of them, else in nanoseconds. Packets are counted in `left` as there.
+/// Writes the datagrams of a run of packets as a pcapng file (draft-ietf-opsawg-pcapng, 4) of one section in
+/// that byte order: each whole IPv4 datagram, and each that is joined of fragments (RFC 791, 3.2), as one packet
+/// without a link header, of the datagram's header without options and all of its data. It has the place, the
+/// time and the interface's number of the packet that completed it; the interface has link 101 and no snaplen.
+/// A datagram isn't written if some of its data wasn't captured, or if it is UDP or TCP and its data doesn't have
+/// that form; nor is a frame that isn't IPv4. Interfaces are numbered by first use.
 ///
-/// Returns `Refused` at a packet that has no time (rule 17, no-time), whatever it holds, at one that completes a
-/// datagram and has a time that isn't whole in that fraction (19, inexact) or one whose seconds are below 0 or above
-/// 4,294,967,295 (20, time-range), and if the run ends in a refusal: what is written is the text of the datagrams
-/// before it. The header is written with the first datagram; if none comes, nothing is written, and unless the run ends
-/// in a refusal rule 21, no-interface, is returned of file 1. After `Read`, `Write` or `Memory` a prefix of the text is
-/// written.
-pub fn write_joined_pcap<F: PacketFeed, W: Sink>(
+/// Returns `Refused` at a packet that has no time (rule 17, no-time), whatever it holds, at one that
+/// completes a datagram whose interface would be the 1,025th (rule 13, interface-limit), and if the run
+/// ends in a refusal: what is written is the text of the datagrams before it. After `Read`, `Write` or
+/// `Memory` a prefix of the text is written.
+pub fn write_joined<F: PacketFeed, W: Sink>(
+    alloc: Global,
+    merged: &mut Merged<F>,
+    order: Order,
+    writer: &mut W,
+) -> Result<(), Fault>
+    ensures text { IsTrue (merged_feed (parts_of merged.old)).told → IsTrue (W.tells_held writer.old)
+        → Prints (joined_bytes order (run_of (parts_of merged.old))) (joined_refusal (run_of (parts_of merged.old)))
+        (W.held writer.old) result (W.held writer.new) }
+    ensures writer { WriterKeeps (writer_of W.Sink writer.old) (is_write result) (writer_of W.Sink writer.new) }
+    ensures walks { Walks (merged_feed (parts_of merged.old)) result (merged_feed (parts_of merged.new)) }
+    ensures endings { OnOk result (IsTrue (merged_feed (parts_of merged.old)).told
+        → SameEndings (merged_feed (parts_of merged.old)) (merged_feed (parts_of merged.new))) }
+    ensures memory { IfMemory result (IsAtPacket (merged_feed (parts_of merged.new)).known) }
+    ensures keeps { FeedKeeps (merged_feed (parts_of merged.old)) (merged_feed (parts_of merged.new)) }
+{
+    let mut left = None;
+    write_joined_and_count(alloc, merged, order, &mut left, writer)
+}
+
+/// Writes what `write_joined_pcap` writes, and returns what it returns, with packets counted in `left` as
+/// `write_joined_and_count` does.
+pub fn write_joined_pcap_and_count<F: PacketFeed, W: Sink>(
     alloc: Global,
     merged: &mut Merged<F>,
     order: Order,
@@ -217,4 +229,35 @@ pub fn write_joined_pcap<F: PacketFeed, W: Sink>(
 {
     let mut headed = WrittenForm::Pcap(None);
     put_joined(alloc, merged, order, &mut headed, left, writer)
+}
+
+/// Writes the datagrams of a run of packets as a pcap file (draft-ietf-opsawg-pcap, 4 and 5) in that byte order: the
+/// datagrams that `write_joined` writes, with link 101 and no snaplen, in microseconds if each unit of the first
+/// datagram's interface is a whole number of them, else in nanoseconds.
+///
+/// Returns `Refused` at a packet that has no time (rule 17, no-time), whatever it holds, at one that completes a
+/// datagram and has a time that isn't whole in that fraction (19, inexact) or one whose seconds are below 0 or above
+/// 4,294,967,295 (20, time-range), and if the run ends in a refusal: what is written is the text of the datagrams
+/// before it. The header is written with the first datagram; if none comes, nothing is written, and unless the run ends
+/// in a refusal rule 21, no-interface, is returned of file 1. After `Read`, `Write` or `Memory` a prefix of the text is
+/// written.
+pub fn write_joined_pcap<F: PacketFeed, W: Sink>(
+    alloc: Global,
+    merged: &mut Merged<F>,
+    order: Order,
+    writer: &mut W,
+) -> Result<(), Fault>
+    ensures text { IsTrue (merged_feed (parts_of merged.old)).told → IsTrue (W.tells_held writer.old)
+        → Prints (joined_pcap_bytes order (run_of (parts_of merged.old)))
+        (joined_pcap_refusal (run_of (parts_of merged.old)))
+        (W.held writer.old) result (W.held writer.new) }
+    ensures writer { WriterKeeps (writer_of W.Sink writer.old) (is_write result) (writer_of W.Sink writer.new) }
+    ensures walks { Walks (merged_feed (parts_of merged.old)) result (merged_feed (parts_of merged.new)) }
+    ensures endings { OnOk result (IsTrue (merged_feed (parts_of merged.old)).told
+        → SameEndings (merged_feed (parts_of merged.old)) (merged_feed (parts_of merged.new))) }
+    ensures memory { IfMemory result (IsAtPacket (merged_feed (parts_of merged.new)).known) }
+    ensures keeps { FeedKeeps (merged_feed (parts_of merged.old)) (merged_feed (parts_of merged.new)) }
+{
+    let mut left = None;
+    write_joined_pcap_and_count(alloc, merged, order, &mut left, writer)
 }
