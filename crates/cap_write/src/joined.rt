@@ -143,8 +143,8 @@ fn put_joined<F: PacketFeed, W: Sink>(
     end_of(form)
 }
 
-/// Writes what `write_joined` writes, and returns what it returns. If `left` is some, the packets of the run that are in
-/// no written datagram are counted there, by their class in a report of the run: it is to be `NO_PACKETS_LEFT_OUT`
+/// Writes what `write_joined` writes, and returns what it returns. If `left` is some, the packets of the run that are
+/// in no written datagram are counted there, by their class in a report of the run: it is to be `NO_PACKETS_LEFT_OUT`
 /// before. It says so once all is done.
 pub fn write_joined_and_count<F: PacketFeed, W: Sink>(
     alloc: Global,
