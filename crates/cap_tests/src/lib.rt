@@ -22,6 +22,7 @@ mod jobs;
 mod json_lines;
 #[cfg(test)]
 mod left;
+#[cfg(test)]
 mod left_out;
 #[cfg(test)]
 mod merge;
