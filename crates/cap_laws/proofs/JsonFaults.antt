@@ -15,7 +15,7 @@ use Rattle.cap_bytes.specs.declared.faults.Rule.TheVariants.{Inexact, TimeRange,
 use Rattle.cap_laws.proofs.JsonLines.{after-commas, comma-then, object-first, path-is}
 use Rattle.cap_laws.proofs.JsonNumbers.{decimal-whole}
 use Rattle.cap_laws.proofs.JsonStrings.{string-then}
-use Rattle.cap_laws.specs.JsonFaults.{IsHintLine, IsOpenLine, IsReadLine, IsRefusedLine}
+use Rattle.cap_laws.specs.JsonFaults.{IsCutLine, IsHintLine, IsOpenLine, IsReadLine, IsRefusedLine}
 use Rattle.cap_laws.specs.JsonLines.{JsonValue, string, whole, whole_text}
 use Rattle.cap_tool.specs.Objects.{escaped_character, path_json}
 
@@ -129,6 +129,35 @@ read-line file offset path small few =
     (sym (comma-then 1 (codes "fault", string (codes "read")) (number ∷ place ∷ behind) (codes "}\n")))
     ∙ sym (object-first 1 (codes "type", string (codes "fault"))
     ((codes "fault", string (codes "read")) ∷ number ∷ place ∷ behind) (codes "\n"))
+
+parts-6 : (a b c d e f rest : List ℕ)
+    → (a ++ b ++ c ++ d ++ e ++ f) ++ rest ≡ a ++ (b ++ (c ++ (d ++ (e ++ (f ++ rest)))))
+parts-6 a b c d e f rest =
+    append_assoc (a ++ b ++ c ++ d ++ e) f rest
+    ∙ append_assoc (a ++ b ++ c ++ d) e (f ++ rest)
+    ∙ parts-4 a b c d (e ++ (f ++ rest))
+
+pub cut-line : IsCutLine
+unfolding encode
+cut-line file cut path small few short =
+    let behind : List (List ℕ × JsonValue 1) = path-member path in
+    let number : List ℕ × JsonValue 1 = (codes "file", whole (pos file)) in
+    let place : List ℕ × JsonValue 1 = (codes "offset", whole (pos cut.offset)) in
+    let count : List ℕ × JsonValue 1 = (codes "bytes", whole (pos cut.size)) in
+    let left : List ℕ = codes "{\"type\":\"cut\"" in
+    ap (λ l. codes "{" ++ l)
+    (parts-6 (codes "\"type\":\"cut\",\"file\":") (decimal file) (codes ",\"offset\":") (decimal cut.offset)
+    (codes ",\"bytes\":") (decimal cut.size) (path_json path ++ codes "}\n"))
+    ∙ (λ i. left ++ (codes ",\"file\":" ++ (decimal-whole file small i ++ (codes ",\"offset\":"
+    ++ (decimal-whole cut.offset few i ++ (codes ",\"bytes\":"
+    ++ (decimal-whole cut.size short i ++ path-behind path (codes "}\n") i)))))))
+    ∙ ap (λ l. left ++ (codes ",\"file\":" ++ (whole_text (pos file) ++ (codes ",\"offset\":"
+    ++ (whole_text (pos cut.offset) ++ l)))))
+    (sym (comma-then 1 count behind (codes "}\n")))
+    ∙ ap (λ l. left ++ (codes ",\"file\":" ++ (whole_text (pos file) ++ l)))
+    (sym (comma-then 1 place (count ∷ behind) (codes "}\n")))
+    ∙ ap (λ l. left ++ l) (sym (comma-then 1 number (place ∷ count ∷ behind) (codes "}\n")))
+    ∙ sym (object-first 1 (codes "type", string (codes "cut")) (number ∷ place ∷ count ∷ behind) (codes "\n"))
 
 pub refused-line : IsRefusedLine
 unfolding encode

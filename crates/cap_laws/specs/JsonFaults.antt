@@ -2,7 +2,9 @@
 use Rattle.std.specs.Prelude.{◌≡◌, ◌<◌, ◌^◌, ℕ, pos, List, [], ◌∷◌, ◌++◌, chars, codes, map, Option, option_to_list}
 use Rattle.cap_bytes.specs.Rules.{rule_name, rule_number}
 use Rattle.cap_bytes.specs.declared.faults.Refusal.{Refusal}
+use Rattle.cap_bytes.specs.declared.stops.CutRest.{CutRest}
 use Rattle.cap_laws.specs.JsonLines.{json_text, object, string, whole}
+use Rattle.cap_tool.specs.Cuts.{cut_fields}
 use Rattle.cap_tool.specs.Objects.{hint_json, object_json, open_fields, read_fields, refused_fields}
 
 -- The line of a refusal is the text of an object that has where the file is refused and by which rule, and the word
@@ -32,6 +34,16 @@ IsOpenLine =
     → object_json (open_fields file) path
     ≡ json_text 2 (object ((codes "type", string (codes "fault")) ∷ (codes "fault", string (codes "open"))
     ∷ (codes "file", whole (pos file))
+    ∷ map (λ word. (codes "path", string (chars word))) (option_to_list path))) ++ codes "\n"
+
+-- So is the line of a rest of a file that was cut and dropped.
+abbrev pub IsCutLine : Type 0
+IsCutLine =
+    (file : ℕ) (rest : CutRest) (path : Option (List ℕ))
+    → file < 10 ^ 64 → rest.offset < 10 ^ 64 → rest.size < 10 ^ 64
+    → object_json (cut_fields file rest) path
+    ≡ json_text 2 (object ((codes "type", string (codes "cut")) ∷ (codes "file", whole (pos file))
+    ∷ (codes "offset", whole (pos rest.offset)) ∷ (codes "bytes", whole (pos rest.size))
     ∷ map (λ word. (codes "path", string (chars word))) (option_to_list path))) ++ codes "\n"
 
 -- So is the line that explains how a run ended, whatever characters the explanation has.

@@ -10,7 +10,7 @@ ghost use Rattle.cap_laws.specs.InOrder.{ByPlaces, ReportByPlaces};
 ghost use Rattle.cap_laws.specs.JoinedByPlaces.{JoinedByPlaces};
 ghost use Rattle.cap_laws.specs.JoinedUnits.{JoinedUnits};
 ghost use Rattle.cap_laws.specs.JsonDifferences.{IsDifferLine, IsSideLine};
-ghost use Rattle.cap_laws.specs.JsonFaults.{IsHintLine, IsOpenLine, IsReadLine, IsRefusedLine};
+ghost use Rattle.cap_laws.specs.JsonFaults.{IsCutLine, IsHintLine, IsOpenLine, IsReadLine, IsRefusedLine};
 ghost use Rattle.cap_laws.specs.JsonLines.{IsJsonLine, IsNamedLine, LinesReadBack, ValuesReadBack};
 ghost use Rattle.cap_laws.specs.JsonWords.{ListedWordsPlain, PlainLinesFit, ReportWordsPlain};
 ghost use Rattle.cap_laws.specs.MergeSorts.{MergeSorts, RunSorts, SortsOnce};
@@ -195,6 +195,12 @@ pub fn json_faults()
     ensures failed { IsReadLine }
     ensures unopened { IsOpenLine }
     ensures explained { IsHintLine }
+{}
+
+/// The line of a rest of a file that was cut and dropped is the text of a value of JSON (RFC 8259), whatever characters
+/// the name of the file has.
+pub fn json_cuts()
+    ensures { IsCutLine }
 {}
 
 /// The three lines that `diff --json` prints of a difference are texts of values of JSON (RFC 8259).
