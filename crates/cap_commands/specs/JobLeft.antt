@@ -12,8 +12,8 @@ use Rattle.cap_commands.specs.Left.{nothing_left, left_of_file, LeavesOut, Leave
 use Rattle.cap_commands.specs.declared.left.DroppedInfo.{DroppedInfo}
 
 -- of files of those bytes, by its task: the blocks that are skipped and the names of interfaces, of `convert`, `merge`
--- and `join` alone; the rests that were cut, of these, of `list` and of `blocks`; and the packets of which `join`
--- writes nothing, if they are counted
+-- and `join` alone; the rests that were cut, of these, of `list` and of `blocks`; and the packets that `join`
+-- leaves out, if they are counted
 abbrev pub LeavesTask : Task → Tail → List (List ℕ) → Bool → DroppedInfo → Type 0
 LeavesTask tasks.List tail files counts left = left ≡ only_cut (file_ending tail 1 (only_of files)).ending.cut
 LeavesTask tasks.Blocks tail files counts left = left ≡ only_cut (block_cut tail (only_of files))

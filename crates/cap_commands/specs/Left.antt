@@ -10,7 +10,7 @@ use Rattle.cap_talks.specs.talks.ReportText.{taken_after}
 use Rattle.cap_write.specs.LeftOut.{CountsLeftOut}
 use Rattle.cap_commands.specs.declared.left.DroppedInfo.{DroppedInfo}
 
--- what a call returns, but for what it finds or leaves
+-- what a call returns, without what it finds or leaves
 abbrev pub done_of : {A : Type 0} → Result A Fault → Result Unit Fault
 done_of (Ok found) = Ok tt
 done_of (Err fault) = Err fault

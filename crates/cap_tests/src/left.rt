@@ -83,7 +83,7 @@ fn merges(rt: &impl Abort, alloc: Global, row: &Row) {
     same!(rt; answer, wanted(row), row.0);
 }
 
-// What a join answers, but for the packets that it leaves out.
+// What a join answers, without the packets that it leaves out.
 fn without_left_out(answer: Result<DroppedInfo, Fault>) -> Result<DroppedInfo, Fault> {
     let mut left = answer?;
     left.left_out = None;

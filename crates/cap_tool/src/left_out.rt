@@ -94,8 +94,8 @@ fn counted_line(left_out: Option<LeftOut>) -> Line
 
 /// The line that tells after a run that is done how many packets are in no datagram that `join` writes, by their class
 /// in a report: `left out: 441 packets: not-ipv4 2, bad 439`. The classes stand in the order of the report, without
-/// those that have no packet; behind them `truncated` counts the datagrams that a report counts and of which not all
-/// data was captured. There is no line if no packet is left out, nor after any other run.
+/// those that have no packet; behind them `truncated` counts the datagrams that a report counts although some of
+/// their data was not captured. There is no line if no packet is left out, nor after any other run.
 pub fn left_out_line(outcome: &Outcome, left: &DroppedInfo) -> Line
     ensures { text_in result ≡ left_out_told outcome.now left.now }
 {

@@ -124,7 +124,7 @@ fn put_end<W: Sink>(path: Option<&str>, writer: &mut W) -> Result<(), Fault>
     }
 }
 
-/// Writes an object, of which `fields` is what stands before the word that named its file.
+/// Writes an object: `fields` is what stands before the word that named its file.
 pub(crate) fn put_object<W: Sink>(
     fields: &[u8],
     path: Option<&str>,

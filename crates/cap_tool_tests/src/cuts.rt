@@ -27,7 +27,7 @@ fn cuts() -> [Option<CutRest>; 32] {
     cuts
 }
 
-// What is told of these in a form.
+// What is printed of these in a form.
 fn tells(rt: &impl Abort, alloc: Global, form: Form, text: &str) {
     let mut writer = room_of(rt, alloc, text.len());
     let answer = put_cuts(&cuts(), form, PATHS.as_slice(), &mut writer);

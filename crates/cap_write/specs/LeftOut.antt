@@ -9,7 +9,7 @@ use Rattle.cap_talks.specs.table.Classes.{class_of, classes, counts_of, is_class
 use Rattle.cap_write.specs.Joined.{completed, group_after}
 use Rattle.cap_write.specs.declared.left_out.LeftOut.{LeftOut}
 
--- whether a packet is a whole datagram that a report counts, but of which not all data was captured
+-- whether a packet is a whole datagram that a report counts although some of its data was not captured
 abbrev pub is_truncated : Classification → Bool
 is_truncated (plain c) = false
 is_truncated (datagram header captured) =

@@ -15,7 +15,7 @@ use cap_talks::{ClassCounts, NO_PACKETS, class_of, joined_class, with_frames, wi
 pub struct LeftOut {
     /// How many packets of each class there are. All are left out but those of `Counted`.
     pub classes: ClassCounts,
-    /// How many of `Counted` are left out too: whole datagrams of which not all data was captured.
+    /// How many of `Counted` are left out too: whole datagrams, some of whose data was not captured.
     pub truncated: u64,
 }
 

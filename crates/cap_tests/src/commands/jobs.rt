@@ -332,7 +332,7 @@ fn leaves(rt: &impl Abort, alloc: Global, task: Task, skipped: u128) {
 const CUT_BLOCK: &str = "0a0d0d0a1c0000004d3c2b1a01000000ffffffffffffffff1c000000\
     05000000180000000000000000000000a0252600180000";
 
-// A task of a capture whose end is cut off, of which so many bytes from that offset on are dropped.
+// A task drops the end of a capture: so many bytes, from that offset on.
 fn drops(rt: &impl Abort, alloc: Global, task: Task, capture: &str, rest: CutRest) {
     let job = printing(rt, alloc, task, true);
     let mut writer = room_of(rt, alloc, 1024);
