@@ -455,6 +455,10 @@ counted 'cut ends' 'cut: file 1 offset 24, 19 bytes dropped
 cut: file 3 offset 24, 1 byte dropped' merge --explain --allow-cut -o "$work/new" "$work/cut.pcap" "$one" <(head -c 25 "$one")
 counted 'a cut end, converted' 'cut: file 1 offset 24, 19 bytes dropped' convert --explain --allow-cut --to pcapng -o "$work/new" "$work/cut.pcap"
 counted 'a cut end, joined' 'cut: file 1 offset 24, 19 bytes dropped' join --explain --allow-cut -o "$work/new" "$work/cut.pcap"
+counted 'cut ends, compared' 'cut: file 1 offset 24, 19 bytes dropped
+cut: file 2 offset 24, 1 byte dropped' diff --explain --allow-cut "$work/cut.pcap" <(head -c 25 "$one")
+counted 'a cut end, checked' 'cut: file 2 offset 24, 19 bytes dropped' check --explain --allow-cut "$one" "$work/cut.pcap"
+counted 'a cut end, digested' 'cut: file 1 offset 24, 19 bytes dropped' digest --explain --allow-cut "$work/cut.pcap" "$one"
 counted 'a cut end, listed' 'cut: file 1 offset 24, 19 bytes dropped' list --explain --allow-cut "$work/cut.pcap"
 counted 'a cut end, as an object' '{"type":"cut","file":1,"offset":24,"bytes":19,"path":"'"$work/cut.pcap"'"}' list --json --explain --allow-cut "$work/cut.pcap"
 counted 'a cut end that no one asks for' '' list --allow-cut "$work/cut.pcap"

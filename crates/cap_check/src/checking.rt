@@ -155,8 +155,8 @@ pub fn check_file<R: Source>(
     }
 }
 
-// The same of a file that could be opened or not.
-fn check_opened<R: Source>(
+/// The same of a file that could be opened, or that could not be, which is `None`.
+pub fn check_opened<R: Source>(
     alloc: Global,
     source: Option<R>,
     file: u32,

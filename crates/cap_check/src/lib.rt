@@ -9,5 +9,5 @@ mod digesting;
 mod lines;
 
 pub use crate::checked::{Check, CheckEnd, CheckLine, Checked};
-pub use crate::checking::{check_all_to, check_file, check_to};
+pub use crate::checking::{check_all_to, check_file, check_opened, check_to};
 pub use crate::lines::put_check_line;

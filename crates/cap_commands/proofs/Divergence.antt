@@ -14,10 +14,13 @@ use Rattle.cap_source.specs.inner.Walk.{GivesPacket, SameEndings, ShowsItem}
 use Rattle.cap_source.specs.declared.packets.Meta.{Meta}
 use Rattle.cap_line.specs.declared.jobs.Ignored.{Ignored}
 use Rattle.cap_bytes.specs.declared.faults.Tail.{Tail}
+use Rattle.cap_bytes.specs.declared.stops.CutRest.{CutRest}
+use Rattle.cap_talks.specs.talks.Telling.{Tells}
 use Rattle.cap_source.specs.Items.{file_ending, file_items}
 use Rattle.cap_source.specs.declared.feeds.FileEnd.{FileEnd}
-use Rattle.cap_commands.specs.DiffText.{TellsDiff, compared, comparison_of, cuts_of, diff_text_in}
-use Rattle.cap_commands.specs.DiffText.{other_packet, same_packets}
+use Rattle.cap_commands.specs.DiffText.{Comparison, TellsDiff, compared, comparison_of, cuts_of, diff_end}
+use Rattle.cap_commands.specs.DiffText.{diff_refusal, diff_text_in, ended_rests, is_same, other_packet, same_packets}
+use Rattle.cap_commands.specs.Left.{done_of}
 use Rattle.cap_commands.specs.inner.DiffWalk.{FailsOne, Parts, are_alike, compared_of, ended_cut, parted}
 use Rattle.cap_commands.specs.declared.diff.CutEnds.{CutEnds}
 use Rattle.cap_commands.specs.declared.diff.DiffOptions.{DiffOptions}
@@ -261,30 +264,78 @@ told-as options cuts ends n (Some m) (Some o) f g old new result first second t 
 
 -- how a file was cut that has ended is how it ends
 ended : (packet : Option Meta) (end other : FileEnd) → IsNone packet → end ≡ other
-    → ended_cut packet end ≡ is_some other.ending.cut
-ended None end other none is = ap (λ e. is_some e.ending.cut) is
+    → ended_cut packet end ≡ other.ending.cut
+ended None end other none is = ap (λ e. e.ending.cut) is
 ended (Some meta) end other none is = absurd (cc)
 
--- what is told where the feeds of two files part is told of the files
-pub told-diff : (options : DiffOptions) (tail : Tail) (first second : List ℕ) (a b shown seen : Feed) (p : Divergence)
-    (cut cuts : Bool) (old new : List ℕ) (result : Result Bool Fault)
-    → a.items ≡ file_items tail 1 first → b.items ≡ file_items tail 2 second
-    → ((file : ℕ) → a.endings file ≡ file_ending tail 1 first)
-    → ((file : ℕ) → b.endings file ≡ file_ending tail 2 second)
-    → Parts (compared options.ignored 0 a.items b.items) (Ok p) shown.frame seen.frame
-    → SameEndings a shown → SameEndings b seen
-    → cut ≡ ended_cut p.first (shown.endings 1) → cuts ≡ ended_cut p.second (seen.endings 2)
-    → TellsDiff options (record { first = cut; second = cuts })
-    (parted p.passed (compared_of p.first shown.frame) (compared_of p.second seen.frame)) old result new
-    → TellsDiff options (cuts_of tail first second) (comparison_of options.ignored tail first second) old result new
-told-diff options tail first second a b shown seen p cut cuts old new result items_a items_b ends_a ends_b parts same_a
-    same_b cut_is cuts_is told =
-    let parted_is : comparison_of options.ignored tail first second
-    ≡ parted p.passed (compared_of p.first shown.frame) (compared_of p.second seen.frame) =
-    sym (ap (λ l. compared options.ignored 0 l b.items) items_a
-    ∙ ap (compared options.ignored 0 (file_items tail 1 first)) items_b) ∙ parts in
-    subst (λ k. TellsDiff options (cuts_of tail first second) k old result new) (sym parted_is)
-    (told-as options (record { first = cut; second = cuts }) (cuts_of tail first second) p.passed p.first p.second
-    shown.frame seen.frame old new result
-    (λ none. cut_is ∙ ended p.first _ _ none (same_a 1 ∙ ends_a 1))
-    (λ none. cuts_is ∙ ended p.second _ _ none (same_b 2 ∙ ends_b 2)) told)
+-- what is known of two files where they part
+rests-parted : (n : ℕ) (one other : Option Meta) (f g : List ℕ) (first second : FileEnd)
+    → (record { first = ended_cut one first; second = ended_cut other second })
+    ≡ ended_rests (record { first = first.ending.cut; second = second.ending.cut })
+    (parted n (compared_of one f) (compared_of other g))
+rests-parted n None None f g first second = refl
+rests-parted n None (Some o) f g first second = refl
+rests-parted n (Some m) None f g first second = refl
+rests-parted n (Some m) (Some o) f g first second = refl
+
+same-parted : (n : ℕ) (one other : Option Meta) (f g : List ℕ)
+    → (is_none one && is_none other) ≡ is_same (parted n (compared_of one f) (compared_of other g))
+same-parted n None None f g = refl
+same-parted n None (Some o) f g = refl
+same-parted n (Some m) other f g = refl
+
+-- what is told of a comparison, without what is returned
+tells-done : (options : DiffOptions) (cuts : CutEnds) (k : Comparison) (old new : List ℕ) (result : Result Bool Fault)
+    → TellsDiff options cuts k old result new
+    → Tells (diff_text_in options cuts k) (diff_refusal k) old (done_of result) new
+tells-done options cuts k old new (Ok so) t = (t.0, t.2)
+tells-done options cuts k old new (Err (Refused r)) t = t
+tells-done options cuts k old new (Err (Read file offset)) t = t
+tells-done options cuts k old new (Err Write) t = t
+tells-done options cuts k old new (Err Memory) t = t
+
+-- Where the feeds of two files part.
+module _ (options : DiffOptions) (tail : Tail) (first second : List ℕ) (a b shown seen : Feed) (p : Divergence)
+    (items_a : a.items ≡ file_items tail 1 first) (items_b : b.items ≡ file_items tail 2 second)
+    (ends_a : (file : ℕ) → a.endings file ≡ file_ending tail 1 first)
+    (ends_b : (file : ℕ) → b.endings file ≡ file_ending tail 2 second)
+    (parts : Parts (compared options.ignored 0 a.items b.items) (Ok p) shown.frame seen.frame)
+    (same_a : SameEndings a shown) (same_b : SameEndings b seen) where
+  parted_is : comparison_of options.ignored tail first second
+      ≡ parted p.passed (compared_of p.first shown.frame) (compared_of p.second seen.frame)
+  parted_is =
+      sym (ap (λ l. compared options.ignored 0 l b.items) items_a
+      ∙ ap (compared options.ignored 0 (file_items tail 1 first)) items_b) ∙ parts
+
+  module _ (cut other : Option CutRest) (cut_is : cut ≡ ended_cut p.first (shown.endings 1))
+      (other_is : other ≡ ended_cut p.second (seen.endings 2)) where
+    -- what is told there is told of the files
+    pub told-diff : (old new : List ℕ) (result : Result Bool Fault)
+        → TellsDiff options (record { first = cut; second = other })
+        (parted p.passed (compared_of p.first shown.frame) (compared_of p.second seen.frame)) old result new
+        → Tells (diff_text_in options (cuts_of tail first second) (comparison_of options.ignored tail first second))
+        (diff_refusal (comparison_of options.ignored tail first second)) old (done_of result) new
+    told-diff old new result told =
+        tells-done options (cuts_of tail first second) (comparison_of options.ignored tail first second) old new result
+        (subst (λ k. TellsDiff options (cuts_of tail first second) k old result new) (sym parted_is)
+        (told-as options (record { first = cut; second = other }) (cuts_of tail first second) p.passed p.first p.second
+        shown.frame seen.frame old new result
+        (λ none. cut_is ∙ ended p.first _ _ none (same_a 1 ∙ ends_a 1))
+        (λ none. other_is ∙ ended p.second _ _ none (same_b 2 ∙ ends_b 2)) told))
+
+    -- and so is what is returned
+    pub ends-diff : (so : Bool) → so ≡ (is_none p.first && is_none p.second)
+        → (record { is_same = so; cuts = record { first = cut; second = other } })
+        ≡ diff_end (cuts_of tail first second) (comparison_of options.ignored tail first second)
+    ends-diff so so_is =
+        let one = same_a 1 ∙ ends_a 1 in
+        let two = same_b 2 ∙ ends_b 2 in
+        let is : so ≡ is_same (comparison_of options.ignored tail first second) =
+        so_is ∙ (same-parted p.passed p.first p.second shown.frame seen.frame ∙ ap is_same (sym parted_is)) in
+        let rests : (record { first = cut; second = other })
+        ≡ ended_rests (cuts_of tail first second) (comparison_of options.ignored tail first second) =
+        (λ i. record { first = cut_is i; second = other_is i })
+        ∙ ((λ i. record { first = ended_cut p.first (one i); second = ended_cut p.second (two i) })
+        ∙ (rests-parted p.passed p.first p.second shown.frame seen.frame (file_ending tail 1 first)
+        (file_ending tail 2 second) ∙ ap (ended_rests (cuts_of tail first second)) (sym parted_is))) in
+        λ i. record { is_same = is i; cuts = rests i }

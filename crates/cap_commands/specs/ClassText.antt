@@ -15,11 +15,11 @@ classed_line form shown n meta bytes =
     line_in form (facts_before (description_fields (describe_of meta bytes)) n meta (take shown bytes))
 
 -- the line of a packet, with what it is by itself if that is asked for
-abbrev pub line_by : Bool → Form → ℕ → ℕ → Meta → List ℕ → List ℕ
-line_by false = packet_line
-line_by true = classed_line
+abbrev pub packet_line_by : Bool → Form → ℕ → ℕ → Meta → List ℕ → List ℕ
+packet_line_by false = packet_line
+packet_line_by true = classed_line
 
 -- what `list` prints in a form of a file with those bytes, with at most `shown` bytes of each packet, and with what
 -- each is by itself if that is asked for
 abbrev pub list_by : Bool → Form → ℕ → Tail → List ℕ → List ℕ
-list_by classed form shown tail bytes = list_lines (line_by classed form shown) 1 (file_items tail 1 bytes)
+list_by classed form shown tail bytes = list_lines (packet_line_by classed form shown) 1 (file_items tail 1 bytes)

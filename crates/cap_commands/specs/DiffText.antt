@@ -8,6 +8,7 @@ use Rattle.cap_bytes.specs.declared.faults.Fault.{Fault}
 use Rattle.cap_bytes.specs.declared.faults.Fault.TheVariants.{Refused, Read, Write, Memory}
 use Rattle.cap_bytes.specs.declared.faults.Refusal.{Refusal}
 use Rattle.cap_bytes.specs.declared.faults.Tail.{Tail}
+use Rattle.cap_bytes.specs.declared.stops.CutRest.{CutRest}
 use Rattle.cap_print.specs.Facts.{Fact, begin_in, close_in, end_in, fact_in, fields_in, flag, flagged, line_in, named}
 use Rattle.cap_print.specs.Facts.{number, one}
 use Rattle.cap_print.specs.declared.forms.Form.{Form}
@@ -21,6 +22,7 @@ use Rattle.cap_time.specs.declared.stamps.Stamp.{Stamp}
 use Rattle.cap_line.specs.declared.jobs.Ignored.{Ignored}
 use Rattle.cap_commands.specs.ListText.{facts_showing}
 use Rattle.cap_commands.specs.declared.diff.CutEnds.{CutEnds}
+use Rattle.cap_commands.specs.declared.diff.DiffEnd.{DiffEnd}
 use Rattle.cap_commands.specs.declared.diff.DiffOptions.{DiffOptions}
 use Rattle.cap_commands.specs.declared.diff.Differences.{Differences}
 
@@ -148,13 +150,10 @@ quoted [] = []
 quoted (word ∷ []) = codes "\"" ++ word ++ codes "\""
 quoted (word ∷ next ∷ words) = codes "\"" ++ word ++ codes "\"," ++ quoted (next ∷ words)
 
--- whether each of two files of those bytes, which have the numbers 1 and 2, ends in a rest that was cut and dropped
+-- the rests that were cut and dropped of two files of those bytes, which have the numbers 1 and 2
 abbrev pub cuts_of : Tail → List ℕ → List ℕ → CutEnds
 cuts_of tail first second =
-    record {
-      first = is_some (file_ending tail 1 first).ending.cut;
-      second = is_some (file_ending tail 2 second).ending.cut;
-    }
+    record { first = (file_ending tail 1 first).ending.cut; second = (file_ending tail 2 second).ending.cut }
 
 -- that a rest of a file was dropped, which is called so
 abbrev pub cut_fact : List ℕ → List ℕ → Bool → Fact
@@ -166,8 +165,8 @@ same_line form n cuts = line_in form (record {
   kind = codes "same";
   fields =
       one (named (codes "packets") (number n))
-      ∷ one (cut_fact (codes " cut A") (codes "cut_a") cuts.first)
-      ∷ one (cut_fact (codes " cut B") (codes "cut_b") cuts.second) ∷ [];
+      ∷ one (cut_fact (codes " cut A") (codes "cut_a") (is_some cuts.first))
+      ∷ one (cut_fact (codes " cut B") (codes "cut_b") (is_some cuts.second)) ∷ [];
 })
 
 -- where the captured bytes differ, if they do, and then the rest of a line in a form
@@ -221,8 +220,9 @@ side_in form most n from cut (Some a) = packet_side form n a.meta (shown_from mo
 
 -- both packets in a form, each with its sign, with at most so many bytes from that byte on
 abbrev pub sides_in : Form → ℕ → ℕ → ℕ → CutEnds → Option Compared → Option Compared → List ℕ
-sides_in form most n from cuts a b = (before_side form (codes "-") from ++ side_in form most n from cuts.first a)
-    ++ (before_side form (codes "+") from ++ side_in form most n from cuts.second b)
+sides_in form most n from cuts a b =
+    (before_side form (codes "-") from ++ side_in form most n from (is_some cuts.first) a)
+    ++ (before_side form (codes "+") from ++ side_in form most n from (is_some cuts.second) b)
 
 -- what is printed of a comparison of two files that end so, with these options: of packets whose captured bytes differ,
 -- their bytes from the row on in which they do
@@ -244,6 +244,21 @@ abbrev pub is_same : Comparison → Bool
 is_same (same_packets n) = true
 is_same (other_packet n a b) = false
 is_same (stopped_by refusal) = false
+
+-- the rest of a file that has ended where two files part: nothing is known of one that has a packet there
+abbrev pub ended_rest : Option Compared → Option CutRest → Option CutRest
+ended_rest None cut = cut
+ended_rest (Some a) cut = None
+
+-- the rests that are known of two files that end so, where they part
+abbrev pub ended_rests : CutEnds → Comparison → CutEnds
+ended_rests cuts (same_packets n) = cuts
+ended_rests cuts (other_packet n a b) = record { first = ended_rest a cuts.first; second = ended_rest b cuts.second }
+ended_rests cuts (stopped_by refusal) = record { first = None; second = None }
+
+-- how the comparison of two files ends that end so
+abbrev pub diff_end : CutEnds → Comparison → DiffEnd
+diff_end cuts c = record { is_same = is_same c; cuts = ended_rests cuts c }
 
 -- The comparison is printed with these options, and returned; or a refusal is returned, and nothing is printed then,
 -- nor if a read failed or a growth was refused. If the writer failed, a prefix is printed.

@@ -1,32 +1,35 @@
 -- What a job leaves out of what it writes, or as it was.
 use Rattle.std.specs.Prelude.{◌≡◌, ℕ, Bool, List, None, length}
 use Rattle.cap_bytes.specs.declared.faults.Tail.{Tail}
+use Rattle.cap_line.specs.declared.jobs.Ignored.{Ignored}
 use Rattle.cap_line.specs.declared.jobs.Job.{Job}
 use Rattle.cap_line.specs.declared.jobs.Task.{Task}
 use Rattle.cap_line.specs.declared.jobs.Task.TheVariants as tasks
 use Rattle.cap_merge.specs.Files.{clocked_run, endings_of_files}
 use Rattle.cap_source.specs.Items.{file_ending}
 use Rattle.cap_commands.specs.BlockText.{block_cut}
-use Rattle.cap_commands.specs.Jobs.{only_of, tail_of}
-use Rattle.cap_commands.specs.Left.{nothing_left, left_of_file, LeavesOut, LeavesPackets, only_cut}
+use Rattle.cap_commands.specs.DiffText.{ended_rests}
+use Rattle.cap_commands.specs.Jobs.{comparison_in, cuts_in, only_of, tail_of}
+use Rattle.cap_commands.specs.Left.{both_cut, nothing_left, left_of_file, LeavesOut, LeavesPackets, only_cut}
 use Rattle.cap_commands.specs.declared.left.DroppedInfo.{DroppedInfo}
 
 -- of files of those bytes, by its task: the blocks that are skipped and the names of interfaces, of `convert`, `merge`
--- and `join` alone; the rests that were cut, of these, of `list` and of `blocks`; and the packets that `join`
--- leaves out, if they are counted
-abbrev pub LeavesTask : Task → Tail → List (List ℕ) → Bool → DroppedInfo → Type 0
-LeavesTask tasks.List tail files counts left = left ≡ only_cut (file_ending tail 1 (only_of files)).ending.cut
-LeavesTask tasks.Blocks tail files counts left = left ≡ only_cut (block_cut tail (only_of files))
-LeavesTask tasks.Diff tail files counts left = left ≡ nothing_left
-LeavesTask tasks.Digest tail files counts left = left ≡ nothing_left
-LeavesTask tasks.Check tail files counts left = left ≡ nothing_left
-LeavesTask tasks.Info tail files counts left = left ≡ nothing_left
-LeavesTask tasks.Report tail files counts left = left ≡ nothing_left
-LeavesTask tasks.Convert tail files counts left = left ≡ left_of_file (file_ending tail 1 (only_of files))
-LeavesTask tasks.Merge tail files counts left =
+-- and `join` alone; the rests that were cut, of these, of `list` and `blocks`, and of `diff` those of files that have
+-- ended where they part; and the packets that `join` leaves out, if they are counted
+abbrev pub LeavesTask : Task → Ignored → Tail → List (List ℕ) → Bool → DroppedInfo → Type 0
+LeavesTask tasks.List ignored tail files counts left = left ≡ only_cut (file_ending tail 1 (only_of files)).ending.cut
+LeavesTask tasks.Blocks ignored tail files counts left = left ≡ only_cut (block_cut tail (only_of files))
+LeavesTask tasks.Diff ignored tail files counts left =
+    left ≡ both_cut (ended_rests (cuts_in tail files) (comparison_in ignored tail files))
+LeavesTask tasks.Digest ignored tail files counts left = left ≡ nothing_left
+LeavesTask tasks.Check ignored tail files counts left = left ≡ nothing_left
+LeavesTask tasks.Info ignored tail files counts left = left ≡ nothing_left
+LeavesTask tasks.Report ignored tail files counts left = left ≡ nothing_left
+LeavesTask tasks.Convert ignored tail files counts left = left ≡ left_of_file (file_ending tail 1 (only_of files))
+LeavesTask tasks.Merge ignored tail files counts left =
     LeavesOut (endings_of_files tail files) (length files) left × (left.left_out ≡ None)
-LeavesTask tasks.Join tail files counts left =
+LeavesTask tasks.Join ignored tail files counts left =
     LeavesOut (endings_of_files tail files) (length files) left × LeavesPackets counts (clocked_run tail files) left
 
 abbrev pub JobLeaves : Job → List (List ℕ) → Bool → DroppedInfo → Type 0
-JobLeaves job = LeavesTask job.task (tail_of job.allow_cut)
+JobLeaves job = LeavesTask job.task job.ignored (tail_of job.allow_cut)

@@ -31,8 +31,9 @@ use Rattle.cap_commands.specs.DiffText.{is_same}
 use Rattle.cap_commands.specs.JoinText.{join_refusal_in, join_text_in}
 use Rattle.cap_commands.specs.ListText.{list_refusal}
 use Rattle.cap_commands.specs.MergeText.{merge_refusal_in, merge_text_in}
-use Rattle.cap_commands.specs.Left.{done_of, nothing_left, only_cut}
+use Rattle.cap_commands.specs.Left.{both_cut, done_of, nothing_left, only_cut}
 use Rattle.cap_commands.specs.declared.diff.CutEnds.{CutEnds}
+use Rattle.cap_commands.specs.declared.diff.DiffEnd.{DiffEnd}
 use Rattle.cap_commands.specs.declared.diff.DiffOptions.{DiffOptions}
 use Rattle.cap_commands.specs.declared.jobs.Done.{Done}
 use Rattle.cap_commands.specs.declared.jobs.Finding.{Finding}
@@ -179,6 +180,11 @@ printed_by (Err fault) = Err fault
 abbrev pub listed_by : Result (Option CutRest) Fault → Result Done Fault
 listed_by (Ok cut) = Ok (record { finding = Nothing; left = only_cut cut })
 listed_by (Err fault) = Err fault
+
+-- what a job does that compares two files, which end so: it leaves out the rests that were cut
+abbrev pub compared_by : Result DiffEnd Fault → Result Done Fault
+compared_by (Ok end) = Ok (record { finding = finding_by end.is_same; left = both_cut end.cuts })
+compared_by (Err fault) = Err fault
 
 -- what a job does that finds something: it leaves nothing out
 abbrev pub found_by : Result Finding Fault → Result Done Fault

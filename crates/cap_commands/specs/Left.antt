@@ -8,6 +8,7 @@ use Rattle.cap_source.specs.Feed.{Item}
 use Rattle.cap_source.specs.declared.feeds.FileEnd.{FileEnd}
 use Rattle.cap_talks.specs.talks.ReportText.{taken_after}
 use Rattle.cap_write.specs.LeftOut.{CountsLeftOut}
+use Rattle.cap_commands.specs.declared.diff.CutEnds.{CutEnds}
 use Rattle.cap_commands.specs.declared.left.DroppedInfo.{DroppedInfo}
 
 -- what a call returns, without what it finds or leaves
@@ -22,6 +23,10 @@ nothing_left = record { skipped = 0; named = 0; ran_back = 0; cuts = replicate 3
 -- the rest of the only file, if it was cut
 abbrev pub only_cut : Option CutRest → DroppedInfo
 only_cut cut = record nothing_left { cuts = cut ∷ replicate 31 None }
+
+-- the rests of two files that are compared, if they were cut
+abbrev pub both_cut : CutEnds → DroppedInfo
+both_cut ends = record nothing_left { cuts = ends.first ∷ ends.second ∷ replicate 30 None }
 
 -- the skipped blocks, the named interfaces and the rest of the only file, which ended so
 abbrev pub left_of_file : FileEnd → DroppedInfo

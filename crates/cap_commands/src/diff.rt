@@ -11,18 +11,20 @@ ghost use Rattle.cap_source.specs.inner.Walk.{GivesPacket, SameEndings, ShowsIte
 ghost use Rattle.cap_source.specs.declared.feeds.Head.{Head};
 ghost use Rattle.cap_source.specs.Times.{meta_time};
 ghost use Rattle.cap_commands.specs.DiffText.{TellsDiff, before_side, compared, comparison_of, counted_differences};
-ghost use Rattle.cap_commands.specs.DiffText.{cuts_of};
+ghost use Rattle.cap_commands.specs.DiffText.{cuts_of, diff_end, diff_refusal};
 ghost use Rattle.cap_commands.specs.DiffText.{data_place, default_options, diff_text_in, difference_line};
 ghost use Rattle.cap_commands.specs.DiffText.{difference_words, differences_of, do_differ, first_difference, is_same};
 ghost use Rattle.cap_commands.specs.DiffText.{is_same_time, nothing_ignored, other_packet, packet_side};
 ghost use Rattle.cap_commands.specs.DiffText.{place_of, row_start, shown_from, side_in, sides_in};
 ghost use Rattle.cap_commands.specs.inner.DiffWalk.{FailsOne, KnowsPackets, Parts, are_alike, compared_of, ended_cut};
 ghost use Rattle.cap_commands.specs.inner.DiffWalk.{given, known_packet, parted};
+ghost use Rattle.cap_commands.specs.Left.{done_of};
+ghost use Rattle.cap_talks.specs.talks.Telling.{Tells};
 
 use crate::diff_lines::{differ_line, end_line, no_packet_line, same_line, side_head};
 use crate::lines::{Behind, MOST_SHOWN, write_side};
 use crate::list::put_long_packet;
-use cap_bytes::{Fault, Sink, Source, Tail, put_all};
+use cap_bytes::{CutRest, Fault, Sink, Source, Tail, put_all};
 use cap_line::{Ignored, NOTHING_IGNORED};
 use cap_print::{Form, Line};
 use cap_source::{Capture, Meta, PacketFeed};
@@ -135,12 +137,23 @@ fn do_count(ignored: Ignored, it: Differences) -> bool
     false
 }
 
-/// Of two files: whether each ends in a rest that was cut, and that was dropped. Nothing is known of one that hasn't
-/// ended: then it isn't.
-#[derive(Clone, Copy)]
-pub(crate) struct CutEnds {
-    pub(crate) first: bool,
-    pub(crate) second: bool,
+/// Of two files: the rest of each that was cut, and that was dropped. Nothing is known of one that hasn't ended: then
+/// it is `None`.
+#[derive(Clone, Copy, Debug, PartialEq, Eq)]
+pub struct CutEnds {
+    /// The rest of the first.
+    pub first: Option<CutRest>,
+    /// The rest of the second.
+    pub second: Option<CutRest>,
+}
+
+/// How a comparison of two files ended.
+#[derive(Clone, Copy, Debug, PartialEq, Eq)]
+pub struct DiffEnd {
+    /// Whether they have the same packets.
+    pub is_same: bool,
+    /// The rests of those that had ended there.
+    pub cuts: CutEnds,
 }
 
 // Where two feeds are no longer the same: after how many packets, and which packet each of them has there.
@@ -223,15 +236,15 @@ fn part<F: PacketFeed>(ignored: Ignored, first: &mut F, second: &mut F) -> Resul
     }
 }
 
-// Whether a rest of a file of that number was dropped, if it has ended.
-fn was_cut<F: PacketFeed>(feed: &F, file: u32, packet: Option<Meta>) -> bool
+// The rest of a file of that number that was dropped, if it has ended.
+fn cut_of<F: PacketFeed>(feed: &F, file: u32, packet: Option<Meta>) -> Option<CutRest>
     requires end { IsNone packet → (F.feed feed.now).known ≡ Some Head.End }
     requires file { HasFile (F.feed feed.now).files file }
     ensures { result ≡ ended_cut packet ((F.feed feed.now).endings file) }
 {
     match packet {
-        None => feed.ending(file).cut.is_some(),
-        Some(_) => false,
+        None => feed.ending(file).cut,
+        Some(_) => None,
     }
 }
 
@@ -356,7 +369,7 @@ fn put_sides<F: PacketFeed, W: Sink>(
         b"-",
         n,
         shown,
-        cuts.first,
+        cuts.first.is_some(),
         divergence.first,
         first,
     )?;
@@ -366,7 +379,7 @@ fn put_sides<F: PacketFeed, W: Sink>(
         b"+",
         n,
         shown,
-        cuts.second,
+        cuts.second.is_some(),
         divergence.second,
         second,
     )
@@ -525,14 +538,15 @@ fn put_divergence<F: PacketFeed, W: Sink>(
 }
 
 /// Prints whether two capture files, each of either format, have the same packets, in link type, exact time, captured
-/// and original length and captured bytes, apart from what is ignored: `same packets N`, and returns `true`; or the
-/// number and the differences of the first packet that isn't the same in both, and its line in each, as `list_to`
-/// prints it, and returns `false`. In JSON these are three objects, of which the second and the third hold the object
+/// and original length and captured bytes, apart from what is ignored, and returns it: `same packets N`; or the number
+/// and the differences of the first packet that isn't the same in both, and its line in each, as `list_to` prints it.
+/// In JSON these are three objects, of which the second and the third hold the object
 /// that `list_json_to` prints, or `null`. If a file has ended, and a cut end of it was dropped, that is printed too:
 /// behind `same packets N` as `cut A` and `cut B`, behind `end` as `cut`; in JSON as `cut_a`, `cut_b` and `cut`. Each
 /// line or object has at most `most` bytes of its packet. If the captured bytes differ, the place of the first byte
-/// that differs is printed, and these are the bytes from the row of 16 bytes on in which that byte is. If a file is
-/// refused before that, the refusal is returned. It returns `Read` if a read fails and `Memory` if a growth is refused;
+/// that differs is printed, and these are the bytes from the row of 16 bytes on in which that byte is. It returns the cut
+/// ends too that were dropped, of the files that have ended. If a file is refused before that, the refusal is returned.
+/// It returns `Read` if a read fails and `Memory` if a growth is refused;
 /// after these and a refusal nothing is printed. It returns `Write` if a write fails, after a prefix.
 pub fn diff_in<R: Source, W: Sink>(
     alloc: Global,
@@ -541,14 +555,15 @@ pub fn diff_in<R: Source, W: Sink>(
     tail: Tail,
     options: DiffOptions,
     writer: &mut W,
-) -> Result<bool, Fault>
+) -> Result<DiffEnd, Fault>
     ensures text { IsTrue (R.tells_coming first) → IsTrue (R.tells_coming second) → IsTrue (W.tells_held writer.old)
-        → TellsDiff options (cuts_of tail (R.coming first) (R.coming second))
-        (comparison_of options.ignored tail (R.coming first) (R.coming second))
-        (W.held writer.old) result (W.held writer.new) }
-    ensures same { IsTrue (R.tells_coming first) → IsTrue (R.tells_coming second)
-        → IfOk result (λ so.
-        so ≡ is_same (comparison_of options.ignored tail (R.coming first) (R.coming second))) }
+        → Tells (diff_text_in options (cuts_of tail (R.coming first) (R.coming second))
+        (comparison_of options.ignored tail (R.coming first) (R.coming second)))
+        (diff_refusal (comparison_of options.ignored tail (R.coming first) (R.coming second)))
+        (W.held writer.old) (done_of result) (W.held writer.new) }
+    ensures end { IfOk result (λ end. IsTrue (R.tells_coming first) → IsTrue (R.tells_coming second)
+        → end ≡ diff_end (cuts_of tail (R.coming first) (R.coming second))
+        (comparison_of options.ignored tail (R.coming first) (R.coming second))) }
     ensures writer { WriterKeeps (writer_of W.Sink writer.old) (is_write result) (writer_of W.Sink writer.new) }
     ensures read { FailsOf (R.can_fail first ∷ R.can_fail second ∷ []) result }
 {
@@ -556,10 +571,11 @@ pub fn diff_in<R: Source, W: Sink>(
     let mut second = Capture::new(alloc, second, 2, tail);
     let divergence = part(options.ignored, &mut first, &mut second)?;
     let cuts = CutEnds {
-        first: was_cut(&first, 1, divergence.first),
-        second: was_cut(&second, 2, divergence.second),
+        first: cut_of(&first, 1, divergence.first),
+        second: cut_of(&second, 2, divergence.second),
     };
-    put_divergence(writer, options, cuts, &divergence, &first, &second)
+    let is_same = put_divergence(writer, options, cuts, &divergence, &first, &second)?;
+    Ok(DiffEnd { is_same, cuts })
 }
 
 /// The options of `capt diff` without any: nothing is ignored, and text is printed, with at most 16 bytes of each
@@ -577,13 +593,15 @@ pub fn diff_to<R: Source, W: Sink>(
     second: R,
     tail: Tail,
     writer: &mut W,
-) -> Result<bool, Fault>
+) -> Result<DiffEnd, Fault>
     ensures text { IsTrue (R.tells_coming first) → IsTrue (R.tells_coming second) → IsTrue (W.tells_held writer.old)
-        → TellsDiff default_options (cuts_of tail (R.coming first) (R.coming second))
-        (comparison_of nothing_ignored tail (R.coming first) (R.coming second))
-        (W.held writer.old) result (W.held writer.new) }
-    ensures same { IsTrue (R.tells_coming first) → IsTrue (R.tells_coming second)
-        → IfOk result (λ so. so ≡ is_same (comparison_of nothing_ignored tail (R.coming first) (R.coming second))) }
+        → Tells (diff_text_in default_options (cuts_of tail (R.coming first) (R.coming second))
+        (comparison_of nothing_ignored tail (R.coming first) (R.coming second)))
+        (diff_refusal (comparison_of nothing_ignored tail (R.coming first) (R.coming second)))
+        (W.held writer.old) (done_of result) (W.held writer.new) }
+    ensures end { IfOk result (λ end. IsTrue (R.tells_coming first) → IsTrue (R.tells_coming second)
+        → end ≡ diff_end (cuts_of tail (R.coming first) (R.coming second))
+        (comparison_of nothing_ignored tail (R.coming first) (R.coming second))) }
     ensures writer { WriterKeeps (writer_of W.Sink writer.old) (is_write result) (writer_of W.Sink writer.new) }
     ensures read { FailsOf (R.can_fail first ∷ R.can_fail second ∷ []) result }
 {

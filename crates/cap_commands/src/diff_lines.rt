@@ -139,8 +139,8 @@ pub(crate) fn same_line(form: Form, n: u64, cuts: CutEnds) -> Line
     ensures { text_in result ≡ same_line form n cuts }
 {
     let mut line = Line::end(form);
-    put_cut(&mut line, form, b" cut B", b"cut_b", cuts.second);
-    put_cut(&mut line, form, b" cut A", b"cut_a", cuts.first);
+    put_cut(&mut line, form, b" cut B", b"cut_b", cuts.second.is_some());
+    put_cut(&mut line, form, b" cut A", b"cut_a", cuts.first.is_some());
     line.put_number(form, b"packets", n);
     line.put_kind(form, b"same");
     line

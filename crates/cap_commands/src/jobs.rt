@@ -3,9 +3,7 @@ ghost use Rattle.std.specs.Prelude.{◌≡◌, ◌≤◌, ◌∷◌, [], Bool, I
 ghost use Rattle.cap_check.specs.CheckText.{WritesChecks, no_names};
 ghost use Rattle.std.specs.List.{list_all};
 ghost use Rattle.cap_line.specs.Jobs.{IsWholeJob};
-ghost use Rattle.cap_talks.specs.talks.Telling.{Tells};
-ghost use Rattle.cap_commands.specs.DiffText.{comparison_of, cuts_of, diff_refusal, diff_text_in, is_same};
-ghost use Rattle.cap_commands.specs.Jobs.{Does, Finds, counts_line, finding_by, form_by, format_in, found_in};
+ghost use Rattle.cap_commands.specs.Jobs.{Does, Finds, compared_by, counts_line, finding_by, form_by, format_in, found_in};
 ghost use Rattle.cap_commands.specs.Jobs.{finding_in, found_by, line_by, listed_by, opened_files, printed_by, shown_by};
 ghost use Rattle.cap_commands.specs.Jobs.{tail_of, whole_by, whole_finding, written_by};
 ghost use Rattle.cap_commands.specs.JobLeft.{JobLeaves};
@@ -17,8 +15,8 @@ ghost use Rattle.cap_source.specs.ReadFaults.{FailsOf};
 
 use crate::blocks::blocks_in;
 use crate::counting::{convert_and_count, join_and_count, merge_and_count};
-use crate::diff::{DiffOptions, diff_in};
-use crate::left::{DroppedInfo, NOTHING_LEFT, only_cut};
+use crate::diff::{DiffEnd, DiffOptions, diff_in};
+use crate::left::{DroppedInfo, NOTHING_LEFT, both_cut, only_cut};
 use crate::list::list_in;
 use cap_bytes::{CutRest, Fault, Sink, Source, Tail};
 use cap_check::{CheckLine, check_all_to};
@@ -126,32 +124,6 @@ fn finding_of(is_same: bool) -> Finding
     }
 }
 
-// `diff` with these options, and what it finds.
-fn compare<R: Source, W: Sink>(
-    alloc: Global,
-    sources: (R, R),
-    tail: Tail,
-    options: DiffOptions,
-    writer: &mut W,
-) -> Result<Finding, Fault>
-    ensures text { IsTrue (R.tells_coming sources.0) → IsTrue (R.tells_coming sources.1)
-        → IsTrue (W.tells_held writer.old)
-        → Tells (diff_text_in options (cuts_of tail (R.coming sources.0) (R.coming sources.1))
-        (comparison_of options.ignored tail (R.coming sources.0) (R.coming sources.1)))
-        (diff_refusal (comparison_of options.ignored tail (R.coming sources.0) (R.coming sources.1)))
-        (W.held writer.old)
-        (done_of result) (W.held writer.new) }
-    ensures finding { IfOk result (λ finding. IsTrue (R.tells_coming sources.0) → IsTrue (R.tells_coming sources.1)
-        → finding ≡ finding_by
-        (is_same (comparison_of options.ignored tail (R.coming sources.0) (R.coming sources.1)))) }
-    ensures writer { WriterKeeps (writer_of W.Sink writer.old) (is_write result) (writer_of W.Sink writer.new) }
-    ensures read { FailsOf (R.can_fail sources.0 ∷ R.can_fail sources.1 ∷ []) result }
-{
-    let (first, second) = sources;
-    let is_same = diff_in(alloc, first, second, tail, options, writer)?;
-    Ok(finding_of(is_same))
-}
-
 /// What is found by whether all files that were checked are whole.
 pub fn whole_finding(are_whole: bool) -> Finding
     ensures { result ≡ whole_finding are_whole }
@@ -213,6 +185,19 @@ fn listed(answer: Result<Option<CutRest>, Fault>) -> Result<Done, Fault>
         Ok(cut) => Ok(Done {
             finding: Finding::Nothing,
             left: only_cut(cut),
+        }),
+        Err(fault) => Err(fault),
+    }
+}
+
+// What a job has done that compared two files, which ended so.
+fn compared(answer: Result<DiffEnd, Fault>) -> Result<Done, Fault>
+    ensures { result ≡ compared_by answer }
+{
+    match answer {
+        Ok(end) => Ok(Done {
+            finding: finding_of(end.is_same),
+            left: both_cut(end.cuts),
         }),
         Err(fault) => Err(fault),
     }
@@ -290,7 +275,8 @@ pub fn job_to<R: Source, W: Sink>(
                 form,
                 most: shown_of(form, job.data),
             };
-            found(compare(alloc, pair(sources), tail, options, writer))
+            let (first, second) = pair(sources);
+            compared(diff_in(alloc, first, second, tail, options, writer))
         }
         Task::Digest => {
             let which = CheckLine::Digest;

@@ -2,8 +2,9 @@
 ghost use Rattle.std.specs.Prelude.{◌≡◌};
 ghost use Rattle.std.specs.Prelude.{None, replicate};
 ghost use Rattle.cap_bytes.specs.Printing.{is_write};
-ghost use Rattle.cap_commands.specs.Left.{done_of, nothing_left, only_cut};
+ghost use Rattle.cap_commands.specs.Left.{both_cut, done_of, nothing_left, only_cut};
 
+use crate::diff::CutEnds;
 use cap_bytes::{CutRest, Fault};
 use cap_write::LeftOut;
 
@@ -44,6 +45,15 @@ pub(crate) fn only_cut(cut: Option<CutRest>) -> DroppedInfo
         cuts,
         left_out: None,
     }
+}
+
+/// What is left of the two files that are compared, and that ended in those rests, if they were cut.
+pub(crate) fn both_cut(ends: CutEnds) -> DroppedInfo
+    ensures { result ≡ both_cut ends }
+{
+    let mut left = only_cut(ends.first);
+    left.cuts[1] = ends.second;
+    left
 }
 
 /// What a call returns that says nothing of a rest that was cut.

@@ -16,7 +16,9 @@ mod list;
 pub use crate::blocks::{blocks_json_to, blocks_to};
 pub use crate::commands::{convert_to, join_to, join_to_pcap, merge_to, merge_to_pcap};
 pub use crate::counting::{convert_and_count, join_and_count, merge_and_count};
-pub use crate::diff::{DEFAULT_OPTIONS, DiffOptions, Differences, diff_in, diff_to};
+pub use crate::diff::{
+    CutEnds, DEFAULT_OPTIONS, DiffEnd, DiffOptions, Differences, diff_in, diff_to,
+};
 pub use crate::faults::fault_line;
 pub use crate::jobs::{Done, Finding, form_of, job_to, line_of, tail_of, whole_finding};
 pub use crate::left::{DroppedInfo, NOTHING_LEFT};

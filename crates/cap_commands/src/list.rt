@@ -1,7 +1,7 @@
 //! `capt list`, in text and in JSON: one line for each packet, as it is found.
 ghost use Rattle.std.specs.Prelude.{◌≡◌, ◌<◌, ◌≤◌, ◌^◌, ◌∷◌, [], None, IsTrue, length};
 ghost use Rattle.std.specs.Prelude.{IfOk, IsOkUnless, OnOk, is_err};
-ghost use Rattle.cap_commands.specs.ClassText.{line_by, list_by};
+ghost use Rattle.cap_commands.specs.ClassText.{list_by, packet_line_by};
 ghost use Rattle.cap_commands.specs.Left.{done_of};
 ghost use Rattle.cap_commands.specs.ListText.{facts_before, list_json, list_lines, list_refusal, list_text};
 ghost use Rattle.cap_commands.specs.inner.PacketParts.{packet_rest, packet_text};
@@ -116,7 +116,8 @@ fn put_packet<W: Sink>(
     bytes: &[u8],
 ) -> Result<(), Fault>
     ensures bytes { IsTrue (W.tells_held writer.old)
-        → Puts (W.held writer.old) result (W.held writer.new) (line_by classed form most n meta.now bytes.now) }
+        → Puts (W.held writer.old) result (W.held writer.new)
+        (packet_line_by classed form most n meta.now bytes.now) }
     ensures writer { WriterKeeps (writer_of W.Sink writer.old) (is_err result) (writer_of W.Sink writer.new) }
     ensures fault { IsOkUnless result Fault.Write }
 {
@@ -142,7 +143,8 @@ fn list_packets<F: PacketFeed, W: Sink>(
 ) -> Result<(), Fault>
     requires { (F.feed feed.old).left ≤ 2 ^ 40 }
     ensures text { IsTrue (F.feed feed.old).told → IsTrue (W.tells_held writer.old)
-        → Prints (list_lines (line_by classed form most) 1 (F.feed feed.old).items) (refusal_of (F.feed feed.old).items)
+        → Prints (list_lines (packet_line_by classed form most) 1 (F.feed feed.old).items)
+        (refusal_of (F.feed feed.old).items)
         (W.held writer.old) result (W.held writer.new) }
     ensures writer { WriterKeeps (writer_of W.Sink writer.old) (is_write result) (writer_of W.Sink writer.new) }
     ensures walks { Walks (F.feed feed.old) result (F.feed feed.new) }

@@ -328,7 +328,11 @@ listed-words = record {
   classed = λ it n meta shown. packet-plain n meta shown (description_fields it) (class-plain it);
   block = block-plain;
   checked = check-plain;
-  same = λ n cuts. (same-facts n cuts.first cuts.second, refl, same-plain n cuts.first cuts.second);
+  same = λ n cuts. (
+    same-facts n (is_some cuts.first) (is_some cuts.second),
+    refl,
+    same-plain n (is_some cuts.first) (is_some cuts.second),
+  );
   differ = difference-plain;
 }
 

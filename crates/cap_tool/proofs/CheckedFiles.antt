@@ -1,14 +1,17 @@
 -- Files that are checked, as they are opened by their names.
 use Rattle.std.proofs.Common.{◌≡◌, ◌<◌, ◌+◌, ◌-◌, ℕ, Bool, true, List, [], ◌∷◌, ◌++◌, map, length, Option, Some}
-use Rattle.std.proofs.Common.{Ok, Err, get_or, refl, sym, ap, subst, ◌∙◌, arith, length-append}
+use Rattle.std.proofs.Common.{Ok, Err, Result, get_or, refl, sym, ap, subst, ◌∙◌, arith, length-append}
 use Rattle.std.specs.Borrow.{Bor}
 use Rattle.std.proofs.lemmas.List.{get_or-map, length-map, map-append}
 use Rattle.std.specs.Prelude.{◌&&◌, option_map}
+use Rattle.cap_bytes.specs.Device.{Puts}
 use Rattle.cap_bytes.specs.declared.faults.Fault.{Fault}
+use Rattle.cap_bytes.specs.declared.faults.Fault.TheVariants.{Memory, Write}
 use Rattle.cap_bytes.specs.declared.faults.Tail.{Tail}
 use Rattle.cap_check.proofs.Following.{ArePrinted, printed-all, printed-fault, printed-more, printed-none}
-use Rattle.cap_check.specs.CheckText.{WritesCheck, WritesChecks}
-use Rattle.cap_check.specs.Checking.{Opened}
+use Rattle.cap_check.specs.CheckText.{WritesCheck, WritesChecks, asks_digest, check_line_in}
+use Rattle.cap_check.specs.Checking.{IsChecked, Opened, is_whole_end}
+use Rattle.cap_check.specs.declared.checked.Check.{Check}
 use Rattle.cap_check.specs.declared.checked.CheckLine.{CheckLine}
 use Rattle.cap_print.specs.declared.forms.Form.{Form}
 use Rattle.cap_tool.specs.CheckedNames.{AreGiven, ChecksName, ChecksNames, name_fields}
@@ -154,3 +157,43 @@ next-given gives names old new place none input found below are count given is a
     (subst (λ l. AreGiven gives texts l) (sym (map-append Some old (input ∷ [])))
     (AreGiven-more gives texts (map Some old) (get_or names place none).now (Some input) are within name_is
     (subst (λ r. gives (get_or names place none).now r) is given)))
+
+-- ---- a file that is checked, and its line
+
+module _ (which : CheckLine) (form : Form) (tail : Tail) (file : ℕ) (name : List ℕ) (opened : Option Opened) where
+  -- a growth was refused
+  pub check-refused : (held : List ℕ) (fault : Fault) → fault ≡ Memory
+      → WritesCheck which form tail file name opened held (Err fault) held
+  check-refused held fault is =
+      subst (λ (f : Fault). WritesCheck which form tail file name opened held (Err f) held) (sym is) refl
+
+  module _ (asks : Bool) (check : Check) (asks_is : asks ≡ asks_digest which)
+      (checked : IsChecked tail asks file opened check) (old new : List ℕ) where
+    found : IsChecked tail (asks_digest which) file opened check
+    found = subst (λ (a : Bool). IsChecked tail a file opened check) asks_is checked
+
+    -- its line wasn't written whole
+    pub check-unwritten : (fault : Fault) → fault ≡ Write
+        → Puts {A = Unit {0}} old (Err fault) new (check_line_in which form file name check)
+        → WritesCheck which form tail file name opened old (Err fault) new
+    check-unwritten fault is put =
+        subst (λ (f : Fault). WritesCheck which form tail file name opened old (Err f) new) (sym is)
+        (check, found, put)
+
+    -- it was written
+    pub check-written : (is_whole : Bool) → is_whole ≡ is_whole_end check.end
+        → new ≡ old ++ check_line_in which form file name check
+        → WritesCheck which form tail file name opened old (Ok is_whole) new
+    check-written is_whole whole put = (check, found, whole, put)
+
+-- the same by another name of each
+pub check-as : (which other : CheckLine) (form shown : Form) (tail end : Tail) (file : ℕ) (name called : List ℕ)
+    (opened : Option Opened) (old new : List ℕ) (result : Result Bool Fault)
+    → which ≡ other → form ≡ shown → tail ≡ end → name ≡ called
+    → WritesCheck which form tail file name opened old result new
+    → WritesCheck other shown end file called opened old result new
+check-as which other form shown tail end file name called opened old new result a b c d x =
+    subst (λ (l : List ℕ). WritesCheck other shown end file l opened old result new) d
+    (subst (λ (t : Tail). WritesCheck other shown t file name opened old result new) c
+    (subst (λ (f : Form). WritesCheck other f tail file name opened old result new) b
+    (subst (λ (l : CheckLine). WritesCheck l form tail file name opened old result new) a x)))

@@ -12,7 +12,7 @@ use crate::named::name_field;
 use crate::openers::Opener;
 use crate::regular::FileType;
 use cap_bytes::{Fault, Sink};
-use cap_check::check_to;
+use cap_check::{CheckEnd, check_opened, put_check_line};
 use cap_commands::{Finding, form_of, line_of, tail_of, whole_finding};
 use cap_line::Job;
 use std::alloc::Global;
@@ -38,6 +38,15 @@ fn tell_opened<O: Opener>(
         Err(cause) => opener.tell_cause(name, cause, job),
         Ok((_, FileType::Folder)) => opener.tell_cause(name, &Cause::Folder, job),
         Ok(_) => {}
+    }
+}
+
+// Tells which rest of a file of that number was cut and dropped, if one was.
+fn tell_dropped<O: Opener>(opener: &O, job: &Job<'_>, names: &[&str], file: u32, end: &CheckEnd) {
+    if let CheckEnd::Whole(end) = end {
+        if let Some(rest) = end.ending.cut {
+            opener.tell_cut(file, rest, names, job);
+        }
     }
 }
 
@@ -70,16 +79,10 @@ fn check_next<O: Opener, W: Sink>(
     let which = line_of(job.task, job.digests);
     let named = name_field(alloc, form, job.names, name)?;
     let file = place as u32 + 1;
-    check_to(
-        alloc,
-        reader,
-        file,
-        tail,
-        which,
-        form,
-        named.as_slice(),
-        writer,
-    )
+    let check = check_opened(alloc, reader, file, tail, which.asks_digest())?;
+    tell_dropped(opener, job, names, file, &check.end);
+    put_check_line(writer, which, form, file, named.as_slice(), &check)?;
+    Ok(check.end.is_whole())
 }
 
 /// Checks the files of those names for a job, with the numbers from 1 on, and prints the line that its task has of

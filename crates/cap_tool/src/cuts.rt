@@ -43,8 +43,8 @@ fn cut_fields(file: u32, rest: CutRest) -> Line
     line
 }
 
-// Writes the line of a rest of the file of that number in a form.
-fn put_rest<W: Sink>(
+/// Writes the line of a rest of the file of that number in a form, as `put_cuts` does.
+pub(crate) fn put_rest<W: Sink>(
     file: u32,
     rest: CutRest,
     form: Form,

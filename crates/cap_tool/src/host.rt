@@ -5,7 +5,7 @@ ghost use Rattle.cap_line.specs.declared.faults.LineFault.{LineFault};
 
 use crate::causes::Cause;
 use crate::created::create_for;
-use crate::cuts::put_cuts;
+use crate::cuts::{put_cuts, put_rest};
 use crate::hints::{called, cause_line, hint, hint_object};
 use crate::left::{Told, left_lines};
 use crate::left_out::left_out_line;
@@ -21,7 +21,7 @@ use crate::shared::{OutputHandle, SharedOutput};
 use crate::streams::{Input, Output};
 use crate::systems::System;
 use crate::whole::AtomicOutput;
-use cap_bytes::{Tracked, put_all};
+use cap_bytes::{CutRest, Tracked, put_all};
 use cap_commands::{DroppedInfo, form_of};
 use cap_line::{Job, LineFault};
 use cap_print::Form;
@@ -112,6 +112,16 @@ impl<'a, R: Files<File = File> + Clock + AllocGlobal> Opener for Host<'a, R> {
             let mut faults = Tracked::new(self.streams.faults);
             tell_hint(self.rt.alloc(), line.as_str(), job.json, &mut faults);
         }
+    }
+
+    fn tell_cut(&self, file: u32, rest: CutRest, names: &[&str], job: &Job<'_>) {
+        if !job.explain && !self.streams.faults.is_terminal() {
+            return;
+        }
+        self.progress.wipe();
+        let mut faults = Tracked::new(self.streams.faults);
+        // a standard error that fails doesn't change how the run ends
+        let _ = put_rest(file, rest, form_of(job.json), names, &mut faults);
     }
 }
 

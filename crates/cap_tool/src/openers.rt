@@ -4,7 +4,7 @@ ghost use Rattle.cap_tool.specs.Openers.{reader_of};
 
 use crate::causes::Cause;
 use crate::regular::FileType;
-use cap_bytes::Source;
+use cap_bytes::{CutRest, Source};
 use cap_line::Job;
 
 /// What opens files by their names: the system, or a folder in memory.
@@ -22,4 +22,8 @@ pub trait Opener {
 
     /// Tells why the file of that name isn't read, if the job asks for that, or if it is always told.
     fn tell_cause(&self, name: &str, cause: &Cause, job: &Job<'_>);
+
+    /// Tells which rest of the file of that number was cut and dropped, if the job asks for that, or if it is always
+    /// told: `names` has the files' names by their numbers.
+    fn tell_cut(&self, file: u32, rest: CutRest, names: &[&str], job: &Job<'_>);
 }

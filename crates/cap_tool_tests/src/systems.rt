@@ -1,7 +1,7 @@
 //! Runs over a system in memory: files by their names, and an output.
 ghost use Rattle.std.specs.Prelude.{if◌then◌else◌, Some, None, option_map};
 
-use cap_bytes::{Fault, Refusal, Rule, Tracked};
+use cap_bytes::{CutRest, Fault, Refusal, Rule, Tracked};
 use cap_line::{Job, LineFault};
 use cap_tool::{
     Buffered, Cause, DroppedInfo, FileId, FileType, Opener, Outcome, RunStop, System, Told,
@@ -70,6 +70,8 @@ impl<'a> Opener for Shelf<'a> {
     }
 
     fn tell_cause(&self, _name: &str, _cause: &Cause, _job: &Job<'_>) {}
+
+    fn tell_cut(&self, _file: u32, _rest: CutRest, _names: &[&str], _job: &Job<'_>) {}
 }
 
 // What a run writes, kept where the test sees it.
@@ -119,6 +121,10 @@ impl<'a> Opener for Desk<'a> {
 
     fn tell_cause(&self, name: &str, cause: &Cause, job: &Job<'_>) {
         self.shelf.tell_cause(name, cause, job);
+    }
+
+    fn tell_cut(&self, file: u32, rest: CutRest, names: &[&str], job: &Job<'_>) {
+        self.shelf.tell_cut(file, rest, names, job);
     }
 }
 

@@ -4,6 +4,7 @@ use Rattle.std.specs.Prelude.{Ok, Err, is_some}
 use Rattle.std.specs.Prelude.{⊤}
 use Rattle.std.specs.Prelude.{◌⊎◌}
 use Rattle.cap_bytes.specs.declared.faults.Fault.{Fault}
+use Rattle.cap_bytes.specs.declared.stops.CutRest.{CutRest}
 use Rattle.cap_bytes.specs.declared.faults.Fault.TheVariants.{Refused, Read, Write, Memory}
 use Rattle.cap_line.specs.declared.jobs.Ignored.{Ignored}
 use Rattle.cap_source.specs.Feed.{Feed, HasFile, IsPacket}
@@ -59,10 +60,10 @@ pub record KnowsPackets (p : Divergence) (a b : Feed) : Type 0 where
   pub first_end : IsNone p.first → a.known ≡ Some heads.End
   pub second_end : IsNone p.second → b.known ≡ Some heads.End
 
--- whether a file was cut that ends so, if no packet comes next
-abbrev pub ended_cut : Option Meta → FileEnd → Bool
-ended_cut None end = is_some end.ending.cut
-ended_cut (Some meta) end = false
+-- the rest that was cut of a file that ends so, if no packet comes next
+abbrev pub ended_cut : Option Meta → FileEnd → Option CutRest
+ended_cut None end = end.ending.cut
+ended_cut (Some meta) end = None
 
 -- A failed read is of a file of the one feed or the other, whose device can fail.
 abbrev pub FailsOne : {A : Type 0} → Feed → Feed → Result A Fault → Type 0

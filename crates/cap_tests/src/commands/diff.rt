@@ -4,8 +4,8 @@ ghost use Rattle.std.specs.Prelude.{◌≤◌};
 use crate::checks::same;
 use crate::files::{reader_of, room_of};
 use crate::hex_vectors::{CARRY_PCAP, CARRY_PCAPNG, CUT_PCAP, ETHERNET, File, RAW};
-use cap_bytes::{Fault, Refusal, Rule, Tail};
-use cap_commands::{DiffOptions, diff_in, diff_to};
+use cap_bytes::{CutRest, Fault, Refusal, Rule, Tail};
+use cap_commands::{CutEnds, DiffEnd, DiffOptions, diff_in, diff_to};
 use cap_line::{Ignored, NOTHING_IGNORED};
 use cap_print::Form;
 use std::alloc::Global;
@@ -203,6 +203,17 @@ const OBJECTS: [(File, File, u32, &str, bool); 8] = [
     ),
 ];
 
+// How two files end of which none was cut.
+fn uncut(is_same: bool) -> DiffEnd {
+    DiffEnd {
+        is_same,
+        cuts: CutEnds {
+            first: None,
+            second: None,
+        },
+    }
+}
+
 // What is printed in JSON and returned of two files.
 fn is_object(rt: &impl Abort, alloc: Global, row: &(File, File, u32, &str, bool)) {
     let (first, second, most, text, is_same) = *row;
@@ -215,7 +226,7 @@ fn is_object(rt: &impl Abort, alloc: Global, row: &(File, File, u32, &str, bool)
         most,
     };
     let answer = diff_in(alloc, one, other, Tail::Refuse, options, &mut writer);
-    same!(rt; (answer, writer.bytes()), (Ok(is_same), text.as_bytes()));
+    same!(rt; (answer, writer.bytes()), (Ok(uncut(is_same)), text.as_bytes()));
 }
 
 #[test]
@@ -295,7 +306,7 @@ fn ignores(rt: &impl Abort, alloc: Global, row: &(File, File, Ignored, &str, boo
         most: 16,
     };
     let answer = diff_in(alloc, one, other, Tail::Refuse, options, &mut writer);
-    same!(rt; (answer, writer.bytes()), (Ok(is_same), text.as_bytes()));
+    same!(rt; (answer, writer.bytes()), (Ok(uncut(is_same)), text.as_bytes()));
 }
 
 #[test]
@@ -313,8 +324,20 @@ const WITH_REST: File = &[
     "0100000060e31600",
 ];
 
-// Two files, and what is printed of them in text and in JSON, and returned, if cut ends are dropped.
-type Dropped = (File, File, &'static str, &'static str, bool);
+// Two files, what is printed of them in text and in JSON if cut ends are dropped, whether they are the same, and the
+// rests that are returned.
+type Dropped = (File, File, &'static str, &'static str, bool, CutEnds);
+
+// The rest of the second record, of 8 bytes, and that of a first record, of 19.
+const SECOND_RECORD: Option<CutRest> = Some(CutRest {
+    offset: 44,
+    size: 8,
+});
+
+const FIRST_RECORD: Option<CutRest> = Some(CutRest {
+    offset: 24,
+    size: 19,
+});
 
 const DROPPED: [Dropped; 9] = [
     (
@@ -323,6 +346,10 @@ const DROPPED: [Dropped; 9] = [
         "same packets 1 cut A\n",
         "{\"type\":\"same\",\"packets\":1,\"cut_a\":true,\"cut_b\":false}\n",
         true,
+        CutEnds {
+            first: SECOND_RECORD,
+            second: None,
+        },
     ),
     (
         CARRY_PCAPNG,
@@ -330,6 +357,10 @@ const DROPPED: [Dropped; 9] = [
         "same packets 1 cut B\n",
         "{\"type\":\"same\",\"packets\":1,\"cut_a\":false,\"cut_b\":true}\n",
         true,
+        CutEnds {
+            first: None,
+            second: SECOND_RECORD,
+        },
     ),
     (
         CUT_PCAP,
@@ -337,6 +368,10 @@ const DROPPED: [Dropped; 9] = [
         "same packets 0 cut A cut B\n",
         "{\"type\":\"same\",\"packets\":0,\"cut_a\":true,\"cut_b\":true}\n",
         true,
+        CutEnds {
+            first: FIRST_RECORD,
+            second: FIRST_RECORD,
+        },
     ),
     // nothing was dropped
     (
@@ -345,6 +380,10 @@ const DROPPED: [Dropped; 9] = [
         "same packets 1\n",
         "{\"type\":\"same\",\"packets\":1,\"cut_a\":false,\"cut_b\":false}\n",
         true,
+        CutEnds {
+            first: None,
+            second: None,
+        },
     ),
     // one file ends, and its end was dropped
     (
@@ -358,6 +397,10 @@ const DROPPED: [Dropped; 9] = [
         \"time\":[2,500000,1000000],\"captured\":4,\"original\":4,\"link\":1,\"data\":\"01020304\"}}\n\
         {\"type\":\"side\",\"side\":\"+\",\"packet\":null,\"cut\":true}\n",
         false,
+        CutEnds {
+            first: None,
+            second: FIRST_RECORD,
+        },
     ),
     (
         CUT_PCAP,
@@ -370,6 +413,10 @@ const DROPPED: [Dropped; 9] = [
         {\"type\":\"side\",\"side\":\"+\",\"packet\":{\"type\":\"packet\",\"n\":1,\"offset\":24,\
         \"time\":[2,500000,1000000],\"captured\":4,\"original\":4,\"link\":1,\"data\":\"01020304\"}}\n",
         false,
+        CutEnds {
+            first: FIRST_RECORD,
+            second: None,
+        },
     ),
     (
         WITH_REST,
@@ -382,6 +429,10 @@ const DROPPED: [Dropped; 9] = [
         {\"type\":\"side\",\"side\":\"+\",\"packet\":{\"type\":\"packet\",\"n\":2,\"offset\":44,\
         \"time\":[2,500000,1000000],\"captured\":4,\"original\":4,\"link\":1,\"data\":\"01020304\"}}\n",
         false,
+        CutEnds {
+            first: SECOND_RECORD,
+            second: None,
+        },
     ),
     // a file that has a packet left isn't named, even if its end was dropped
     (
@@ -395,6 +446,10 @@ const DROPPED: [Dropped; 9] = [
         \"time\":[2,500000,1000000],\"captured\":4,\"original\":4,\"link\":1,\"data\":\"01020304\"}}\n\
         {\"type\":\"side\",\"side\":\"+\",\"packet\":null,\"cut\":false}\n",
         false,
+        CutEnds {
+            first: None,
+            second: None,
+        },
     ),
     (
         WITH_REST,
@@ -408,12 +463,16 @@ const DROPPED: [Dropped; 9] = [
         {\"type\":\"side\",\"side\":\"+\",\"packet\":{\"type\":\"packet\",\"n\":1,\"offset\":24,\
         \"time\":[2,500001,1000000],\"captured\":4,\"original\":4,\"link\":1,\"data\":\"01020304\"}}\n",
         false,
+        CutEnds {
+            first: None,
+            second: None,
+        },
     ),
 ];
 
 // What is printed in a form and returned of two files if cut ends are dropped.
 fn drops(rt: &impl Abort, alloc: Global, row: &Dropped, form: Form) {
-    let (first, second, text, objects, is_same) = *row;
+    let (first, second, text, objects, is_same, cuts) = *row;
     let mut writer = room_of(rt, alloc, 1024);
     let one = reader_of(rt, alloc, first, 4096);
     let other = reader_of(rt, alloc, second, 4096);
@@ -427,7 +486,8 @@ fn drops(rt: &impl Abort, alloc: Global, row: &Dropped, form: Form) {
         Form::Json => objects,
     };
     let answer = diff_in(alloc, one, other, Tail::Accept, options, &mut writer);
-    same!(rt; (answer, writer.bytes()), (Ok(is_same), printed.as_bytes()));
+    let end = DiffEnd { is_same, cuts };
+    same!(rt; (answer, writer.bytes()), (Ok(end), printed.as_bytes()));
 }
 
 #[test]
@@ -439,9 +499,9 @@ fn always_memory_cut_captures_are_compared(rt: HostRuntime) {
     }
 }
 
-fn answer_of(wanted: Result<bool, (u32, u64, Rule)>) -> Result<bool, Fault> {
+fn answer_of(wanted: Result<bool, (u32, u64, Rule)>) -> Result<DiffEnd, Fault> {
     match wanted {
-        Ok(is_same) => Ok(is_same),
+        Ok(is_same) => Ok(uncut(is_same)),
         Err((file, offset, rule)) => Err(Fault::Refused(Refusal { file, offset, rule })),
     }
 }

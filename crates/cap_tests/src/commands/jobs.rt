@@ -357,6 +357,25 @@ fn always_memory_a_job_says_what_was_cut(rt: HostRuntime) {
     drops(&rt, rt.alloc(), Task::Blocks, CUT_BLOCK, block);
 }
 
+// `diff` drops the end of both captures, of which none has a packet.
+#[test]
+fn always_memory_a_job_says_what_was_cut_of_two(rt: HostRuntime) {
+    let mut job = printing(&rt, rt.alloc(), Task::Diff, true);
+    job.files.push("b").expect(&rt, "memory");
+    let mut writer = room_of(&rt, rt.alloc(), 1024);
+    let answer = counts(&rt, rt.alloc(), &job, &[CUT_PCAP, CUT_PCAP], &mut writer);
+    let mut left = NOTHING_LEFT;
+    let rest = CutRest {
+        offset: 24,
+        size: 19,
+    };
+    left.cuts[0] = Some(rest);
+    left.cuts[1] = Some(rest);
+    let finding = Finding::Nothing;
+    same!(&rt; answer, Ok(Done { finding, left }));
+    same!(&rt; writer.bytes(), b"same packets 0 cut A cut B\n");
+}
+
 #[test]
 fn always_memory_a_job_counts_what_it_leaves(rt: HostRuntime) {
     for (task, skipped) in [

@@ -1,7 +1,25 @@
-use Rattle.std.proofs.Common.{◌∙◌}
+use Rattle.std.proofs.Common.{◌∙◌, Err, Ok}
+use Rattle.std.proofs.lemmas.Result.{err_from_is_err_and}
 use Rattle.cap_source.specs.inner.Captures.{capture_feed}
-use Rattle.cap_commands.proofs.Divergence.{told-diff}
+use Rattle.cap_commands.proofs.Divergence.{ends-diff, told-diff}
 use Rattle.cap_commands.proofs.diff.diff_in.Goals as goal
+
+pub returns-in_err-is_same-clause-text : goal.returns-in_err-is_same-clause-text
+returns-in_err-is_same-clause-text g c = λ t u w.
+    let q = err_from_is_err_and c.from_residual-in_err-is_same.result c.from_residual-in_err-is_same.ensures.1 in
+    let first = c.new-first.ensures in
+    let second = c.new-second.ensures in
+    let e = c.in_ok-divergence.ensures in
+    let told = first.told ∙ t in
+    let tells = second.told ∙ u in
+    rw (q.1, q.2)
+    (told-diff c.args.options c.args.tail (g.R.Source.coming c.args.first) (g.R.Source.coming c.args.second)
+    (capture_feed c.new-first.result) (capture_feed c.new-second.result) (capture_feed c.part.new.first)
+    (capture_feed c.part.new.second) c.in_ok-divergence.divergence first.items second.items first.endings second.endings
+    (e.parts told tells) (e.ends_first told) (e.ends_second tells) c.cut_of.result c.cut_of-2.result c.cut_of.ensures
+    c.cut_of-2.ensures
+    (g.W.Sink.held c.args.writer.now) (g.W.Sink.held c.put_divergence.new.writer) (Err c.in_err-is_same.field-0.0)
+    (c.in_err-is_same.ensures.text w))
 
 pub returns-clause-text : goal.returns-clause-text
 returns-clause-text g c = λ t u w.
@@ -10,7 +28,24 @@ returns-clause-text g c = λ t u w.
     let e = c.in_ok-divergence.ensures in
     let told = first.told ∙ t in
     let tells = second.told ∙ u in
-    told-diff c.args.options c.args.tail _ _ (capture_feed c.new-first.result) (capture_feed c.new-second.result)
-    (capture_feed c.part.new.first) (capture_feed c.part.new.second) c.in_ok-divergence.divergence c.was_cut.result
-    c.was_cut-2.result _ _ _ first.items second.items first.endings second.endings (e.parts told tells)
-    (e.ends_first told) (e.ends_second tells) c.was_cut.ensures c.was_cut-2.ensures (c.put_divergence.ensures.text w)
+    told-diff c.args.options c.args.tail (g.R.Source.coming c.args.first) (g.R.Source.coming c.args.second)
+    (capture_feed c.new-first.result) (capture_feed c.new-second.result) (capture_feed c.part.new.first)
+    (capture_feed c.part.new.second) c.in_ok-divergence.divergence first.items second.items first.endings second.endings
+    (e.parts told tells) (e.ends_first told) (e.ends_second tells) c.cut_of.result c.cut_of-2.result c.cut_of.ensures
+    c.cut_of-2.ensures
+    (g.W.Sink.held c.args.writer.now) (g.W.Sink.held c.put_divergence.new.writer) (Ok c.in_ok-is_same.is_same)
+    (c.in_ok-is_same.ensures.text w)
+
+pub returns-clause-end : goal.returns-clause-end
+returns-clause-end g c = λ t u.
+    let first = c.new-first.ensures in
+    let second = c.new-second.ensures in
+    let e = c.in_ok-divergence.ensures in
+    let told = first.told ∙ t in
+    let tells = second.told ∙ u in
+    ends-diff c.args.options c.args.tail (g.R.Source.coming c.args.first) (g.R.Source.coming c.args.second)
+    (capture_feed c.new-first.result) (capture_feed c.new-second.result) (capture_feed c.part.new.first)
+    (capture_feed c.part.new.second) c.in_ok-divergence.divergence first.items second.items first.endings second.endings
+    (e.parts told tells) (e.ends_first told) (e.ends_second tells) c.cut_of.result c.cut_of-2.result c.cut_of.ensures
+    c.cut_of-2.ensures
+    c.in_ok-is_same.is_same c.in_ok-is_same.ensures.same

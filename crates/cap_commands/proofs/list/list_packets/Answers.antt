@@ -7,7 +7,7 @@ use Rattle.cap_source.proofs.Walking.{Walking-more, Prints-fault, Prints-end}
 use Rattle.cap_source.specs.inner.Walk.{GivesPacket, ShowsItem}
 use Rattle.cap_write.proofs.Peeking.{found-packet, found-item, found-end, found-fault, found-no-packet}
 use Rattle.cap_commands.proofs.Listing.{plan_of, plan_of-is, plan_of-next}
-use Rattle.cap_commands.specs.ClassText.{line_by}
+use Rattle.cap_commands.specs.ClassText.{packet_line_by}
 use Rattle.cap_commands.specs.ListText.{list_lines}
 use Rattle.cap_commands.proofs.list.list_packets.Goals as goal
 
@@ -15,7 +15,7 @@ pub returns-in_err-peek-clause-text : goal.returns-in_err-peek-clause-text
 returns-in_err-peek-clause-text g c = λ t w.
     let p = err_from_is_err_and c.from_residual.result c.from_residual.ensures.1 in
     let i = c.loop-feed.invariant.walk in
-    let line = line_by c.args.classed c.args.form c.args.most in
+    let line = packet_line_by c.args.classed c.args.form c.args.most in
     let n = c.loop-feed.number in
     let mid = g.F.PacketFeed.feed c.loop-feed.feed in
     let shown = g.F.PacketFeed.feed c.peek.new.self in
@@ -38,7 +38,7 @@ returns-in_err-put_packet-clause-text g c = λ t w.
     let shows : ShowsItem mid (Ok (Some meta)) shown =
     found-item mid shown meta (g.met.F.PacketFeed.lawful c.peek.new.self) (e.keeps.told (i.told t))
     (e.items (i.told t)) c.packet-packet.ensures.packet in
-    let line = line_by c.args.classed c.args.form c.args.most in
+    let line = packet_line_by c.args.classed c.args.form c.args.most in
     let written = line n meta c.frame.result.now in
     let written_is : written ≡ line n meta shown.frame = ap (line n meta) c.frame.ensures.frame in
     let behind = list_lines line (n + 1) (drop 1 mid.items) in
@@ -59,7 +59,7 @@ loop-feed-preserved g c =
     let meta = c.packet-packet.result.now in
     let f = c.in_ok-peek.ensures in
     let e = c.in_ok-put_packet.ensures in
-    let line = line_by c.args.classed c.args.form c.args.most in
+    let line = packet_line_by c.args.classed c.args.form c.args.most in
     let written = line n meta c.frame.result.now in
     let written_is : written ≡ line n meta shown.frame = ap (line n meta) c.frame.ensures.frame in
     let gives : GivesPacket mid (Ok (Some meta)) shown =
@@ -88,7 +88,7 @@ returns-clause-text g c = λ t w.
     let mid = g.F.PacketFeed.feed c.loop-feed.feed in
     let shown = g.F.PacketFeed.feed c.peek.new.self in
     let e = c.in_ok-peek.ensures in
-    let line = line_by c.args.classed c.args.form c.args.most in
+    let line = packet_line_by c.args.classed c.args.form c.args.most in
     Prints-end (plan_of line n) _ _ _ _ mid shown (plan_of-is line n) (i.text t) w (i.refusal_same t)
     (found-end mid shown (g.met.F.PacketFeed.lawful c.peek.new.self) (e.keeps.told (i.told t))
     (e.items (i.told t)) (rw c.if-branch.false at e.answer))
