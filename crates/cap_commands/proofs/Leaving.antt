@@ -25,7 +25,7 @@ use Rattle.std.proofs.lemmas.List.{length-map, take_more_set, drop-set-lt, drop-
 use Rattle.std.proofs.lemmas.List.FromFn.{length-range_with_len}
 use Rattle.cap_commands.specs.Converted.{convert_text, convert_refusal}
 use Rattle.cap_commands.specs.inner.FileText.{written_file_text, file_refusal}
-use Rattle.cap_talks.specs.talks.ReportText.{taken_after}
+use Rattle.cap_class.specs.Runs.{taken_after}
 use Rattle.cap_write.specs.LeftOut.{CountsLeftOut}
 use Rattle.cap_write.specs.declared.left_out.LeftOut.{LeftOut}
 use Rattle.cap_commands.specs.Left.{left_of_file, sum_of_files, skipped_in, named_in, rests_in}

@@ -6,7 +6,7 @@ use Rattle.cap_bytes.specs.declared.stops.CutRest.{CutRest}
 use Rattle.cap_merge.specs.Run.{Clocked}
 use Rattle.cap_source.specs.Feed.{Item}
 use Rattle.cap_source.specs.declared.feeds.FileEnd.{FileEnd}
-use Rattle.cap_talks.specs.talks.ReportText.{taken_after}
+use Rattle.cap_class.specs.Runs.{taken_after}
 use Rattle.cap_write.specs.LeftOut.{CountsLeftOut}
 use Rattle.cap_commands.specs.declared.diff.CutEnds.{CutEnds}
 use Rattle.cap_commands.specs.declared.left.DroppedInfo.{DroppedInfo}

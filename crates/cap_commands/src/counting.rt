@@ -19,7 +19,7 @@ ghost use Rattle.cap_commands.specs.inner.FileText.{written_file_text, file_refu
 ghost use Rattle.cap_commands.specs.JoinText.{join_text, join_text_in, join_refusal, join_refusal_in};
 ghost use Rattle.cap_commands.specs.Left.{left_of_file, LeavesOut, LeavesPackets};
 ghost use Rattle.cap_commands.specs.MergeText.{merge_text, merge_text_in, merge_refusal, merge_refusal_in};
-ghost use Rattle.cap_talks.specs.talks.ReportText.{taken_after};
+ghost use Rattle.cap_class.specs.Runs.{taken_after};
 ghost use Rattle.cap_write.specs.LeftOut.{CountsLeftOut};
 ghost use Rattle.cap_commands.specs.RunText.{datagrams_refusal, datagrams_text, packets_refusal, packets_text};
 

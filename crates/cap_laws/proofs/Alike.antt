@@ -14,9 +14,9 @@ use Rattle.cap_join.specs.declared.datagrams.Stamped.{Stamped}
 use Rattle.cap_merge.specs.inner.Clocks.{clock_total}
 use Rattle.cap_merge.specs.Run.{Clocked}
 use Rattle.cap_source.specs.Feed.{Item, packet, refused}
-use Rattle.cap_talks.specs.table.Classes.{classes, classes_in, groups_of}
+use Rattle.cap_class.specs.Classes.{classes, classes_in, groups_of}
 use Rattle.cap_talks.specs.table.CountedUnits.{first_unit, unit_by, unit_at, listed, counted_units}
-use Rattle.cap_talks.specs.talks.ReportText.{with_item, taken_after}
+use Rattle.cap_class.specs.Runs.{with_item, taken_after}
 use Rattle.cap_talks.specs.table.TakenText.{body_text, body_text_in, taken_bytes, truncated_of}
 use Rattle.cap_class.specs.Taken.{Taken, Classification, plain, datagram, fragment, classify, events_classified}
 use Rattle.cap_class.specs.Taken.{events_of}

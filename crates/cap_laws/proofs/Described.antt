@@ -4,7 +4,7 @@ use Rattle.cap_class.specs.Taken.{Taken}
 use Rattle.cap_laws.proofs.Sums.{lone-law}
 use Rattle.cap_laws.specs.Described.{DescribedAlone, DescribedTogether}
 use Rattle.cap_talks.proofs.Describing.{described-lone}
-use Rattle.cap_talks.specs.table.Classes.{lone_class}
+use Rattle.cap_class.specs.Classes.{lone_class}
 use Rattle.cap_talks.specs.table.Descriptions.{describe_of, described_class}
 
 pub described-alone : DescribedAlone

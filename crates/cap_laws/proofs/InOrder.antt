@@ -22,12 +22,13 @@ use Rattle.cap_join.specs.declared.datagrams.Stamped.{Stamped}
 use Rattle.cap_talks.specs.table.CountedUnits.{counted_in, first_unit, is_limit_by, limit_refusal, unit_at, unit_by}
 use Rattle.cap_talks.specs.table.CountedUnits.{counted_units}
 use Rattle.cap_talks.proofs.LoneFragments.{no-lone}
-use Rattle.cap_talks.proofs.Recount.{place_of}
-use Rattle.cap_talks.specs.table.Classes.{classes, classes_in}
+use Rattle.cap_class.proofs.Recount.{place_of}
+use Rattle.cap_class.specs.Classes.{classes, classes_in}
 use Rattle.cap_laws.specs.InOrder.{ByPlaces, IsByPlaces, ReportByPlaces, refusal_by_places, refusal_with}
 use Rattle.cap_laws.specs.InOrder.{text_by_places_in, unit_after, unit_by_places, units_at}
 use Rattle.cap_talks.specs.talks.InfoText.{or_else}
-use Rattle.cap_talks.specs.talks.ReportText.{refusal_after, refusal_here, with_item, taken_after}
+use Rattle.cap_class.specs.Runs.{with_item, taken_after}
+use Rattle.cap_talks.specs.talks.ReportText.{refusal_after, refusal_here}
 use Rattle.cap_class.specs.Taken.{Taken, events_classified, events_of, Classification, plain, datagram, fragment}
 use Rattle.cap_class.specs.Taken.{classify}
 use Rattle.cap_class.specs.Taken.{stamped_of}

@@ -13,7 +13,7 @@ use Rattle.cap_join.specs.Frames.{pieces_original, timed, earlier_stamped, later
 use Rattle.cap_join.specs.History.{Event}
 use Rattle.cap_join.specs.Holes.{is_within}
 use Rattle.cap_join.specs.declared.datagrams.Stamped.{Stamped}
-use Rattle.cap_talks.specs.table.Classes.{has_place}
+use Rattle.cap_class.specs.Classes.{has_place}
 
 -- ---- frames
 

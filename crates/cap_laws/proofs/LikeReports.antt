@@ -19,10 +19,12 @@ use Rattle.cap_link.specs.Seen.{Carried, ipv4, other_link, not_ipv4, short, cut 
 use Rattle.cap_source.specs.Times.{meta_time}
 use Rattle.cap_merge.specs.Run.{Clocked}
 use Rattle.cap_source.specs.Feed.{Item, packet, refused}
-use Rattle.cap_talks.specs.table.Classes.{class_by, class_in, class_of, classes, classes_in, counts_of, group_class}
-use Rattle.cap_talks.specs.table.Classes.{groups_of, has_place}
+use Rattle.cap_class.specs.Counting.{counts_of}
+use Rattle.cap_class.specs.Classes.{class_by, class_in, class_of, classes, classes_in, group_class}
+use Rattle.cap_class.specs.Classes.{groups_of, has_place}
 use Rattle.cap_talks.specs.table.CountedUnits.{unit_by, unit_at, listed, counted_units, is_limit_at, counted_in}
-use Rattle.cap_talks.specs.talks.ReportText.{with_item, taken_after, refusal_here}
+use Rattle.cap_class.specs.Runs.{with_item, taken_after}
+use Rattle.cap_talks.specs.talks.ReportText.{refusal_here}
 use Rattle.cap_talks.specs.table.TakenText.{body_text_in, taken_bytes, truncated_of, total_text, frames_text}
 use Rattle.cap_talks.specs.table.TakenText.{joined_text}
 use Rattle.cap_talks.specs.table.TalkLines.{talks_text}
@@ -136,7 +138,7 @@ classes-like xs ys h = classes-in (groups_of xs) (groups_of ys) xs ys (groups-li
 
 counted-like : (gs ks : List (List Piece)) → AllZip Like gs ks → counted_in gs ≡ counted_in ks
 counted-like (g ∷ gs) (k ∷ ks) h =
-    λ i. (if Rattle.cap_talks.specs.table.Classes.is_class class.Counted (group-class g k h.0 i) then 1 else 0) +
+    λ i. (if Rattle.cap_class.specs.Counting.is_class class.Counted (group-class g k h.0 i) then 1 else 0) +
     counted-like gs ks h.1 i
 counted-like gs ks h = grind arith
 

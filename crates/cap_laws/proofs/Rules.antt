@@ -3,7 +3,8 @@ use Rattle.std.proofs.Common.{arith, ◌≡◌, List, [], ◌∷◌, refl}
 use Rattle.std.specs.Option.{option_map}
 use Rattle.cap_merge.specs.Run.{Clocked}
 use Rattle.cap_source.specs.Feed.{Item}
-use Rattle.cap_talks.specs.talks.ReportText.{refusal_after, with_item}
+use Rattle.cap_class.specs.Runs.{with_item}
+use Rattle.cap_talks.specs.talks.ReportText.{refusal_after}
 use Rattle.cap_class.specs.Taken.{Taken}
 use Rattle.cap_laws.specs.Reports.{refused_after, RuleLaw}
 

@@ -40,7 +40,8 @@ use Rattle.cap_talks.specs.declared.table.units.CountedUnit.{CountedUnit}
 use Rattle.cap_talks.specs.declared.table.units.Endpoint.{Endpoint}
 use Rattle.cap_talks.specs.declared.table.units.TimedFrame.{TimedFrame}
 use Rattle.cap_talks.specs.table.CountedUnits.{counted_in, listed, timed_frame, unit_of, whole_unit}
-use Rattle.cap_talks.specs.table.Classes.{class_by, classes_in, is_class, lone_class, times}
+use Rattle.cap_class.specs.Counting.{is_class, times}
+use Rattle.cap_class.specs.Classes.{class_by, classes_in, lone_class}
 use Rattle.cap_talks.specs.table.Conversations.{by_time, by_time_down, earlier_frame, frame_time, frames_of}
 use Rattle.cap_talks.specs.table.Conversations.{greatest_frame}
 use Rattle.cap_talks.specs.table.Conversations.{is_forward, later_frame, least_frame, same_talk, talk_key}
@@ -51,7 +52,7 @@ use Rattle.cap_time.proofs.StampForms.{stamp_upto_trans, stamp_upto_turned}
 use Rattle.cap_time.specs.Stamp.{stamp_cmp}
 use Rattle.cap_time.specs.declared.stamps.Stamp.{Stamp}
 use Rattle.cap_source.specs.Times.{meta_time}
-use Rattle.cap_talks.specs.talks.ReportText.{taken_after, with_item}
+use Rattle.cap_class.specs.Runs.{taken_after, with_item}
 
 -- ---- what holds of packets that are no fragments
 

@@ -11,7 +11,7 @@ use Rattle.cap_merge.specs.inner.Lists.{all-front, all-back}
 use Rattle.cap_source.specs.Feed.{Item, packet, refused, refusal_of}
 use Rattle.cap_source.specs.Items.{file_items}
 use Rattle.cap_talks.specs.table.TakenText.{taken_bytes, truncated_of}
-use Rattle.cap_talks.specs.talks.ReportText.{taken_after, with_item}
+use Rattle.cap_class.specs.Runs.{taken_after, with_item}
 use Rattle.std.specs.Prelude.{nat_lt, if◌then◌else◌}
 use Rattle.cap_laws.proofs.FileNumbers.{file-numbered}
 use Rattle.cap_laws.proofs.MergeSorts.{NotRefused, whole-run}

@@ -18,7 +18,7 @@ use Rattle.cap_talks.specs.table.Conversations.{rows_of}
 use Rattle.cap_time.specs.Code.{units_of_code}
 use Rattle.cap_time.specs.Stamp.{stamp_cmp, stamp_in, stamp_plus}
 use Rattle.cap_time.specs.Time.{time_cmp, time_at, floor_of, remainder_of}
-use Rattle.cap_talks.specs.table.Classes.{classes, group_class}
+use Rattle.cap_class.specs.Classes.{classes, group_class}
 use Rattle.cap_join.specs.Completed.{completed_of}
 use Rattle.cap_talks.specs.table.TakenText.{body_text_in, files_part_in}
 use Rattle.cap_class.specs.Taken.{classify, events_of}

@@ -4,7 +4,7 @@ use Rattle.cap_class.specs.Taken.{Taken}
 use Rattle.cap_laws.specs.InOrder.{classes_at}
 use Rattle.cap_laws.specs.Sums.{parts_among}
 use Rattle.cap_source.specs.declared.packets.Meta.{Meta}
-use Rattle.cap_talks.specs.table.Classes.{lone_class}
+use Rattle.cap_class.specs.Classes.{lone_class}
 use Rattle.cap_talks.specs.table.Descriptions.{describe_of, described_class}
 
 -- It is the class that the packet has in a report over it alone.

@@ -10,9 +10,10 @@ use Rattle.cap_merge.specs.Files.{clocked_run}
 use Rattle.cap_merge.specs.Run.{Clocked}
 use Rattle.cap_source.specs.Feed.{Item}
 use Rattle.cap_source.specs.Items.{file_first, file_items}
-use Rattle.cap_talks.specs.table.Classes.{classes, counts_of}
+use Rattle.cap_class.specs.Counting.{counts_of}
+use Rattle.cap_class.specs.Classes.{classes}
 use Rattle.cap_talks.specs.table.CountedUnits.{counted_units, joined_in, given_up_in}
-use Rattle.cap_talks.specs.talks.ReportText.{taken_after}
+use Rattle.cap_class.specs.Runs.{taken_after}
 use Rattle.cap_talks.specs.table.TakenText.{body_text, taken_bytes, truncated_of, total_text, frames_text, joined_text}
 use Rattle.cap_talks.specs.table.TalkLines.{talk_texts, talks_text}
 use Rattle.cap_class.specs.Taken.{Taken}

@@ -17,10 +17,11 @@ use Rattle.cap_print.specs.declared.forms.Form.{Form}
 use Rattle.cap_source.specs.Feed.{Item, packet, refused}
 use Rattle.cap_source.specs.declared.feeds.FileEnd.{FileEnd}
 use Rattle.cap_class.specs.declared.classes.Class.{Class}
-use Rattle.cap_talks.specs.table.Classes.{classes, classes_in}
+use Rattle.cap_class.specs.Classes.{classes, classes_in}
 use Rattle.cap_join.specs.Completed.{completed_pieces_at, if_complete}
 use Rattle.cap_talks.specs.talks.InfoText.{or_else}
-use Rattle.cap_talks.specs.talks.ReportText.{report_refusal, report_text_in, taken_after, with_item}
+use Rattle.cap_class.specs.Runs.{taken_after, with_item}
+use Rattle.cap_talks.specs.talks.ReportText.{report_refusal, report_text_in}
 use Rattle.cap_class.specs.Taken.{Taken, events_of, Classification, plain, datagram, fragment, classify, stamped_of}
 use Rattle.cap_talks.specs.table.TakenText.{body_by_in, files_part_in}
 

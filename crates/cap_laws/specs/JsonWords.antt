@@ -19,7 +19,7 @@ use Rattle.cap_source.specs.declared.feeds.Ending.{Ending}
 use Rattle.cap_source.specs.declared.packets.Meta.{Meta}
 use Rattle.cap_talks.specs.counts.FileLines.{file_facts, files_facts}
 use Rattle.cap_talks.specs.declared.counts.counts.Counts.{Counts}
-use Rattle.cap_talks.specs.declared.table.classes.ClassCounts.{ClassCounts}
+use Rattle.cap_class.specs.declared.counts.ClassCounts.{ClassCounts}
 use Rattle.cap_talks.specs.declared.table.descriptions.Description.{Description}
 use Rattle.cap_talks.specs.declared.table.rows.TalkKey.{TalkKey}
 use Rattle.cap_talks.specs.declared.table.rows.TalkRow.{TalkRow}

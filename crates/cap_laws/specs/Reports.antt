@@ -10,7 +10,8 @@ use Rattle.cap_merge.specs.Files.{clocked_run, run_of_files}
 use Rattle.cap_merge.specs.Run.{Clocked}
 use Rattle.cap_source.specs.Feed.{Item}
 use Rattle.cap_source.specs.Items.{file_first, file_items}
-use Rattle.cap_talks.specs.talks.ReportText.{refusal_here, report_refusal, taken_after, with_item}
+use Rattle.cap_class.specs.Runs.{taken_after, with_item}
+use Rattle.cap_talks.specs.talks.ReportText.{refusal_here, report_refusal}
 use Rattle.cap_talks.specs.table.TakenText.{body_text}
 use Rattle.cap_class.specs.Taken.{Taken}
 use Rattle.cap_write.specs.Texts.{merged_bytes, merged_refusal, pcapng_bytes, pcapng_refusal}

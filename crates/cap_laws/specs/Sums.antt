@@ -14,10 +14,11 @@ use Rattle.cap_merge.specs.Files.{clocked_run, run_of_files}
 use Rattle.cap_source.specs.Feed.{refusal_of}
 use Rattle.cap_talks.specs.declared.table.rows.TalkKey.{TalkKey}
 use Rattle.cap_talks.specs.declared.table.rows.TalkRow.{TalkRow}
-use Rattle.cap_talks.specs.table.Classes.{lone_class, times}
+use Rattle.cap_class.specs.Counting.{times}
+use Rattle.cap_class.specs.Classes.{lone_class}
 use Rattle.cap_talks.specs.table.Conversations.{row_of, units_of_talk}
 use Rattle.cap_talks.specs.table.CountedUnits.{counted_in}
-use Rattle.cap_talks.specs.talks.ReportText.{taken_after}
+use Rattle.cap_class.specs.Runs.{taken_after}
 use Rattle.cap_time.specs.Stamp.{stamp_cmp}
 use Rattle.cap_time.specs.declared.stamps.Stamp.{Stamp}
 

@@ -6,7 +6,7 @@ use Rattle.cap_class.specs.Taken.{Taken}
 use Rattle.cap_merge.specs.Files.{clocked_run, run_of_files}
 use Rattle.cap_source.specs.Feed.{refusal_of}
 use Rattle.cap_talks.specs.table.TakenText.{taken_bytes, truncated_of}
-use Rattle.cap_talks.specs.talks.ReportText.{taken_after}
+use Rattle.cap_class.specs.Runs.{taken_after}
 
 -- The numbers of the line `total` over all packets, of packets, of bytes and of packets that were captured in part, are
 -- the sums of those over each list of packets.

@@ -6,7 +6,7 @@ use Rattle.cap_bytes.specs.declared.formats.Format.TheVariants.{Pcap}
 use Rattle.cap_source.specs.declared.packets.Meta.{Meta}
 use Rattle.cap_time.specs.Stamp.{stamp_in}
 use Rattle.cap_time.specs.declared.resolutions.Interface.{Interface}
-use Rattle.cap_talks.specs.table.Classes.{classes}
+use Rattle.cap_class.specs.Classes.{classes}
 use Rattle.cap_talks.specs.table.TakenText.{text_of}
 use Rattle.cap_class.specs.Taken.{Taken}
 use Rattle.cap_class.specs.declared.classes.Class.TheVariants.{Bad, Unjoined, Counted}

@@ -20,7 +20,7 @@ ghost use Rattle.cap_laws.specs.Runs.{MergedRun, PcapngRun};
 ghost use Rattle.cap_laws.specs.Sums.{LoneClasses, ReportSums};
 ghost use Rattle.cap_laws.specs.Totals.{ReportTotals};
 ghost use Rattle.cap_laws.specs.WorkedReport.{Overlapped, Tagged};
-ghost use Rattle.cap_talks.specs.table.Classes.{OneClass};
+ghost use Rattle.cap_class.specs.Counting.{OneClass};
 ghost use Rattle.cap_class.specs.Taken.{Taken};
 
 use crate::again::{merged_again, pcap_again, pcapng_again, rounds_law};

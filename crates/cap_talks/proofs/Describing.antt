@@ -14,7 +14,7 @@ use Rattle.cap_join.specs.declared.datagrams.Stamped.{Stamped}
 use Rattle.cap_link.specs.Links.{network_of, is_captured_whole}
 use Rattle.cap_link.specs.Seen.{Carried, ipv4, other_link, not_ipv4, short, cut as link_cut}
 use Rattle.cap_source.specs.declared.packets.Meta.{Meta}
-use Rattle.cap_talks.specs.table.Classes.{class_by, class_of, lone_class}
+use Rattle.cap_class.specs.Classes.{class_by, class_of, lone_class}
 use Rattle.cap_talks.specs.table.Descriptions.{describe_carried, describe_datagram, describe_endless, describe_found}
 use Rattle.cap_talks.specs.table.Descriptions.{describe_of, describe_read, described_class, talk_between}
 use Rattle.cap_talks.specs.table.Units.{ends_of}

@@ -9,9 +9,7 @@ use Rattle.cap_join.specs.ByteMap.{completes}
 use Rattle.cap_join.specs.Fragments.{Piece}
 use Rattle.cap_join.specs.inner.Groups.{IsDatagramOf}
 use Rattle.cap_join.specs.History.{Event, arrives, flushes, joined_pieces, open_groups_after}
-use Rattle.cap_join.specs.Joiners.{JoinerState, IsAnswer, open_limit}
-use Rattle.cap_join.specs.declared.datagrams.Put.{Put}
-use Rattle.cap_join.specs.declared.datagrams.Put.TheVariants as puts
+use Rattle.cap_join.specs.Joiners.{JoinerState, open_limit}
 use Rattle.cap_join.specs.Joiners as joiners
 use Rattle.cap_join.specs.declared.datagrams.Datagram.{Datagram}
 use Rattle.cap_join.specs.declared.datagrams.Stamped.{Stamped}
@@ -20,24 +18,27 @@ use Rattle.cap_talks.specs.table.Rows as talks
 use Rattle.cap_talks.specs.table.Conversations.{frames_of, units_bytes, talk_key, rows_of}
 use Rattle.cap_talks.specs.declared.table.units.CountedUnit.{CountedUnit}
 use Rattle.cap_talks.proofs.Frames.{frames-counted}
-use Rattle.cap_talks.proofs.Steps.{one-class}
+use Rattle.cap_class.proofs.Steps.{one-class}
 use Rattle.cap_talks.proofs.Tallying.{unit-waiting, enough-waiting, Stands-joined, state, unit-is, Stands-plain}
 use Rattle.cap_talks.proofs.Tallying.{Stands-datagram, Stands-kept, Stands-waiting}
-use Rattle.cap_talks.specs.inner.table.Adding.{datagram_unit, datagram_class, is_over}
+use Rattle.cap_class.specs.Classes.{datagram_class}
+use Rattle.cap_talks.specs.inner.table.Adding.{datagram_unit, is_over}
 use Rattle.cap_join.specs.Completed.{if_complete, completed_of}
-use Rattle.cap_talks.specs.table.Classes.{class_of, sum_of}
+use Rattle.cap_class.specs.Counting.{sum_of}
+use Rattle.cap_class.specs.Classes.{class_of}
 use Rattle.cap_talks.specs.inner.table.Looking.{is_plain}
 use Rattle.cap_class.specs.Taken.{Taken, plain, datagram, fragment, classify, stamped_of, events_of}
 use Rattle.std.specs.Prelude.{Err}
 use Rattle.cap_talks.specs.declared.table.conversations.ConversationsFault.{ConversationsFault}
 use Rattle.cap_talks.specs.inner.table.Tallies.{Joins, LimitBy, TallyState, TallyStands, IsSoundTally, WaitingFits}
 use Rattle.cap_talks.specs.inner.table.Tallies.{Looks, one_if_waiting}
-use Rattle.cap_talks.specs.inner.table.Tallies.{counted_one, with_frames, with_group}
+use Rattle.cap_class.specs.Counting.{with_frames, with_group}
+use Rattle.cap_talks.specs.inner.table.Tallies.{counted_one}
 use Rattle.cap_talks.specs.table.CountedUnits.{counted_in, first_unit, whole_unit, unit_at, listed, counted_units}
 use Rattle.cap_talks.specs.table.CountedUnits.{is_limit_at}
 use Rattle.cap_class.specs.declared.classes.Class.{Class}
 use Rattle.cap_class.specs.declared.classes.Class.TheVariants as class
-use Rattle.cap_talks.specs.declared.table.classes.ClassCounts.{ClassCounts}
+use Rattle.cap_class.specs.declared.counts.ClassCounts.{ClassCounts}
 
 -- no datagram waits: then it doesn't matter what comes next
 pub unwaited : (t : TallyState) (xs : List Taken) (old next : Option Taken) → t.waiting ≡ None → TallyStands t xs old
@@ -230,13 +231,6 @@ numbers-whole header captured s h = grind arith
 
 pub limit-by : (fault : ConversationsFault) (a b : Bool) → a ≡ b → LimitBy (Err fault) a → LimitBy (Err fault) b
 limit-by fault a b same h = subst (LimitBy (Err fault)) same h
-
-pub kept-of : (put : Put) (ps : List Piece) → put ≡ puts.Kept → IsAnswer put ps → completes ps ≡ false
-kept-of put ps is h = subst (λ (q : Put). IsAnswer q ps) is h
-
-pub joined-of : (put : Put) (d : Datagram) (ps : List Piece) → put ≡ puts.Joined d → IsAnswer put ps
-    → (completes ps ≡ true) × IsDatagramOf d ps
-joined-of put d ps is h = subst (λ (q : Put). IsAnswer q ps) is h
 
 -- ---- a datagram that waits
 

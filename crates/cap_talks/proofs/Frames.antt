@@ -10,9 +10,10 @@ use Rattle.cap_join.specs.Joiners.{open_limit}
 use Rattle.cap_join.specs.declared.datagrams.Stamped.{Stamped}
 use Rattle.cap_talks.specs.table.Conversations.{frames_of}
 use Rattle.cap_talks.specs.declared.table.units.CountedUnit.{CountedUnit}
-use Rattle.cap_talks.proofs.Recount.{some_of}
-use Rattle.cap_talks.proofs.Steps.{classes-plain, classes-datagram, classes-kept, classes-completed}
-use Rattle.cap_talks.specs.table.Classes.{class_of, classes, group_class, times}
+use Rattle.cap_class.proofs.Recount.{some_of}
+use Rattle.cap_class.proofs.Steps.{classes-plain, classes-datagram, classes-kept, classes-completed}
+use Rattle.cap_class.specs.Counting.{times}
+use Rattle.cap_class.specs.Classes.{class_of, classes, group_class}
 use Rattle.cap_class.specs.Taken.{Taken, Classification, plain, datagram, fragment, classify, events_of, stamped_of}
 use Rattle.cap_talks.specs.table.CountedUnits.{whole_unit, group_unit, first_unit, unit_by, unit_at, listed}
 use Rattle.cap_talks.specs.table.CountedUnits.{counted_units}

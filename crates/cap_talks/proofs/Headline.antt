@@ -20,7 +20,8 @@ use Rattle.cap_merge.specs.inner.Readers.{ReaderFacts, IsUnreadRun}
 use Rattle.cap_source.specs.Feed.{Feed}
 use Rattle.cap_source.specs.inner.Walk.{Walks}
 use Rattle.cap_talks.specs.inner.talks.Reporting.{TookAll, TakesAll, TellsReport}
-use Rattle.cap_talks.specs.talks.ReportText.{taken_after, report_text_in, report_refusal}
+use Rattle.cap_class.specs.Runs.{taken_after}
+use Rattle.cap_talks.specs.talks.ReportText.{report_text_in, report_refusal}
 use Rattle.cap_talks.specs.table.TakenText.{text_of_in}
 use Rattle.cap_talks.specs.inner.table.Stepping.{TableState, TableStands, endings_so_far}
 use Rattle.cap_class.specs.Taken.{Taken}

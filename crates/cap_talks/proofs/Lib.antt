@@ -11,8 +11,6 @@ pub mod SumLaws
 pub mod TalkPrinting
 pub mod RowOrder
 pub mod Packing
-pub mod Recount
-pub mod Steps
 pub mod Frames
 pub mod Tallying
 pub mod Exits

@@ -15,7 +15,8 @@ use Rattle.cap_source.specs.declared.feeds.Head.{Head}
 use Rattle.cap_source.specs.declared.feeds.Head.TheVariants as heads
 use Rattle.cap_time.specs.declared.stamps.Stamp.{Stamp}
 use Rattle.cap_talks.specs.table.CountedUnits.{limit_refusal}
-use Rattle.cap_talks.specs.talks.ReportText.{taken_after, refusal_after}
+use Rattle.cap_class.specs.Runs.{taken_after}
+use Rattle.cap_talks.specs.talks.ReportText.{refusal_after}
 use Rattle.cap_talks.specs.inner.talks.Reporting.{TookAll, TakesAll}
 use Rattle.cap_talks.specs.inner.table.Stepping.{clocked, next_by, KeepsNext, TableState, TableStands, StepKeeps}
 use Rattle.cap_talks.specs.inner.table.Stepping.{TableTakes}

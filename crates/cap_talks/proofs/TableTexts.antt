@@ -3,7 +3,8 @@ use Rattle.std.proofs.Common.{arith, ◌≡◌, ℕ, List, ◌++◌, length, Opt
 use Rattle.cap_print.specs.Facts.{line_in}
 use Rattle.cap_print.specs.declared.forms.Form.{Form}
 use Rattle.cap_source.specs.declared.feeds.FileEnd.{FileEnd}
-use Rattle.cap_talks.specs.table.Classes.{classes, counts_of}
+use Rattle.cap_class.specs.Counting.{counts_of}
+use Rattle.cap_class.specs.Classes.{classes}
 use Rattle.cap_talks.specs.table.CountedUnits.{counted_units, joined_in, given_up_in}
 use Rattle.cap_talks.specs.counts.FileLines.{files_facts}
 use Rattle.cap_talks.specs.counts.FileLines.{ended_from, counted_texts_in}

@@ -4,7 +4,6 @@ use Rattle.std.proofs.Common.{subst, arith, Option, Some, None}
 use Rattle.std.specs.Prelude.{if◌then◌else◌}
 use Rattle.cap_ip.specs.Header.{HeaderFields}
 use Rattle.cap_ip.specs.Transport.{transport_of}
-use Rattle.cap_ip.specs.declared.transports.Transport.{Transport}
 use Rattle.cap_join.specs.ByteMap.{completes}
 use Rattle.cap_join.specs.Fragments.{Piece}
 use Rattle.cap_join.specs.inner.Groups.{IsDatagramOf}
@@ -14,28 +13,24 @@ use Rattle.cap_join.specs.Joiners as joiners
 use Rattle.cap_join.specs.declared.datagrams.Datagram.{Datagram}
 use Rattle.cap_talks.specs.table.Rows.{TalksState, is_refused, talk_limit}
 use Rattle.cap_talks.specs.table.Rows as talks
-use Rattle.cap_talks.proofs.Recount.{some_of}
-use Rattle.cap_talks.proofs.Steps.{classes-plain, classes-datagram, classes-kept, classes-completed}
-use Rattle.cap_talks.specs.inner.table.Adding.{datagram_unit, datagram_class}
-use Rattle.cap_talks.specs.table.Classes.{class_of, classes, counts_of, group_class, groups_of, joined_transport, times}
+use Rattle.cap_class.proofs.Moves.{Moves, class-of-group, counts-more, counts-moved, enough, events-are}
+use Rattle.cap_class.proofs.Steps.{classes-plain, classes-datagram, classes-kept, classes-completed}
+use Rattle.cap_class.specs.Classes.{class_of, classes, datagram_class, group_class, groups_of}
+use Rattle.cap_talks.specs.inner.table.Adding.{datagram_unit}
 use Rattle.cap_join.specs.Completed.{completed_of}
 use Rattle.cap_class.specs.Taken.{Taken, Classification, plain, datagram, fragment, classify, stamped_of}
 use Rattle.cap_class.specs.Taken.{events_classified}
 use Rattle.cap_class.specs.Taken.{events_of}
-use Rattle.cap_talks.specs.inner.table.Tallies.{TallyState, TallyStands, counted_one, with_frames, with_group}
+use Rattle.cap_class.specs.Counting.{counts_of, with_frames, with_group}
+use Rattle.cap_talks.specs.inner.table.Tallies.{TallyState, TallyStands, counted_one}
 use Rattle.cap_talks.specs.table.CountedUnits.{whole_unit, group_unit, first_unit, unit_by, unit_at, listed}
 use Rattle.cap_talks.specs.table.CountedUnits.{counted_units}
 use Rattle.cap_talks.specs.table.CountedUnits.{counted_in, joined_in}
 use Rattle.cap_class.specs.declared.classes.Class.{Class}
 use Rattle.cap_class.specs.declared.classes.Class.TheVariants as class
-use Rattle.cap_talks.specs.declared.table.classes.ClassCounts.{ClassCounts}
+use Rattle.cap_class.specs.declared.counts.ClassCounts.{ClassCounts}
 
 -- ---- by what a packet is
-
-pub events-are : (x : Taken) (xs : List Taken) (l : Classification) → classify (length xs) x ≡ l
-    → events_of (x ∷ xs) ≡ events_classified l x.clock (events_of xs)
-unfolding events_of
-events-are x xs l is = ap (λ (k : Classification). events_classified k x.clock (events_of xs)) is
 
 pub unit-is : (x : Taken) (xs : List Taken) (l : Classification) → classify (length xs) x ≡ l
     → unit_at xs x ≡ unit_by l (stamped_of (length xs) x.meta) x.clock (events_of xs)
@@ -53,31 +48,6 @@ joined-is x xs l is = ap (λ es. counted_in (completed_of open_limit es)) (event
 append-none : {A : Type 0} (xs : List A) → xs ++ [] ≡ xs
 append-none [] = refl
 append-none (x ∷ xs) = ap (λ l. x ∷ l) (append-none xs)
-
--- ---- counts
-
-pub counts-more : (c : Class) (cs : List Class) → counts_of (c ∷ cs) ≡ with_frames c 1 (counts_of cs)
-counts-more c cs = grind arith
-
--- what holds if a group of that many is completed
-abbrev pub Moves : Class → ℕ → List Class → List Class → Type 0
-Moves k n new old = (c : Class) → times c new + some_of c class.Unjoined n
-    ≡ times c (class.Unjoined ∷ old) + some_of c k n
-
-moved_by : (t : Transport) (n : ℕ) (new old : List Class) → Moves (class_of t) n new old
-    → counts_of new ≡ with_group (class_of t) n (counts_of old)
-moved_by t n new old h = grind arith
-
-pub counts-moved : (ps : List Piece) (n : ℕ) (new old : List Class) → Moves (group_class ps) n new old
-    → counts_of new ≡ with_group (group_class ps) n (counts_of old)
-unfolding group_class
-counts-moved ps n new old h = moved_by (joined_transport ps) n new old h
-
--- fragments are unjoined before they are moved
-pub enough : (ps : List Piece) (n : ℕ) (new old : List Class) → Moves (group_class ps) n new old
-    → n ≤ times class.Unjoined old + 1
-unfolding group_class
-enough ps n new old h = grind arith
 
 -- ---- the state
 
@@ -185,10 +155,6 @@ module _ (place joined : ℕ) (counts : ClassCounts) (t : TalksState) (j : Joine
 pub unit-of-group : (ps : List Piece) (d : Datagram) → IsDatagramOf d ps → group_unit ps ≡ datagram_unit d
 unfolding group_unit datagram_unit
 unit-of-group ps d is = cc
-
-pub class-of-group : (ps : List Piece) (d : Datagram) → IsDatagramOf d ps → group_class ps ≡ datagram_class d
-unfolding group_class datagram_class
-class-of-group ps d is = cc
 
 module _ (place joined : ℕ) (counts : ClassCounts) (t : TalksState) (j : JoinerState) (d : Datagram) (xs : List Taken)
     (next : Option Taken)

@@ -2,7 +2,6 @@ pub mod Conversations
 pub mod Units
 pub mod Rows
 pub mod TalkLines
-pub mod Classes
 pub mod CountedUnits
 pub mod TakenText
 pub mod Descriptions

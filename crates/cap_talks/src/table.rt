@@ -2,7 +2,6 @@
 //! the row of each conversation; and the lines of files that were counted.
 
 mod adding;
-mod classes;
 mod conversations;
 mod descriptions;
 mod keys;
@@ -15,8 +14,6 @@ mod tallies;
 mod totals;
 mod units;
 
-pub use crate::table::adding::{class_of, joined_class};
-pub use crate::table::classes::{ClassCounts, NO_PACKETS, packet_class, with_frames, with_group};
 pub use crate::table::descriptions::{Description, describe, put_description};
 pub use crate::table::laws::talk_laws;
 pub use crate::table::rows::{TalkKey, TalkRow};

@@ -1,13 +1,13 @@
 //! The class of a packet in a report of it alone, and what it is by itself.
 use crate::checks::same;
-use cap_class::Class;
+use cap_class::{Class, packet_class};
 use cap_layer_tests::frames::{
     COOKED_2_FRAME, COOKED_FRAME, FRAGMENT, IPV6_FRAME, PACKET, TAG_FRAME,
 };
 use cap_layer_tests::packets::meta_of;
 use cap_print::{Form, Line};
 use cap_source::Meta;
-use cap_talks::{describe, packet_class, put_description};
+use cap_talks::{describe, put_description};
 use std::process::Abort;
 
 // A link type, how many bytes of which frame, its original length, and its class in a report of it alone.

@@ -1,7 +1,7 @@
 -- The line that tells which packets are left out, as it is put.
 use Rattle.std.proofs.Common.{◌≡◌, ℕ, ◌+◌, Bool, false, List, [], ◌++◌, sym, ap, ◌∙◌, append_assoc, arith}
 use Rattle.std.specs.Prelude.{◌==◌, codes, if◌then◌else◌}
-use Rattle.cap_talks.specs.declared.table.classes.ClassCounts.{ClassCounts}
+use Rattle.cap_class.specs.declared.counts.ClassCounts.{ClassCounts}
 use Rattle.cap_tool.specs.LeftOutLine.{class_text, classes_text, headline_text, packets_left_out, left_packets_text}
 use Rattle.cap_tool.specs.LeftOutLine.{unjoined_and_before}
 use Rattle.cap_write.specs.declared.left_out.LeftOut.{LeftOut}

@@ -1,7 +1,7 @@
 -- The line that tells which packets `join` leaves out.
 use Rattle.std.specs.Prelude.{ℕ, ◌+◌, ◌==◌, List, [], ◌++◌, codes, decimal, Option, Some, None, if◌then◌else◌}
 use Rattle.cap_commands.specs.declared.left.DroppedInfo.{DroppedInfo}
-use Rattle.cap_talks.specs.declared.table.classes.ClassCounts.{ClassCounts}
+use Rattle.cap_class.specs.declared.counts.ClassCounts.{ClassCounts}
 use Rattle.cap_tool.specs.declared.outcomes.Outcome.{Outcome}
 use Rattle.cap_tool.specs.declared.outcomes.Outcome.TheVariants as outcomes
 use Rattle.cap_write.specs.declared.left_out.LeftOut.{LeftOut}

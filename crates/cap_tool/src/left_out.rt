@@ -5,9 +5,9 @@ ghost use Rattle.cap_tool.specs.LeftOutLine.{class_text, classes_text, left_out_
 ghost use Rattle.cap_tool.specs.LeftOutLine.{headline_text, unjoined_and_before};
 
 use crate::outcomes::Outcome;
+use cap_class::ClassCounts;
 use cap_commands::DroppedInfo;
 use cap_print::Line;
-use cap_talks::ClassCounts;
 use cap_write::LeftOut;
 
 // Puts the name of a class and its count before what was put, unless the count is 0. The classes before it, which are

@@ -1,7 +1,7 @@
 //! The lines that tell what a command left out.
 use cap_bytes::{Fault, Refusal, Rule};
 use cap_line::LineFault;
-use cap_talks::ClassCounts;
+use cap_class::ClassCounts;
 use cap_tool::{DroppedInfo, Outcome, left_lines, left_out_line};
 use cap_write::LeftOut;
 use std::process::Abort;

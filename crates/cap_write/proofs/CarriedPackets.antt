@@ -15,8 +15,9 @@ use Rattle.cap_join.specs.ByteMap.{completes, joined_header, joined_data}
 use Rattle.cap_join.specs.Fragments.{Piece}
 use Rattle.cap_join.specs.declared.datagrams.Stamped.{Stamped}
 use Rattle.cap_link.specs.Seen.{Carried, ipv4, other_link, not_ipv4, short, cut as link_cut}
-use Rattle.cap_talks.proofs.Steps.{classes-plain, classes-datagram, classes-kept, classes-completed}
-use Rattle.cap_talks.specs.table.Classes.{class_of, classes, group_class, is_class, times}
+use Rattle.cap_class.proofs.Steps.{classes-plain, classes-datagram, classes-kept, classes-completed}
+use Rattle.cap_class.specs.Counting.{is_class, times}
+use Rattle.cap_class.specs.Classes.{class_of, classes, group_class}
 use Rattle.cap_write.specs.Joined.{complete_of, completed, datagram_of, group_after, has_form, joined_of}
 use Rattle.cap_write.specs.LeftOut.{LeftOutLaw, carried_in, is_truncated, left_out_of, packets_carried, truncated_in}
 

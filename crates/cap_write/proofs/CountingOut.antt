@@ -9,7 +9,7 @@ use Rattle.cap_merge.specs.Run.{Clocked}
 use Rattle.cap_source.specs.Feed.{Feed, Item, packet}
 use Rattle.cap_source.specs.inner.Walk.{ShowsItem}
 use Rattle.cap_source.specs.declared.packets.Meta.{Meta}
-use Rattle.cap_talks.specs.talks.ReportText.{taken_after}
+use Rattle.cap_class.specs.Runs.{taken_after}
 use Rattle.cap_time.specs.declared.stamps.Stamp.{Stamp}
 use Rattle.cap_write.proofs.Joining.{run-first}
 use Rattle.cap_write.specs.LeftOut.{CountsLeftOut}

@@ -18,11 +18,12 @@ use Rattle.cap_join.specs.declared.datagrams.Datagram.{Datagram}
 use Rattle.cap_join.specs.declared.datagrams.Put.{Put}
 use Rattle.cap_join.specs.declared.datagrams.Put.TheVariants as puts
 use Rattle.cap_join.specs.declared.datagrams.Stamped.{Stamped}
-use Rattle.cap_talks.proofs.Exits.{kept-of, joined-of}
-use Rattle.cap_talks.proofs.Steps.{classes-plain, classes-datagram, classes-kept, classes-completed, one-class}
-use Rattle.cap_talks.proofs.Tallying.{events-are, counts-more, counts-moved, enough, class-of-group}
-use Rattle.cap_talks.specs.inner.table.Tallies.{with_frames, with_group}
-use Rattle.cap_talks.specs.table.Classes.{class_of, classes, counts_of, sum_of}
+use Rattle.cap_class.proofs.Moves.{kept-of, joined-of}
+use Rattle.cap_class.proofs.Steps.{classes-plain, classes-datagram, classes-kept, classes-completed, one-class}
+use Rattle.cap_class.proofs.Moves.{events-are, counts-more, counts-moved, enough, class-of-group}
+use Rattle.cap_class.specs.Counting.{with_frames, with_group}
+use Rattle.cap_class.specs.Counting.{counts_of, sum_of}
+use Rattle.cap_class.specs.Classes.{class_of, classes}
 use Rattle.cap_write.specs.LeftOut.{CountsLeftOut, is_truncated, left_out_of, truncated_in}
 use Rattle.cap_write.specs.inner.LeftCounts.{HasRoom, MovesFew, StandsForTaken, with_class, with_datagram, with_joined}
 use Rattle.cap_write.specs.declared.left_out.LeftOut.{LeftOut}

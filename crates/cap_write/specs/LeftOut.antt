@@ -5,7 +5,8 @@ use Rattle.cap_class.specs.Taken.{Taken, Classification, plain, datagram, fragme
 use Rattle.cap_class.specs.declared.classes.Class.TheVariants as class
 use Rattle.cap_ip.specs.Transport.{transport_of}
 use Rattle.cap_join.specs.Fragments.{Piece}
-use Rattle.cap_talks.specs.table.Classes.{class_of, classes, counts_of, is_class}
+use Rattle.cap_class.specs.Counting.{counts_of, is_class}
+use Rattle.cap_class.specs.Classes.{class_of, classes}
 use Rattle.cap_write.specs.Joined.{completed, group_after}
 use Rattle.cap_write.specs.declared.left_out.LeftOut.{LeftOut}
 

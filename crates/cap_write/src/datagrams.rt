@@ -8,7 +8,7 @@ ghost use Rattle.cap_ip.specs.Written.{ipv4_header_bytes};
 ghost use Rattle.cap_join.specs.Fragments.{piece_of};
 ghost use Rattle.cap_join.specs.History.{Event, arrives};
 ghost use Rattle.cap_join.specs.Joiners.{JoinerStandsFor};
-ghost use Rattle.cap_talks.specs.inner.table.Looking.{taken_of};
+ghost use Rattle.cap_class.specs.Runs.{taken_of};
 ghost use Rattle.cap_write.specs.inner.Datagrams.{IsFilled, JoinerStands};
 ghost use Rattle.cap_write.specs.inner.LeftCounts.{StandsForTaken};
 ghost use Rattle.cap_write.specs.inner.RunPackets.{completed_by, events_behind};

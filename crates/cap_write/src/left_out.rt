@@ -1,14 +1,13 @@
 //! The packets of a run that are in no written datagram, counted by their class.
 ghost use Rattle.std.specs.Prelude.{◌≡◌, ◌+◌, ◌≤◌, ◌<◌, ◌^◌, IfSome, length};
-ghost use Rattle.cap_talks.specs.table.Classes.{sum_of};
+ghost use Rattle.cap_class.specs.Counting.{sum_of};
 ghost use Rattle.cap_write.specs.inner.LeftCounts.{HasRoom, MovesFew, truncated_one, with_class};
 ghost use Rattle.cap_write.specs.inner.LeftCounts.{with_datagram, with_joined};
 ghost use Rattle.std.specs.Option.{option_map};
 
-use cap_class::Class;
+use cap_class::{Class, ClassCounts, NO_PACKETS, class_of, joined_class, with_frames, with_group};
 use cap_ip::{Header, transport};
 use cap_join::Datagram;
-use cap_talks::{ClassCounts, NO_PACKETS, class_of, joined_class, with_frames, with_group};
 
 /// How many packets of a run `join` leaves out, by their class in a report of the run.
 #[derive(Clone, Copy, Debug, PartialEq, Eq)]

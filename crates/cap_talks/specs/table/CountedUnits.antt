@@ -21,7 +21,8 @@ use Rattle.cap_talks.specs.declared.table.units.CountedUnit.{CountedUnit}
 use Rattle.cap_talks.specs.declared.table.units.Endpoint.{Endpoint}
 use Rattle.cap_talks.specs.declared.table.units.TimedFrame.{TimedFrame}
 use Rattle.cap_time.specs.declared.stamps.Stamp.{Stamp}
-use Rattle.cap_talks.specs.table.Classes.{group_class, groups_of, is_class}
+use Rattle.cap_class.specs.Counting.{is_class}
+use Rattle.cap_class.specs.Classes.{group_class, groups_of}
 use Rattle.cap_join.specs.Completed.{if_complete}
 use Rattle.cap_class.specs.Taken.{Taken, Classification, plain, datagram, fragment, classify, events_of, stamped_of}
 use Rattle.cap_class.specs.declared.classes.Class.TheVariants as class

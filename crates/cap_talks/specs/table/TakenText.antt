@@ -10,11 +10,12 @@ use Rattle.cap_talks.specs.counts.Counting.{counted}
 use Rattle.cap_talks.specs.counts.FileLines.{file_facts, files_facts, ending_at}
 use Rattle.cap_talks.specs.table.TalkLines.{talk_texts_in, talks_facts}
 use Rattle.cap_talks.specs.table.Conversations.{rows_of}
-use Rattle.cap_talks.specs.table.Classes.{classes, counts_of}
+use Rattle.cap_class.specs.Counting.{counts_of}
+use Rattle.cap_class.specs.Classes.{classes}
 use Rattle.cap_class.specs.Taken.{Taken}
 use Rattle.cap_talks.specs.table.CountedUnits.{counted_units, joined_in, given_up_in}
 use Rattle.cap_class.specs.declared.classes.Class.{Class}
-use Rattle.cap_talks.specs.declared.table.classes.ClassCounts.{ClassCounts}
+use Rattle.cap_class.specs.declared.counts.ClassCounts.{ClassCounts}
 use Rattle.cap_talks.specs.declared.table.units.CountedUnit.{CountedUnit}
 
 -- what is known of the packets of one file, in their order

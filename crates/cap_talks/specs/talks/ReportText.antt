@@ -7,19 +7,11 @@ use Rattle.cap_print.specs.declared.forms.Form.TheVariants.{Text}
 use Rattle.cap_source.specs.Feed.{Item, packet, refused}
 use Rattle.cap_source.specs.declared.feeds.FileEnd.{FileEnd}
 use Rattle.cap_time.specs.declared.stamps.Stamp.{Stamp}
+use Rattle.cap_class.specs.Runs.{taken_after, with_item}
 use Rattle.cap_class.specs.Taken.{Taken}
 use Rattle.cap_talks.specs.table.CountedUnits.{is_limit_at, limit_refusal}
 use Rattle.cap_talks.specs.table.TakenText.{text_of_in}
 use Rattle.cap_talks.specs.talks.InfoText.{or_else}
-
--- the packets of a run after those that were taken
-abbrev pub with_item : Option Stamp → Item → List Taken → List Taken
-with_item clock (packet meta frame) xs = record { clock = clock; meta = meta; frame = frame } ∷ xs
-with_item clock (refused refusal) xs = xs
-
-unfoldable pub taken_after : List Taken → List (Clocked Item) → List Taken
-taken_after xs [] = xs
-taken_after xs (x ∷ run) = taken_after (with_item x.clock x.item xs) run
 
 -- the refusal of a packet that would open a conversation too many, and the one that ends a run
 abbrev pub refusal_here : List Taken → Option Stamp → Item → Option Refusal

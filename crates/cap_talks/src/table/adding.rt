@@ -4,14 +4,12 @@ ghost use Rattle.cap_ip.specs.Transport.{transport_of};
 ghost use Rattle.cap_talks.specs.table.Rows.{TalksStandFor, IsUnitInOrder, frames_in, bytes_in};
 ghost use Rattle.cap_talks.specs.table.Conversations.{frames_of, units_bytes};
 ghost use Rattle.cap_talks.specs.declared.table.units.CountedUnit.{CountedUnit};
-ghost use Rattle.cap_talks.specs.inner.table.Adding.{datagram_unit, datagram_class, is_over};
-ghost use Rattle.cap_talks.specs.table.Classes.{class_of};
+ghost use Rattle.cap_talks.specs.inner.table.Adding.{datagram_unit, is_over};
 ghost use Rattle.cap_talks.specs.inner.table.Tallies.{LimitBy};
 ghost use Rattle.cap_talks.specs.table.CountedUnits.{listed, timed_frame, whole_unit};
 
 use crate::table::conversations::{Conversations, ConversationsFault};
 use crate::table::units::{CountedUnit, TimedFrame, ends_of};
-use cap_class::Class;
 use cap_ip::{Header, Transport, transport};
 use cap_join::{Datagram, Stamped};
 
@@ -24,18 +22,6 @@ fn timed_frame(frame: Option<Stamped>) -> Option<TimedFrame>
         time: frame.time?,
         place: frame.place,
     })
-}
-
-/// A datagram's class, by what its data says of its ports: `Counted` if it has them, or its protocol has none.
-pub fn class_of(transport: Transport) -> Class
-    ensures { result ≡ class_of transport }
-{
-    match transport {
-        Transport::Ports(_, _) => Class::Counted,
-        Transport::NoPorts => Class::Counted,
-        Transport::Bad => Class::Bad,
-        Transport::Cut => Class::Cut,
-    }
 }
 
 /// The unit that a whole datagram is, of which some data was captured.
@@ -81,16 +67,6 @@ pub(crate) fn joined_unit(datagram: &Datagram) -> Option<CountedUnit>
         first: timed_frame(datagram.first),
         last: timed_frame(datagram.last),
     })
-}
-
-/// The class of a joined datagram's frames.
-#[tactic(auto, unfolding(crate::specs::inner::table::Adding::datagram_class))]
-pub fn joined_class(datagram: &Datagram) -> Class
-    requires short { length datagram.now.payload.items ≤ 65520 }
-    ensures { result ≡ datagram_class datagram.now }
-{
-    let bytes = datagram.payload.as_slice();
-    class_of(transport(datagram.header.key().protocol, bytes, bytes.len() as u32))
 }
 
 /// Adds a unit to the conversations, if there is one.

@@ -4,7 +4,7 @@ ghost use Rattle.cap_ip.specs.Read.{read_of};
 ghost use Rattle.cap_ip.specs.Reasons.{header_reason};
 ghost use Rattle.cap_print.specs.Facts.{fields_in};
 ghost use Rattle.cap_print.specs.Lines.{room_in, text_in};
-ghost use Rattle.cap_talks.specs.table.Classes.{lone_class};
+ghost use Rattle.cap_class.specs.Classes.{lone_class};
 ghost use Rattle.cap_talks.specs.table.Descriptions.{class_field, describe_datagram, describe_endless, describe_of};
 ghost use Rattle.cap_talks.specs.table.Descriptions.{describe_read, described_class, description_fields, reason_field};
 ghost use Rattle.cap_talks.specs.table.Descriptions.{talk_between};

@@ -4,7 +4,7 @@ ghost use Rattle.cap_print.specs.Facts.{line_in};
 ghost use Rattle.cap_print.specs.Lines.{text_in};
 ghost use Rattle.cap_talks.specs.table.TakenText.{total_facts, frames_facts, joined_facts};
 
-use crate::table::classes::ClassCounts;
+use cap_class::ClassCounts;
 use cap_print::{Form, Line};
 
 /// The line of the totals: in text `total packets P bytes B truncated Q`.

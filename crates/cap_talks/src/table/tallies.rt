@@ -6,7 +6,8 @@ ghost use Rattle.cap_bytes.specs.Device.{WriterKeeps, writer_of};
 ghost use Rattle.cap_bytes.specs.Printing.{Prints, is_write};
 ghost use Rattle.cap_join.specs.Fragments.{piece_of};
 ghost use Rattle.cap_join.specs.Joiners.{most_bytes};
-ghost use Rattle.cap_talks.specs.inner.table.Looking.{is_plain, taken_of};
+ghost use Rattle.cap_class.specs.Runs.{taken_of};
+ghost use Rattle.cap_talks.specs.inner.table.Looking.{is_plain};
 ghost use Rattle.cap_print.specs.Facts.{line_in};
 ghost use Rattle.cap_talks.specs.table.TakenText.{frames_facts, joined_facts};
 ghost use Rattle.cap_class.specs.Taken.{Taken, datagram, fragment, classify, plain, stamped_of};
@@ -18,13 +19,15 @@ ghost use Rattle.cap_source.specs.Times.{meta_time};
 ghost use Rattle.cap_talks.specs.declared.table.conversations.ConversationsFault.TheVariants.{Memory};
 ghost use Rattle.cap_talks.specs.table.CountedUnits.{is_limit_at};
 
-use crate::table::adding::{add_unit, class_of, joined_class, joined_unit, whole_unit};
-use crate::table::classes::{ClassCounts, NO_PACKETS, count_frames, with_frames, with_group};
+use crate::table::adding::{add_unit, joined_unit, whole_unit};
 use crate::table::conversations::{Conversations, ConversationsFault};
 use crate::table::report_lines::{frames_line, joined_line};
 use crate::table::talk_lines::put_talks;
 use cap_bytes::{Fault, Sink, put_all};
-use cap_class::{Class, Classified, classify, stamped_of};
+use cap_class::{
+    Class, ClassCounts, Classified, NO_PACKETS, class_of, classify, count_frames, joined_class,
+    stamped_of, with_frames, with_group,
+};
 use cap_ip::{Header, transport};
 use cap_join::{Datagram, Joiner, Put, Stamped};
 use cap_merge::RunPacket;

@@ -7,9 +7,10 @@ use Rattle.cap_ip.specs.Header.{HeaderFields}
 use Rattle.cap_ip.specs.Transport.{transport_of}
 use Rattle.cap_join.specs.Joiners.{JoinerState, JoinerStandsFor}
 use Rattle.cap_join.specs.declared.datagrams.Datagram.{Datagram}
-use Rattle.cap_talks.specs.inner.table.Adding.{datagram_class}
-use Rattle.cap_talks.specs.inner.table.Tallies.{with_frames, with_group}
-use Rattle.cap_talks.specs.table.Classes.{class_of, is_class, sum_of}
+use Rattle.cap_class.specs.Classes.{datagram_class}
+use Rattle.cap_class.specs.Counting.{with_frames, with_group}
+use Rattle.cap_class.specs.Counting.{is_class, sum_of}
+use Rattle.cap_class.specs.Classes.{class_of}
 use Rattle.cap_write.specs.LeftOut.{CountsLeftOut}
 use Rattle.cap_write.specs.declared.left_out.LeftOut.{LeftOut}
 

@@ -1,5 +1,5 @@
 use Rattle.std.proofs.Common.{refl}
-use Rattle.cap_talks.specs.table.Classes.{classes}
+use Rattle.cap_class.specs.Classes.{classes}
 use Rattle.cap_write.specs.LeftOut.{left_out_of}
 use Rattle.cap_commands.proofs.counting.no_packets_if.Goals as goal
 

@@ -1,4 +1,4 @@
-use Rattle.cap_talks.proofs.Steps.{one-class}
+use Rattle.cap_class.proofs.Steps.{one-class}
 use Rattle.cap_laws.proofs.laws.one_class.Goals as goal
 
 pub returns : goal.returns

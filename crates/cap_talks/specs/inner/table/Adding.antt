@@ -7,19 +7,14 @@ use Rattle.cap_talks.specs.table.Rows.{is_refused, talk_limit}
 use Rattle.cap_talks.specs.table.Conversations.{Conversation, talk_key}
 use Rattle.cap_talks.specs.table.Units.{ends_of}
 use Rattle.cap_talks.specs.declared.table.units.CountedUnit.{CountedUnit}
-use Rattle.cap_talks.specs.table.Classes.{class_of}
 use Rattle.cap_talks.specs.table.CountedUnits.{timed_frame, unit_of}
-use Rattle.cap_class.specs.declared.classes.Class.{Class}
 
--- the unit that a joined datagram is, and its class
+-- the unit that a joined datagram is
 unfoldable pub datagram_unit : Datagram → Option CountedUnit
 datagram_unit d =
     option_map (unit_of d.header.key.protocol d.frames d.bytes (timed_frame d.first) (timed_frame d.last))
     (ends_of d.header.key.source d.header.key.destination
     (transport_of d.header.key.protocol d.payload.items (length d.payload.items)))
-
-unfoldable pub datagram_class : Datagram → Class
-datagram_class d = class_of (transport_of d.header.key.protocol d.payload.items (length d.payload.items))
 
 -- its conversation is one too many
 abbrev pub is_over : List Conversation → Option CountedUnit → Bool

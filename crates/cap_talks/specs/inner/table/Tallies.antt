@@ -13,14 +13,15 @@ use Rattle.cap_print.specs.Facts.{line_in}
 use Rattle.cap_print.specs.declared.forms.Form.{Form}
 use Rattle.cap_talks.specs.table.Rows.{TalksState, frames_in, bytes_in}
 use Rattle.cap_talks.specs.table.Rows as talks
-use Rattle.cap_talks.specs.table.Classes.{classes, counts_of, is_class}
+use Rattle.cap_class.specs.Classes.{classes}
+use Rattle.cap_class.specs.Counting.{counts_of, is_class}
 use Rattle.cap_talks.specs.table.TakenText.{frames_facts, joined_facts}
 use Rattle.cap_talks.specs.table.TalkLines.{talk_texts_in, talks_facts}
 use Rattle.cap_class.specs.Taken.{Taken, fragment, classify, events_of}
 use Rattle.cap_talks.specs.table.CountedUnits.{counted_units, joined_in, is_limit_at}
 use Rattle.cap_class.specs.declared.classes.Class.{Class}
 use Rattle.cap_class.specs.declared.classes.Class.TheVariants as class
-use Rattle.cap_talks.specs.declared.table.classes.ClassCounts.{ClassCounts}
+use Rattle.cap_class.specs.declared.counts.ClassCounts.{ClassCounts}
 use Rattle.cap_talks.specs.declared.table.conversations.ConversationsFault.{ConversationsFault}
 use Rattle.cap_talks.specs.declared.table.conversations.ConversationsFault.TheVariants as faults
 
@@ -85,21 +86,6 @@ unfoldable pub tally_text_in : Form → TallyState → List ℕ
 tally_text_in form t =
     line_in form (frames_facts t.classes) ++ line_in form (joined_facts t.joined t.joiner.given_up)
     ++ (line_in form (talks_facts (length t.talks.rows)) ++ talk_texts_in form t.talks.rows)
-
--- n more packets of a class
-abbrev pub with_frames : Class → ℕ → ClassCounts → ClassCounts
-with_frames class.OtherLink n counts = record counts { other_link = counts.other_link + n }
-with_frames class.NotIpv4 n counts = record counts { not_ipv4 = counts.not_ipv4 + n }
-with_frames class.Short n counts = record counts { short = counts.short + n }
-with_frames class.Cut n counts = record counts { cut = counts.cut + n }
-with_frames class.Bad n counts = record counts { bad = counts.bad + n }
-with_frames class.Unjoined n counts = record counts { unjoined = counts.unjoined + n }
-with_frames class.Counted n counts = record counts { counted = counts.counted + n }
-
--- the counts after a packet completes a group of n fragments, itself one of them: they move from the unjoined ones to a
--- class
-abbrev pub with_group : Class → ℕ → ClassCounts → ClassCounts
-with_group c n counts = with_frames c n (record counts { unjoined = counts.unjoined + 1 - n })
 
 -- one, of a class that counts
 abbrev pub counted_one : Class → ℕ

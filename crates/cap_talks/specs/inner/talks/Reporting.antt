@@ -6,7 +6,8 @@ use Rattle.cap_merge.specs.Parts.{Part, merged_feed, run_of}
 use Rattle.cap_print.specs.declared.forms.Form.{Form}
 use Rattle.cap_source.specs.inner.Growing.{IsAtPacket}
 use Rattle.cap_source.specs.declared.feeds.Head.TheVariants as heads
-use Rattle.cap_talks.specs.talks.ReportText.{taken_after, refusal_after, report_text_in, report_refusal}
+use Rattle.cap_class.specs.Runs.{taken_after}
+use Rattle.cap_talks.specs.talks.ReportText.{refusal_after, report_text_in, report_refusal}
 use Rattle.cap_talks.specs.talks.Telling.{Tells}
 use Rattle.cap_talks.specs.inner.table.Stepping.{TableState, TableStands}
 

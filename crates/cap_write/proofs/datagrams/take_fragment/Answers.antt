@@ -5,7 +5,7 @@ use Rattle.cap_join.specs.History.{Event, joined_pieces, open_groups_after}
 use Rattle.cap_join.specs.Joiners.{JoinerStandsFor, open_limit}
 use Rattle.cap_join.specs.declared.datagrams.Stamped.{Stamped}
 use Rattle.cap_write.proofs.Completed.{filled-all, filled-kept, joined-put}
-use Rattle.cap_talks.specs.inner.table.Looking.{taken_of}
+use Rattle.cap_class.specs.Runs.{taken_of}
 use Rattle.cap_write.proofs.LeavingOut.{OnOk-of, has-room, moves-few-at, taken-joined-at, taken-kept-at}
 use Rattle.cap_write.proofs.Lengths.{joined-short}
 use Rattle.cap_write.specs.inner.Datagrams.{IsFilled}

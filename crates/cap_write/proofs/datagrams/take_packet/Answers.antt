@@ -2,7 +2,7 @@ use Rattle.std.proofs.Common.{◌∷◌, ◌+◌, length, sym, subst}
 use Rattle.cap_class.specs.Taken.{events_of}
 use Rattle.cap_join.specs.History.{flushes}
 use Rattle.cap_join.specs.Joiners.{JoinerStandsFor}
-use Rattle.cap_talks.specs.inner.table.Looking.{taken_of}
+use Rattle.cap_class.specs.Runs.{taken_of}
 use Rattle.cap_write.proofs.LeavingOut.{OnOk-of, has-room, taken-datagram, taken-plain}
 use Rattle.cap_write.specs.inner.LeftCounts.{StandsForTaken}
 use Rattle.cap_write.proofs.datagrams.take_packet.Goals as goal

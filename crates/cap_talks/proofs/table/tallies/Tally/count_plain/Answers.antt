@@ -1,5 +1,5 @@
 use Rattle.std.proofs.Common.{ap, ◌∙◌, arith}
-use Rattle.cap_talks.specs.inner.table.Looking.{taken_of}
+use Rattle.cap_class.specs.Runs.{taken_of}
 use Rattle.cap_talks.specs.inner.table.Tallies.{TallyState}
 use Rattle.cap_talks.specs.inner.table.TallyView.{tally_view}
 use Rattle.cap_talks.proofs.Exits.{sum-taken, looks-plain, sound-plain}

@@ -4,11 +4,12 @@ use Rattle.cap_join.specs.Fragments.{piece_of}
 use Rattle.cap_join.specs.History.{arrives, joined_pieces, open_groups_after}
 use Rattle.cap_join.specs.Joiners.{IsAnswer, open_limit}
 use Rattle.cap_join.specs.Joiners as joiners
-use Rattle.cap_talks.specs.inner.table.Looking.{taken_of}
+use Rattle.cap_class.specs.Runs.{taken_of}
 use Rattle.cap_class.specs.Taken.{stamped_of}
 use Rattle.cap_talks.specs.inner.table.Tallies.{TallyState}
 use Rattle.cap_talks.specs.inner.table.TallyView.{tally_view}
-use Rattle.cap_talks.proofs.Exits.{sum-taken, looks-kept, sound-kept, looks-waiting, sound-waiting, kept-of, joined-of}
+use Rattle.cap_class.proofs.Moves.{kept-of, joined-of}
+use Rattle.cap_talks.proofs.Exits.{sum-taken, looks-kept, sound-kept, looks-waiting, sound-waiting}
 use Rattle.cap_talks.proofs.table.tallies.Tally.put_fragment.Goals as goal
 
 pub with_frames-self-inside-requires : goal.with_frames-self-inside-requires

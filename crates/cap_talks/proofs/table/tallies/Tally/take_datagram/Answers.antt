@@ -5,10 +5,12 @@ use Rattle.cap_talks.specs.table.Rows.{TalksStandFor}
 use Rattle.cap_talks.specs.table.Conversations.{frames_of, units_bytes}
 use Rattle.cap_talks.proofs.SumLaws.{sum_law}
 use Rattle.cap_talks.specs.inner.table.Adding.{is_over}
-use Rattle.cap_talks.specs.table.Classes.{class_of}
-use Rattle.cap_talks.specs.inner.table.Looking.{is_plain, taken_of}
+use Rattle.cap_class.specs.Classes.{class_of}
+use Rattle.cap_class.specs.Runs.{taken_of}
+use Rattle.cap_talks.specs.inner.table.Looking.{is_plain}
 use Rattle.cap_class.specs.Taken.{datagram, stamped_of}
-use Rattle.cap_talks.specs.inner.table.Tallies.{TallyState, LimitBy, with_frames}
+use Rattle.cap_class.specs.Counting.{with_frames}
+use Rattle.cap_talks.specs.inner.table.Tallies.{TallyState, LimitBy}
 use Rattle.cap_talks.specs.inner.table.TallyView.{tally_view}
 use Rattle.cap_talks.specs.table.CountedUnits.{listed, whole_unit}
 use Rattle.cap_talks.proofs.Tallying.{unit-is}

@@ -4,7 +4,8 @@ use Rattle.cap_talks.specs.table.Rows.{TalksStandFor}
 use Rattle.cap_talks.specs.table.Conversations.{frames_of, units_bytes}
 use Rattle.cap_talks.proofs.SumLaws.{sum_law}
 use Rattle.cap_talks.specs.inner.table.Adding.{is_over}
-use Rattle.cap_talks.specs.inner.table.Tallies.{TallyState, WaitingFits, counted_one, with_group}
+use Rattle.cap_class.specs.Counting.{with_group}
+use Rattle.cap_talks.specs.inner.table.Tallies.{TallyState, WaitingFits, counted_one}
 use Rattle.cap_talks.specs.inner.table.TallyView.{tally_view}
 use Rattle.cap_talks.specs.table.CountedUnits.{listed}
 use Rattle.cap_talks.proofs.UnitOrder.{waiting-order}

@@ -9,7 +9,8 @@ use Rattle.cap_ip.specs.Read.{Reading, found, bad, cut}
 use Rattle.cap_ip.specs.declared.headers.Fragment.{Fragment}
 use Rattle.cap_join.specs.Fragments.{Piece, piece_of}
 use Rattle.cap_join.specs.declared.datagrams.Stamped.{Stamped}
-use Rattle.cap_talks.specs.table.Classes.{class_by, class_in, classes_in, group_class, has_place, is_class, times}
+use Rattle.cap_class.specs.Counting.{is_class, times}
+use Rattle.cap_class.specs.Classes.{class_by, class_in, classes_in, group_class, has_place}
 use Rattle.cap_join.specs.Completed.{one_at, occurs, occurs_in, comes}
 use Rattle.cap_class.specs.Taken.{Taken, Classification, plain, datagram, fragment, classify_by, classify_in, classify}
 use Rattle.cap_class.specs.Taken.{events_of}

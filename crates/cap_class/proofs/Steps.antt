@@ -9,10 +9,12 @@ use Rattle.cap_join.specs.Fragments.{Piece}
 use Rattle.cap_join.specs.History.{arrives, joined_pieces, open_groups_after}
 use Rattle.cap_join.specs.Joiners.{open_limit}
 use Rattle.cap_join.proofs.Once.{once}
-use Rattle.cap_talks.proofs.Recount.{looks, here, hits, place_of, here_few, here_once, comes_here, present, hits_all}
-use Rattle.cap_talks.proofs.Recount.{unjoined, classes_looks, some_of, recount}
-use Rattle.cap_talks.specs.table.Classes.{class_of, class_by, class_in, classes, classes_in, counts_of, group_class}
-use Rattle.cap_talks.specs.table.Classes.{groups_of, has_place, sum_of, times, OneClass}
+use Rattle.cap_class.proofs.Recount.{looks, here, hits, place_of, here_few, here_once, comes_here, present, hits_all}
+use Rattle.cap_class.proofs.Recount.{unjoined, classes_looks, some_of, recount}
+use Rattle.cap_class.specs.Counting.{counts_of}
+use Rattle.cap_class.specs.Classes.{class_of, class_by, class_in, classes, classes_in, group_class}
+use Rattle.cap_class.specs.Counting.{sum_of, times, OneClass}
+use Rattle.cap_class.specs.Classes.{groups_of, has_place}
 use Rattle.cap_join.specs.Completed.{completed_of, occurs, occurs_in}
 use Rattle.cap_class.specs.Taken.{Taken, Classification, plain, datagram, fragment, classify, events_classified}
 use Rattle.cap_class.specs.Taken.{events_of}

@@ -1,6 +1,5 @@
--- The class of each packet of a run, and how many packets of each class there are (RFC 791, 3.2; RFC 768; RFC 9293,
--- 3.1). Lists have the latest first.
-use Rattle.std.specs.Prelude.{◌≡◌, ℕ, List, [], ◌∷◌, None, Bool, ◌+◌, ◌==◌, length, if◌then◌else◌}
+-- The class of each packet of a run (RFC 791, 3.2; RFC 768; RFC 9293, 3.1). Lists have the latest first.
+use Rattle.std.specs.Prelude.{ℕ, List, [], ◌∷◌, None, Bool, ◌==◌, length}
 use Rattle.std.specs.List.{find, list_any}
 use Rattle.std.specs.Option.{option_map_or}
 use Rattle.cap_ip.specs.Transport.{transport_of}
@@ -9,12 +8,12 @@ use Rattle.cap_ip.specs.declared.transports.Transport.TheVariants as transport
 use Rattle.cap_join.specs.ByteMap.{joined_header, joined_data}
 use Rattle.cap_join.specs.Fragments.{Piece}
 use Rattle.cap_join.specs.Joiners.{open_limit}
+use Rattle.cap_join.specs.declared.datagrams.Datagram.{Datagram}
 use Rattle.cap_join.specs.Completed.{completed_of}
 use Rattle.cap_source.specs.declared.packets.Meta.{Meta}
 use Rattle.cap_class.specs.Taken.{Taken, Classification, plain, datagram, fragment, classify, taken, events_of}
 use Rattle.cap_class.specs.declared.classes.Class.{Class}
 use Rattle.cap_class.specs.declared.classes.Class.TheVariants as class
-use Rattle.cap_talks.specs.declared.table.classes.ClassCounts.{ClassCounts}
 
 -- a datagram's class, by what its data says of its ports
 abbrev pub class_of : Transport → Class
@@ -28,6 +27,10 @@ abbrev pub joined_transport : List Piece → Transport
 joined_transport pieces =
     option_map_or (λ h. transport_of h.key.protocol (joined_data pieces) (length (joined_data pieces)))
     (joined_header pieces) transport.Bad
+
+-- the class of a joined datagram
+unfoldable pub datagram_class : Datagram → Class
+datagram_class d = class_of (transport_of d.header.key.protocol d.payload.items (length d.payload.items))
 
 unfoldable pub group_class : List Piece → Class
 group_class pieces = class_of (joined_transport pieces)
@@ -60,41 +63,3 @@ groups_of xs = completed_of open_limit (events_of xs)
 -- the classes of some packets, one of each
 unfoldable pub classes : List Taken → List Class
 classes xs = classes_in (groups_of xs) xs
-
--- the classes as they are printed
-abbrev pub rank : Class → ℕ
-rank class.OtherLink = 0
-rank class.NotIpv4 = 1
-rank class.Short = 2
-rank class.Cut = 3
-rank class.Bad = 4
-rank class.Unjoined = 5
-rank class.Counted = 6
-
-abbrev pub is_class : Class → Class → Bool
-is_class a b = rank a == rank b
-
-abbrev pub times : Class → List Class → ℕ
-times c [] = 0
-times c (k ∷ ks) = (if is_class c k then 1 else 0) + times c ks
-
--- how many packets of each class there are
-abbrev pub counts_of : List Class → ClassCounts
-counts_of cs =
-    record {
-      other_link = times class.OtherLink cs;
-      not_ipv4 = times class.NotIpv4 cs;
-      short = times class.Short cs;
-      cut = times class.Cut cs;
-      bad = times class.Bad cs;
-      unjoined = times class.Unjoined cs;
-      counted = times class.Counted cs;
-    }
-
-abbrev pub sum_of : ClassCounts → ℕ
-sum_of n = n.other_link + n.not_ipv4 + n.short + n.cut + n.bad + n.unjoined + n.counted
-
--- Each packet has one class, and the seven counts add up to the number of packets.
-pub record OneClass (xs : List Taken) : Type 0 where
-  pub each : length (classes xs) ≡ length xs
-  pub sum : sum_of (counts_of (classes xs)) ≡ length xs

@@ -1,0 +1,3 @@
+pub mod Recount
+pub mod Steps
+pub mod Moves
