@@ -416,7 +416,7 @@ cp "$one" "$work/kept"; "$program" list "$one" >> "$work/a" 2> "$work/err"; stat
 check 'check of closed standard input' 1 "check 1 - $none 0 open
 check 2 pcap $held whole" ''
 "$program" convert --to pcapng -o "$work/new" - < "$work/empty.pcap" > "$work/out" 2>&-; status=$?; : > "$work/err"; check 'closed standard error' 1 '' ''; same 'closed standard error' "$work/new" "$work/section"
-# With --explain lines tell after work that is done how many blocks and names of interfaces aren't carried on, of all files, and
+# With --explain lines tell after work that is done how many blocks, by kind, and names of interfaces aren't carried on, of all files, and
 # how many packets ran back, and which packets join leaves out; without it nothing does, nor after a refusal.
 corpus=$top/checks/corpus
 many=$corpus/skipped-blocks-of-many-kinds.pcapng; one_skipped=$corpus/worked-options.pcapng; back=$corpus/runs-back.pcap
@@ -425,7 +425,7 @@ counted() {
     shift 2
     run "$@"; check "$name" 0 '' "$want"
 }
-counted 'blocks not carried on' 'not carried on: 8 blocks' merge --explain -o "$work/new" "$many"
+counted 'blocks not carried on' 'not carried on: 1 block of secrets, 1 of names, 6 of other kinds' merge --explain -o "$work/new" "$many"
 counted 'a block not carried on' 'not carried on: 1 block, names of 1 interface' convert --explain --to pcap -o "$work/new" "$one_skipped"
 counted 'a block not joined' 'not carried on: 1 block, names of 1 interface
 left out: 1 packet: short 1' join --explain -o "$work/new" "$one_skipped"
@@ -433,7 +433,17 @@ head -c 144 "$one_skipped" > "$work/named"
 counted 'a name alone' 'not carried on: names of 1 interface' convert --explain --to pcapng -o "$work/new" "$work/named"
 counted 'names of two files' 'not carried on: names of 2 interfaces' merge --explain -o "$work/new" "$work/named" "$one" "$work/named"
 counted 'a name in what was written of one' '' convert --explain --to pcapng -o "$work/newer" "$work/new"
-counted 'blocks of two files' 'not carried on: 9 blocks, names of 1 interface' merge --explain -o "$work/new" "$one_skipped" "$one" "$many"
+counted 'blocks of two files' 'not carried on: 1 block of secrets, 1 of names, 7 of other kinds, names of 1 interface' merge --explain -o "$work/new" "$one_skipped" "$one" "$many"
+counted 'blocks of each kind of two files' 'not carried on: 2 blocks of secrets, 2 of names, 12 of other kinds' join --explain -o "$work/new" "$many" "$many"
+# the section of that file with its blocks of names and of statistics, with that of names alone, and with that of secrets alone
+head -c 68 "$many" > "$work/hosts"
+counted 'names and another block' 'not carried on: 1 block of names, 1 of another kind' convert --explain --to pcapng -o "$work/new" "$work/hosts"
+head -c 44 "$many" > "$work/hosts"
+counted 'names of hosts alone' 'not carried on: 1 block of names' convert --explain --to pcapng -o "$work/new" "$work/hosts"
+counted 'names of hosts of two files' 'not carried on: 2 blocks of names' merge --explain -o "$work/new" "$work/hosts" "$work/hosts"
+{ head -c 28 "$many"; tail -c +85 "$many" | head -c 20; } > "$work/secrets"
+counted 'secrets alone' 'not carried on: 1 block of secrets' convert --explain --to pcapng -o "$work/new" "$work/secrets"
+counted 'secrets and names of hosts' 'not carried on: 1 block of secrets, 1 of names' merge --explain -o "$work/new" "$work/hosts" "$work/secrets"
 counted 'a packet that ran back' 'ran back: 1 packet' merge --explain -o "$work/new" "$back" "$corpus/runs-on.pcap"
 counted 'packets of two files that ran back' 'ran back: 2 packets
 left out: 4 packets: cut 4' join --explain -o "$work/new" "$back" "$back"
@@ -449,7 +459,7 @@ counted 'blocks that no one asks for' '' merge -o "$work/new" "$many" "$back"
 run info --explain "$many"; check 'blocks that info counts' 0 '*' ''
 run merge --explain -o "$work/new" "$many" "$back" "$work/cut.pcap"; check 'blocks before a refusal' 1 '' "refused: file 3 offset 24 rule 3 cut
   $work/cut.pcap: it is cut off: --allow-cut drops a last record or block"
-counted 'blocks and a cut end' 'not carried on: 8 blocks
+counted 'blocks and a cut end' 'not carried on: 1 block of secrets, 1 of names, 6 of other kinds
 cut: file 2 offset 24, 19 bytes dropped' merge --explain --allow-cut -o "$work/new" "$many" "$work/cut.pcap"
 counted 'cut ends' 'cut: file 1 offset 24, 19 bytes dropped
 cut: file 3 offset 24, 1 byte dropped' merge --explain --allow-cut -o "$work/new" "$work/cut.pcap" "$one" <(head -c 25 "$one")
@@ -462,7 +472,7 @@ counted 'a cut end, digested' 'cut: file 1 offset 24, 19 bytes dropped' digest -
 counted 'a cut end, listed' 'cut: file 1 offset 24, 19 bytes dropped' list --explain --allow-cut "$work/cut.pcap"
 counted 'a cut end, as an object' '{"type":"cut","file":1,"offset":24,"bytes":19,"path":"'"$work/cut.pcap"'"}' list --json --explain --allow-cut "$work/cut.pcap"
 counted 'a cut end that no one asks for' '' list --allow-cut "$work/cut.pcap"
-run merge --explain -o - "$many"; check 'blocks, on standard output' 0 '*' 'not carried on: 8 blocks'
+run merge --explain -o - "$many"; check 'blocks, on standard output' 0 '*' 'not carried on: 1 block of secrets, 1 of names, 6 of other kinds'
 run merge --explain -o /dev/full "$many"; check 'blocks and a full disk' 1 '' 'fault: write
   /dev/full: No space left on device (os error 28)'
 # at a terminal a second line tells the file and why; elsewhere none does, as the checks before --explain show
@@ -495,14 +505,14 @@ if command -v script > /dev/null; then
     shown '33 captures at a terminal' 'fault: files
   only capt check and capt digest read more than 32 captures: examples/rounds.sh merges them' info $(yes one.pcap | head -33)
     # at a terminal the counts are told without --explain, also if what is written goes to a file or a pipe
-    shown 'blocks and packets at a terminal' 'not carried on: 8 blocks
+    shown 'blocks and packets at a terminal' 'not carried on: 1 block of secrets, 1 of names, 6 of other kinds
 ran back: 1 packet' merge -o new "$many" "$back"
     shown 'a block at a terminal' 'not carried on: 1 block, names of 1 interface' convert --to pcapng -o new "$one_skipped"
     shown 'a cut end at a terminal' 'cut: file 1 offset 24, 19 bytes dropped' list --allow-cut cut.pcap
     shown 'nothing to tell at a terminal' '' merge -o new one.pcap
     shown 'a packet left out at a terminal' 'left out: 1 packet: short 1' join -o new one.pcap
     (cd "$work" && script -qec "$(printf '%q ' "$program" merge -o - "$many") | cat > written" /dev/null) < /dev/null | tr -d '\r' > "$work/shown"
-    if [ "$(cat "$work/shown")" = 'not carried on: 8 blocks' ]; then passed=$((passed + 1)); else failed=$((failed + 1)); echo 'blocks through a pipe at a terminal'; cat "$work/shown"; fi
+    if [ "$(cat "$work/shown")" = 'not carried on: 1 block of secrets, 1 of names, 6 of other kinds' ]; then passed=$((passed + 1)); else failed=$((failed + 1)); echo 'blocks through a pipe at a terminal'; cat "$work/shown"; fi
     # a line is seen at a terminal as it comes, while the pipe it is read from stays open
     mkfifo "$work/slow"
     { cat "$one"; for _ in $(seq 100); do [ -e "$work/seen" ] && break; sleep 0.1; done; } > "$work/slow" &

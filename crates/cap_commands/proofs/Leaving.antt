@@ -28,7 +28,8 @@ use Rattle.cap_commands.specs.inner.FileText.{written_file_text, file_refusal}
 use Rattle.cap_class.specs.Runs.{taken_after}
 use Rattle.cap_write.specs.LeftOut.{CountsLeftOut}
 use Rattle.cap_write.specs.declared.left_out.LeftOut.{LeftOut}
-use Rattle.cap_commands.specs.Left.{left_of_file, sum_of_files, skipped_in, named_in, rests_in}
+use Rattle.cap_commands.specs.Left.{left_of_file, sum_of_files, skipped_in, secret_blocks_in, name_blocks_in}
+use Rattle.cap_commands.specs.Left.{named_in, rests_in}
 use Rattle.cap_commands.specs.Left.{LeavesOut, LeavesPackets}
 use Rattle.cap_commands.specs.declared.left.DroppedInfo.{DroppedInfo}
 
@@ -82,6 +83,8 @@ Drops-same : (f g : ℕ → FileEnd) (n m : ℕ) (left : DroppedInfo) → n ≡ 
     → LeavesOut g m left
 Drops-same f g n m left is same d = record {
   skipped = d.skipped ∙ (ap (skipped_in f) is ∙ sum_in-same (λ end. end.ending.skipped) f g m same);
+  secrets = d.secrets ∙ (ap (secret_blocks_in f) is ∙ sum_in-same (λ end. end.kinds.secrets) f g m same);
+  names = d.names ∙ (ap (name_blocks_in f) is ∙ sum_in-same (λ end. end.kinds.names) f g m same);
   named = d.named ∙ (ap (named_in f) is ∙ sum_in-same (λ end. end.named) f g m same);
   cuts = d.cuts ∙ (ap (λ k. rests_in f k ++ replicate (32 - k) None) is
       ∙ ap (λ l. l ++ replicate (32 - m) None) (rests_in-same f g m same));

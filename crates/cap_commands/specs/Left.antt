@@ -18,7 +18,16 @@ done_of (Err fault) = Err fault
 
 -- nothing was left out, and nothing ran back
 abbrev pub nothing_left : DroppedInfo
-nothing_left = record { skipped = 0; named = 0; ran_back = 0; cuts = replicate 32 None; left_out = None }
+nothing_left =
+    record {
+      skipped = 0;
+      secret_blocks = 0;
+      name_blocks = 0;
+      named = 0;
+      ran_back = 0;
+      cuts = replicate 32 None;
+      left_out = None;
+    }
 
 -- the rest of the only file, if it was cut
 abbrev pub only_cut : Option CutRest → DroppedInfo
@@ -28,18 +37,32 @@ only_cut cut = record nothing_left { cuts = cut ∷ replicate 31 None }
 abbrev pub both_cut : CutEnds → DroppedInfo
 both_cut ends = record nothing_left { cuts = ends.first ∷ ends.second ∷ replicate 30 None }
 
--- the skipped blocks, the named interfaces and the rest of the only file, which ended so
+-- the skipped blocks, those of secrets and of names among them, the named interfaces and the rest of the only file,
+-- which ended so
 abbrev pub left_of_file : FileEnd → DroppedInfo
-left_of_file end = record (only_cut end.ending.cut) { skipped = end.ending.skipped; named = end.named }
+left_of_file end =
+    record (only_cut end.ending.cut) {
+      skipped = end.ending.skipped;
+      secret_blocks = end.kinds.secrets;
+      name_blocks = end.kinds.names;
+      named = end.named;
+    }
 
 -- the sum of a count over the first files, so many of them, by how each ends
 abbrev pub sum_of_files : (FileEnd → ℕ) → (ℕ → FileEnd) → ℕ → ℕ
 sum_of_files count endings zero = 0
 sum_of_files count endings (suc file) = sum_of_files count endings file + count (endings (suc file))
 
--- how many blocks were skipped of these, and how many interfaces have a name
+-- how many blocks were skipped of these, how many of them are blocks of secrets or of names, and how many interfaces
+-- have a name
 abbrev pub skipped_in : (ℕ → FileEnd) → ℕ → ℕ
 skipped_in endings count = sum_of_files (λ end. end.ending.skipped) endings count
+
+abbrev pub secret_blocks_in : (ℕ → FileEnd) → ℕ → ℕ
+secret_blocks_in endings count = sum_of_files (λ end. end.kinds.secrets) endings count
+
+abbrev pub name_blocks_in : (ℕ → FileEnd) → ℕ → ℕ
+name_blocks_in endings count = sum_of_files (λ end. end.kinds.names) endings count
 
 abbrev pub named_in : (ℕ → FileEnd) → ℕ → ℕ
 named_in endings count = sum_of_files (λ end. end.named) endings count
@@ -53,6 +76,8 @@ rests_in endings (suc file) = rests_in endings file ++ (endings (suc file)).endi
 -- has are empty
 pub record LeavesOut (endings : ℕ → FileEnd) (count : ℕ) (left : DroppedInfo) : Type 0 where
   pub skipped : left.skipped ≡ skipped_in endings count
+  pub secrets : left.secret_blocks ≡ secret_blocks_in endings count
+  pub names : left.name_blocks ≡ name_blocks_in endings count
   pub named : left.named ≡ named_in endings count
   pub cuts : left.cuts ≡ rests_in endings count ++ replicate (32 - count) None
 

@@ -41,16 +41,23 @@ fn dropped_of<F: PacketFeed>(feed: &F, files: u32) -> DroppedInfo
     ensures { LeavesOut (F.feed feed.now).endings files result }
 {
     let mut skipped: u128 = 0;
+    let mut secret_blocks: u128 = 0;
+    let mut name_blocks: u128 = 0;
     let mut named: u128 = 0;
     let mut cuts: [Option<CutRest>; 32] = [None; 32];
     for place in 0..files {
         let ending = feed.ending(place + 1);
         skipped += u128::from(ending.skipped);
         named += u128::from(feed.named_interfaces(place + 1));
+        let kinds = feed.skipped_kinds(place + 1);
+        secret_blocks += u128::from(kinds.secrets);
+        name_blocks += u128::from(kinds.names);
         cuts[place as usize] = ending.cut;
     }
     DroppedInfo {
         skipped,
+        secret_blocks,
+        name_blocks,
         named,
         ran_back: 0,
         cuts,
@@ -70,6 +77,8 @@ fn left_of_merged<F: PacketFeed>(merged: &Merged<F>, left_out: Option<LeftOut>) 
     let cuts = dropped.cuts;
     DroppedInfo {
         skipped: dropped.skipped,
+        secret_blocks: dropped.secret_blocks,
+        name_blocks: dropped.name_blocks,
         named: dropped.named,
         ran_back: u128::from(merged.backward()),
         cuts,
@@ -87,6 +96,9 @@ fn left_of_one<F: PacketFeed>(feed: &F) -> DroppedInfo
     let mut left = only_cut(ending.cut);
     left.skipped = u128::from(ending.skipped);
     left.named = u128::from(feed.named_interfaces(1));
+    let kinds = feed.skipped_kinds(1);
+    left.secret_blocks = u128::from(kinds.secrets);
+    left.name_blocks = u128::from(kinds.names);
     left
 }
 

@@ -13,6 +13,10 @@ use cap_write::LeftOut;
 pub struct DroppedInfo {
     /// How many blocks of the files aren't carried on: those that were skipped.
     pub skipped: u128,
+    /// How many of these are Decryption Secrets Blocks. draft-ietf-opsawg-pcapng, 4.7.
+    pub secret_blocks: u128,
+    /// How many of these are Name Resolution Blocks. draft-ietf-opsawg-pcapng, 4.5.
+    pub name_blocks: u128,
     /// How many interfaces of the files have a name, which isn't carried on.
     pub named: u128,
     /// How many packets had a time below the greatest so far of their file.
@@ -26,6 +30,8 @@ pub struct DroppedInfo {
 /// Nothing was left out, and nothing ran back.
 pub const NOTHING_LEFT: DroppedInfo = DroppedInfo {
     skipped: 0,
+    secret_blocks: 0,
+    name_blocks: 0,
     named: 0,
     ran_back: 0,
     cuts: [None; 32],
@@ -40,6 +46,8 @@ pub(crate) fn only_cut(cut: Option<CutRest>) -> DroppedInfo
     cuts[0] = cut;
     DroppedInfo {
         skipped: 0,
+        secret_blocks: 0,
+        name_blocks: 0,
         named: 0,
         ran_back: 0,
         cuts,

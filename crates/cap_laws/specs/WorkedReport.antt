@@ -1,6 +1,7 @@
 -- The report on a few frames, by computation.
 use Rattle.std.specs.Prelude.{◌≡◌, ℕ, ◌*◌, List, [], ◌∷◌, ◌++◌, codes, Some, None, pos, length}
 use Rattle.cap_source.specs.TimeBases.{microseconds}
+use Rattle.cap_source.specs.Items.{no_kinds}
 use Rattle.cap_source.specs.declared.feeds.FileEnd.{FileEnd}
 use Rattle.cap_bytes.specs.declared.formats.Format.TheVariants.{Pcap}
 use Rattle.cap_source.specs.declared.packets.Meta.{Meta}
@@ -56,7 +57,13 @@ all_four =
     ∷ first_two
 
 abbrev pub pcap_end : ℕ → FileEnd
-pcap_end file = record { ending = record { format = Pcap; skipped = 0; cut = None }; interfaces = 1; named = 0 }
+pcap_end file =
+    record {
+      ending = record { format = Pcap; skipped = 0; cut = None };
+      interfaces = 1;
+      named = 0;
+      kinds = no_kinds;
+    }
 
 -- Overlapped fragments, two of four taken, and all of them.
 pub record Overlapped : Type 0 where

@@ -4,7 +4,7 @@ use Rattle.cap_bytes.specs.declared.faults.Tail.{Tail}
 use Rattle.cap_merge.specs.Parts.{item_time, is_refusal}
 use Rattle.cap_merge.specs.Run.{Clocked, opened_track, run}
 use Rattle.cap_source.specs.Feed.{Item}
-use Rattle.cap_source.specs.Items.{file_items, file_ending}
+use Rattle.cap_source.specs.Items.{file_items, file_ending, no_kinds}
 use Rattle.cap_source.specs.declared.feeds.FileEnd.{FileEnd}
 use Rattle.cap_bytes.specs.declared.formats.Format.TheVariants.{Pcap}
 
@@ -32,6 +32,7 @@ endings_from tail first [] file =
       ending = record { format = Pcap; skipped = 0; cut = None };
       interfaces = 1;
       named = 0;
+      kinds = no_kinds;
     }
 endings_from tail first (bytes ∷ files) file =
     if first == file then file_ending tail first bytes else endings_from tail (first + 1) files file

@@ -14,6 +14,7 @@ use Rattle.cap_source.specs.declared.feeds.FileEnd.{FileEnd}
 use Rattle.cap_source.specs.declared.feeds.FeedHeld.{FeedHeld}
 use Rattle.cap_bytes.specs.declared.formats.Format.TheVariants.{Pcap}
 use Rattle.cap_source.specs.Feed.{Item, packet, refused, Feed}
+use Rattle.cap_source.specs.Items.{no_kinds}
 use Rattle.cap_source.specs.Times.{meta_time}
 use Rattle.cap_merge.specs.declared.lanes.Lane.{Lane}
 use Rattle.cap_time.specs.Clock.{clock_cmp}
@@ -167,6 +168,7 @@ endings_of [] file =
       ending = record { format = Pcap; skipped = 0; cut = None };
       interfaces = 1;
       named = 0;
+      kinds = no_kinds;
     }
 endings_of (p ∷ ps) file = if has_file p.feed.files file then p.feed.endings file else endings_of ps file
 

@@ -25,7 +25,7 @@ use crate::lanes::{
 };
 use arrayvec::ArrayVec;
 use cap_bytes::{Fault, Refusal};
-use cap_source::{Ending, FeedHeld, Head, Meta, PacketFeed};
+use cap_source::{Ending, FeedHeld, Head, Meta, PacketFeed, SkippedKinds};
 use cap_time::Stamp;
 
 /// The packets of several feeds in the order of exact time: by the greatest time so far in a packet's
@@ -347,6 +347,10 @@ impl<F: PacketFeed> PacketFeed for Merged<F> {
 
     fn named_interfaces(&self, file: u32) -> u64 {
         self.feeds[file as usize - 1].named_interfaces(file)
+    }
+
+    fn skipped_kinds(&self, file: u32) -> SkippedKinds {
+        self.feeds[file as usize - 1].skipped_kinds(file)
     }
 
     fn feed_held(&self) -> FeedHeld {

@@ -51,7 +51,7 @@ abbrev pub IsFit : ℕ → List ℕ → Result BlockContent Rule → Type 0
 IsFit few body (Ok contents.Section) = Unit {0}
 IsFit few body (Ok (contents.Interface described)) = few < 1024
 IsFit few body (Ok (contents.Packet p)) = (p.place + p.captured ≤ length body) × (p.captured ≤ 262144)
-IsFit few body (Ok contents.Other) = Unit {0}
+IsFit few body (Ok (contents.Other kind)) = Unit {0}
 IsFit few body (Err rule) = Unit {0}
 
 if_fit : (few : ℕ) (body : List ℕ) (b : Bool) (x y : Result BlockContent Rule) → IsFit few body x → IsFit few body y
@@ -102,7 +102,7 @@ content_fit interfaces kind order body =
     (if_fit few body (kind == simple_kind) _ _ (simple_fit few interfaces order body) tt))))
 
 pub other : (interfaces : List Interface) (kind : ℕ) (order : Order) (body : List ℕ) → is_known_kind kind ≡ false
-    → content_in interfaces kind order body ≡ Ok contents.Other
+    → content_in interfaces kind order body ≡ Ok (contents.Other kind)
 unfolding content_in
 other interfaces kind order body unknown = grind (arith, nat_tests)
 

@@ -65,7 +65,7 @@ no-packet : (file : ℕ) (progress : SectionProgress) (block : Block) (body : Li
 no-packet file progress block body contents.Section rest h = refl
 no-packet file progress block body (contents.Interface described) rest h = refl
 no-packet file progress block body (contents.Packet p) rest h = absurd h
-no-packet file progress block body contents.Other rest h = refl
+no-packet file progress block body (contents.Other kind) rest h = refl
 
 module _ (old : PushView) (section : Option Order) (b : List ℕ) (at : old.stage ≡ Blocks section) where
   -- a block that breaks a rule
@@ -261,7 +261,7 @@ module _ (old : PushView) (block : Block) (left : ℕ) (b : List ℕ) (at : old.
         → new ≡ record old {
           offset = old.offset + block.total;
           stage = Blocks (Some block.order);
-          progress = after old.progress contents.Other;
+          progress = after old.progress (contents.Other block.kind);
         }
         → StepsFed old b (Ok (steps.Passed 4)) new
     skip-passes new four is same =
@@ -272,7 +272,7 @@ module _ (old : PushView) (block : Block) (left : ℕ) (b : List ℕ) (at : old.
               ap (λ (k : Stage). items_at_stage k old (b ++ later)) at
               ∙ (ap (λ (n : ℕ). skipped_items old.file old.tail old.progress block n (b ++ later)) zero
               ∙ (skip-done old.file old.tail old.progress block b later four is
-              ∙ (ap (λ (n : ℕ). items_of_blocks old.file (after old.progress contents.Other)
+              ∙ (ap (λ (n : ℕ). items_of_blocks old.file (after old.progress (contents.Other block.kind))
               (block_items_from (Some block.order) old.tail old.file (n + block.total) (drop 4 b ++ later))) placed
               ∙ ap (λ (c : PushView). items_after c (drop 4 b ++ later)) (sym same)))),
         )

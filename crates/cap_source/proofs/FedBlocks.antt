@@ -208,12 +208,13 @@ module _ (file : ℕ) (progress : SectionProgress) (section : Option Order) (tai
         let fault : block_fault section offset w ≡ None = fault-whole section offset w block None header-is body in
         let f = there in
         let is_other : content_in progress.interfaces (block_at section offset w).kind (block_at section offset w).order
-        (body_at section w) ≡ Ok contents.Other =
+        (body_at section w) ≡ Ok (contents.Other block.kind) =
         other progress.interfaces (block_at section offset w).kind (block_at section offset w).order (body_at section w)
-        (subst (λ (k : Block). is_known_kind k.kind ≡ false) block-is unknown) in
+        (subst (λ (k : Block). is_known_kind k.kind ≡ false) block-is unknown)
+        ∙ ap (λ (k : Block). Ok (contents.Other k.kind)) (sym block-is) in
         given-block w (omega (arith, f.head)) fault
         ∙ (rw is_other
-        ((λ i. items_of_blocks file (after progress contents.Other)
+        ((λ i. items_of_blocks file (after progress (contents.Other block.kind))
         (block_items_from (Some (sym order-is i)) tail file (sym offset-is i + size i) (drop (size i) w)))
         ∙ sym (rw (long, equal, four) refl)))
       where
@@ -308,7 +309,7 @@ module _ (file : ℕ) (tail : Tail) (progress : SectionProgress) (block : Block)
   -- it is passed
   pub skip-done : (b later : List ℕ) → 4 ≤ length b → number block.order 4 b ≡ block.total
       → skipped_items file tail progress block 0 (b ++ later)
-      ≡ items_of_blocks file (after progress contents.Other)
+      ≡ items_of_blocks file (after progress (contents.Other block.kind))
       (block_items_from (Some block.order) tail file (block.offset + block.total) (drop 4 b ++ later))
   unfolding skipped_items
   skip-done b later four is =

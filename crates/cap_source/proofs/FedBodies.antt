@@ -32,7 +32,7 @@ pub says-within : (few : ℕ) (block : Block) (body : List ℕ) (said : Result B
 says-within few block body (Ok contents.Section) size fit = tt
 says-within few block body (Ok (contents.Interface described)) size fit = tt
 says-within few block body (Ok (contents.Packet p)) size fit = omega (arith, fit.0)
-says-within few block body (Ok contents.Other) size fit = tt
+says-within few block body (Ok (contents.Other kind)) size fit = tt
 says-within few block body (Err rule) size fit = tt
 
 -- it goes on behind a block

@@ -146,7 +146,7 @@ module _ (file : ℕ) (old new : ReaderState Order) (p : SectionProgress) (block
       (FrontsPass (pcapng_fronts old p) (next_at file p block c) (pcapng_fronts new (behind p c)))
   by-content (Ok contents.Section) is items ending = block-pass None _ items ending
   by-content (Ok (contents.Interface described)) is items ending = block-pass None _ items ending
-  by-content (Ok contents.Other) is items ending = block-pass None _ items ending
+  by-content (Ok (contents.Other kind)) is items ending = block-pass None _ items ending
   by-content (Ok (contents.Packet said)) is items ending =
       let there = packet_lent p.interfaces block.kind block.order new.lent said g.known is in
       let frame = frame_same new.lent (body_in block.total old.coming) said there (g.body_is t) in

@@ -1,5 +1,5 @@
 -- What is known at a block goes by the blocks before it.
-use Rattle.std.proofs.Common.{◌≡◌, ◌==◌, ◌&&◌, ◌+◌, ◌-◌, ℕ, not, true, false, Bool, List, [], ◌∷◌, ◌++◌, ◌||◌, length}
+use Rattle.std.proofs.Common.{◌≡◌, ◌≤◌, ◌==◌, ◌&&◌, ◌+◌, ◌-◌, ℕ, not, true, false, Bool, List, [], ◌∷◌, ◌++◌, ◌||◌, length}
 use Rattle.std.proofs.Common.{drop, slice_get, Some, Result, Ok, Err, IfOk, refl, sym, ap, ◌∙◌, subst, arith, cond}
 use Rattle.std.proofs.Common.{None, if◌then◌else◌, length-append, append_assoc, append-nil}
 use Rattle.std.specs.List.{filter, count_by, suffix_len, before_last, after_last}
@@ -17,15 +17,17 @@ use Rattle.cap_blocks.specs.OptionList.{options_of}
 use Rattle.cap_blocks.specs.declared.blocks.Block.{Block}
 use Rattle.cap_source.specs.Contents.{of_body, timed_in, simple_in, described, content_in}
 use Rattle.cap_source.specs.Items.{SectionProgress, fresh, first_or, after, behind, items_at_block, items_of_blocks}
-use Rattle.cap_source.specs.Items.{ending_with, ending_in}
+use Rattle.cap_source.specs.Items.{ending_with, ending_in, names_kind, secrets_kind}
 use Rattle.cap_source.specs.Items.{unless_faulty, unless_item, first_in}
 use Rattle.cap_source.specs.inner.Places.{Standing, is_header, is_interface, is_other, is_named_interface, told}
 use Rattle.cap_source.specs.inner.Places.{interfaces_of, known_behind, items_behind, ending_behind, first_behind}
-use Rattle.cap_source.specs.inner.Places.{ItemsByPlaces, EndingByPlaces, FirstByPlaces, NumbersByPlaces}
+use Rattle.cap_source.specs.inner.Places.{is_names, is_secrets}
+use Rattle.cap_source.specs.inner.Places.{ItemsByPlaces, EndingByPlaces, FirstByPlaces, KindsByPlaces, NumbersByPlaces}
 use Rattle.cap_source.specs.TimeBases.{interface_in, interface_at, is_named}
 use Rattle.cap_source.specs.declared.contents.BlockPacket.{BlockPacket}
 use Rattle.cap_source.specs.declared.contents.BlockContent.{BlockContent}
 use Rattle.cap_source.specs.declared.contents.BlockContent.TheVariants as contents
+use Rattle.cap_source.specs.declared.feeds.SkippedKinds.{SkippedKinds}
 use Rattle.cap_time.specs.declared.resolutions.Interface.{Interface}
 
 -- one more element at the end of a list
@@ -112,22 +114,45 @@ unfolding known_behind
 numbers-law before = rw (length-map (filter is_interface (after_last is_header before)) told)
     (apart-count is_header is_interface header-apart before)
 
--- what a block's tests tell of what it says; an interface is its own, and has a name or not
-abbrev Tells : (header interface other : Bool) → Interface → Bool → BlockContent → Type 0
-Tells header interface other own named contents.Section = (header ≡ true) × (interface ≡ false) × (other ≡ false)
-Tells header interface other own named (contents.Interface d) =
-    (header ≡ false) × (interface ≡ true) × (other ≡ false) × (d.interface ≡ own) × (d.is_named ≡ named)
-Tells header interface other own named (contents.Packet p) = (header ≡ false) × (interface ≡ false) × (other ≡ false)
-Tells header interface other own named contents.Other = (header ≡ false) × (interface ≡ false) × (other ≡ true)
+-- a block of secrets or of names is one that is skipped, and not both
+one-kind : (b : Standing) → cond (is_secrets b) 1 0 + cond (is_names b) 1 0 ≤ cond (is_other b) 1 0
+one-kind b = grind (arith, nat_tests)
 
-by_kind : (a b c d e : Bool) (own : Interface) (order : Order) (body : List ℕ) (i : Result Interface Rule)
+pub kinds-law : KindsByPlaces
+unfolding known_behind
+kinds-law = from_end _ (omega arith) more
+  where
+    more : (xs : List Standing) (x : Standing)
+        → count_by is_secrets xs + count_by is_names xs ≤ count_by is_other xs
+        → count_by is_secrets (xs ++ x ∷ []) + count_by is_names (xs ++ x ∷ []) ≤ count_by is_other (xs ++ x ∷ [])
+    more xs x h =
+        omega (
+          arith,
+          h,
+          one-kind x,
+          count-more is_secrets xs x,
+          count-more is_names xs x,
+          count-more is_other xs x,
+        )
+
+-- what a block's tests and its type tell of what it says; an interface is its own, and has a name or not
+abbrev Tells : (header interface other : Bool) → ℕ → Interface → Bool → BlockContent → Type 0
+Tells header interface other kind own named contents.Section = (header ≡ true) × (interface ≡ false) × (other ≡ false)
+Tells header interface other kind own named (contents.Interface d) =
+    (header ≡ false) × (interface ≡ true) × (other ≡ false) × (d.interface ≡ own) × (d.is_named ≡ named)
+Tells header interface other kind own named (contents.Packet p) =
+    (header ≡ false) × (interface ≡ false) × (other ≡ false)
+Tells header interface other kind own named (contents.Other k) =
+    (header ≡ false) × (interface ≡ false) × (other ≡ true) × (k ≡ kind)
+
+by_kind : (a b c d e : Bool) (kind : ℕ) (own : Interface) (order : Order) (body : List ℕ) (i : Result Interface Rule)
     (x y z : Result BlockPacket Rule)
     → (a ≡ true → b ≡ false) → IfOk i (λ j. j ≡ own)
     → IfOk (if a then Ok contents.Section else if b then of_body (described order body) i else
     if c then of_body contents.Packet x else if d then of_body contents.Packet y else if e then of_body contents.Packet
-    z else Ok contents.Other)
-    (Tells a b (not (a || b || d || e || c)) own (is_named order body))
-by_kind a b c d e own order body i x y z apart is = grind arith
+    z else Ok (contents.Other kind))
+    (Tells a b (not (a || b || d || e || c)) kind own (is_named order body))
+by_kind a b c d e kind own order body i x y z apart is = grind arith
 
 interface-own : (before : ℕ) (order : Order) (body : List ℕ)
     → IfOk (interface_in before order body) (λ i. i ≡ interface_at order body (options_of order (drop 8 body)))
@@ -136,14 +161,14 @@ interface-own before order body = grind arith
 
 -- the same of a block's own tests
 abbrev TellsOf : Standing → BlockContent → Type 0
-TellsOf b = Tells (is_header b) (is_interface b) (is_other b) (told b) (is_named b.0.order b.1)
+TellsOf b = Tells (is_header b) (is_interface b) (is_other b) b.0.kind (told b) (is_named b.0.order b.1)
 
 content-tells : (interfaces : List Interface) (b : Standing)
     → IfOk (content_in interfaces b.0.kind b.0.order b.1) (TellsOf b)
 unfolding content_in
 content-tells interfaces b =
     by_kind (is_header b) (is_interface b) (b.0.kind == enhanced_kind) (b.0.kind == obsolete_kind)
-    (b.0.kind == simple_kind) (told b) b.0.order b.1
+    (b.0.kind == simple_kind) b.0.kind (told b) b.0.order b.1
     (interface_in (length interfaces) b.0.order b.1) (timed_in interfaces (number b.0.order 4 b.1) b.0.order b.1)
     (timed_in interfaces (number b.0.order 2 b.1) b.0.order b.1) (simple_in interfaces b.0.order b.1)
     (header-apart b) (interface-own (length interfaces) b.0.order b.1)
@@ -172,11 +197,33 @@ counted-none n m b is none = let e : n ≡ m + 0 = subst (λ b. n ≡ m + cond b
 counted-one : (n m : ℕ) (b : Bool) → n ≡ m + cond b 1 0 → b ≡ true → m + 1 ≡ n
 counted-one n m b is one = sym (subst (λ b. n ≡ m + cond b 1 0) one is)
 
--- two are the same if each of the five is
+-- two are the same if each of the six is
 same : {p q : SectionProgress} → p.interfaces ≡ q.interfaces → p.base ≡ q.base → p.skipped ≡ q.skipped
-    → p.named ≡ q.named
-    → p.first ≡ q.first → p ≡ q
-same a b c d e = λ i. record { interfaces = a i; base = b i; skipped = c i; named = d i; first = e i }
+    → p.kinds ≡ q.kinds → p.named ≡ q.named → p.first ≡ q.first → p ≡ q
+same a b c k d e = λ i. record {
+  interfaces = a i;
+  base = b i;
+  skipped = c i;
+  kinds = k i;
+  named = d i;
+  first = e i;
+}
+
+-- so are two numbers of skipped blocks, if both are
+same-kinds : {p q : SkippedKinds} → p.secrets ≡ q.secrets → p.names ≡ q.names → p ≡ q
+same-kinds s n = λ i. record { secrets = s i; names = n i }
+
+-- a block of a known kind has neither secrets nor names
+no-secrets : (b : Standing) → is_other b ≡ false → is_secrets b ≡ false
+no-secrets b known = grind (arith, nat_tests)
+
+no-names : (b : Standing) → is_other b ≡ false → is_names b ≡ false
+no-names b known = grind (arith, nat_tests)
+
+-- what one more block of a type adds to those of that type
+counted-as : (n m k kind is : ℕ) → n ≡ m + cond (kind == is) 1 0 → k ≡ kind
+    → m + (if k == is then 1 else 0) ≡ n
+counted-as n m k kind is counted same = ap (λ x. m + (if x == is then 1 else 0)) same ∙ sym counted
 
 -- a block of another kind has no interface with a name
 unnamed : (b : Standing) → is_interface b ≡ false → is_named_interface b ≡ false
@@ -191,28 +238,42 @@ step : (before : List Standing) (b : Standing) (content : BlockContent) → Tell
     → after (known_behind before) content ≡ known_behind (before ++ b ∷ [])
 unfolding known_behind
 step before b content t =
-    same (here content t) (base content t) (skipped content t) (named content t) (first content t)
+    same (here content t) (base content t) (skipped content t) (kinds content t) (named content t) (first content t)
   where
     here : (content : BlockContent) → TellsOf b content
         → (after (known_behind before) content).interfaces ≡ interfaces_of (after_last is_header (before ++ b ∷ []))
     here contents.Section t = rw (here-more before b, t.0) refl
     here (contents.Interface i) t = rw (here-more before b, t.0, t.1, t.3) refl
     here (contents.Packet p) t = rw (here-more before b, t.0, t.1) refl
-    here contents.Other t = rw (here-more before b, t.0, t.1) refl
+    here (contents.Other k) t = rw (here-more before b, t.0, t.1) refl
 
     base : (content : BlockContent) → TellsOf b content
         → (after (known_behind before) content).base ≡ count_by is_interface (before_last is_header (before ++ b ∷ []))
     base contents.Section t = rw (before-more is_header before b, t.0) (numbers-law before)
     base (contents.Interface i) t = rw (before-more is_header before b, t.0) refl
     base (contents.Packet p) t = rw (before-more is_header before b, t.0) refl
-    base contents.Other t = rw (before-more is_header before b, t.0) refl
+    base (contents.Other k) t = rw (before-more is_header before b, t.0) refl
 
     skipped : (content : BlockContent) → TellsOf b content
         → (after (known_behind before) content).skipped ≡ count_by is_other (before ++ b ∷ [])
     skipped contents.Section t = counted-none _ _ _ (count-more is_other before b) t.2
     skipped (contents.Interface i) t = counted-none _ _ _ (count-more is_other before b) t.2
     skipped (contents.Packet p) t = counted-none _ _ _ (count-more is_other before b) t.2
-    skipped contents.Other t = counted-one _ _ _ (count-more is_other before b) t.2
+    skipped (contents.Other k) t = counted-one _ _ _ (count-more is_other before b) t.2
+
+    known : is_other b ≡ false → (known_behind before).kinds ≡ (known_behind (before ++ b ∷ [])).kinds
+    known is =
+        same-kinds (counted-none _ _ _ (count-more is_secrets before b) (no-secrets b is))
+        (counted-none _ _ _ (count-more is_names before b) (no-names b is))
+
+    kinds : (content : BlockContent) → TellsOf b content
+        → (after (known_behind before) content).kinds ≡ (known_behind (before ++ b ∷ [])).kinds
+    kinds contents.Section t = known t.2
+    kinds (contents.Interface i) t = known t.2
+    kinds (contents.Packet p) t = known t.2
+    kinds (contents.Other k) t =
+        same-kinds (counted-as _ _ k b.0.kind secrets_kind (count-more is_secrets before b) t.3)
+        (counted-as _ _ k b.0.kind names_kind (count-more is_names before b) t.3)
 
     named : (content : BlockContent) → TellsOf b content
         → (after (known_behind before) content).named ≡ count_by is_named_interface (before ++ b ∷ [])
@@ -221,7 +282,7 @@ step before b content t =
         sym (count-more is_named_interface before b
         ∙ ap (λ x. count_by is_named_interface before + cond x 1 0) (named-as b d.is_named t.1 t.4))
     named (contents.Packet p) t = counted-none _ _ _ (count-more is_named_interface before b) (unnamed b t.1)
-    named contents.Other t = counted-none _ _ _ (count-more is_named_interface before b) (unnamed b t.1)
+    named (contents.Other k) t = counted-none _ _ _ (count-more is_named_interface before b) (unnamed b t.1)
 
     first : (content : BlockContent) → TellsOf b content
         → (after (known_behind before) content).first ≡ slice_get (interfaces_of (before ++ b ∷ [])) 0
@@ -229,7 +290,7 @@ step before b content t =
     first (contents.Interface i) t = rw (interfaces-more before b, t.1, t.3)
         (sym (first-more (interfaces_of before) (told b)))
     first (contents.Packet p) t = rw (interfaces-more before b, t.1) refl
-    first contents.Other t = rw (interfaces-more before b, t.1) refl
+    first (contents.Other k) t = rw (interfaces-more before b, t.1) refl
 
 -- ---- the laws, from any blocks on
 

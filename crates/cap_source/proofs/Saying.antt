@@ -65,15 +65,15 @@ module _ (OfInterface : Interface → Type 0) (OfPacket : BlockPacket → Type 0
   OfContent contents.Section = Unit {0}
   OfContent (contents.Interface described) = OfInterface described.interface
   OfContent (contents.Packet p) = OfPacket p
-  OfContent contents.Other = Unit {0}
+  OfContent (contents.Other kind) = Unit {0}
 
-  by_kind : (a b c d e : Bool) (order : Order) (body : List ℕ) (i : Result Interface Rule)
+  by_kind : (a b c d e : Bool) (kind : ℕ) (order : Order) (body : List ℕ) (i : Result Interface Rule)
       (x y z : Result BlockPacket Rule)
       → IfOk i OfInterface → IfOk x OfPacket → IfOk y OfPacket → IfOk z OfPacket
       → IfOk (if a then Ok contents.Section else if b then of_body (described order body) i else
       if c then of_body contents.Packet x else if d then of_body contents.Packet y else if e then of_body
-      contents.Packet z else Ok contents.Other) OfContent
-  by_kind a b c d e order body i x y z f p q r = grind arith
+      contents.Packet z else Ok (contents.Other kind)) OfContent
+  by_kind a b c d e kind order body i x y z f p q r = grind arith
 
   pub content-holds : (interfaces : List Interface) (kind : ℕ) (order : Order) (body : List ℕ)
       → IfOk (interface_in (length interfaces) order body) OfInterface

@@ -72,4 +72,5 @@ content_in interfaces kind order body =
     if kind == interface_kind then of_body (described order body) (interface_in (length interfaces) order body) else
     if kind == enhanced_kind then of_body contents.Packet (timed_in interfaces (number order 4 body) order body) else
     if kind == obsolete_kind then of_body contents.Packet (timed_in interfaces (number order 2 body) order body) else
-    if kind == simple_kind then of_body contents.Packet (simple_in interfaces order body) else Ok contents.Other
+    if kind == simple_kind then of_body contents.Packet (simple_in interfaces order body) else
+    Ok (contents.Other kind)

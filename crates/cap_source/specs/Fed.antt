@@ -32,7 +32,7 @@ skipped_items file tail progress block left bytes =
     if nat_lt (length bytes) (left + 4) then
     items_of_stop (stop_by true tail file block.offset (block.total - 4 - left + length bytes) Cut) else
     if number block.order 4 (drop left bytes) == block.total
-    then items_of_blocks file (after progress contents.Other)
+    then items_of_blocks file (after progress (contents.Other block.kind))
     (block_items_from (Some block.order) tail file (block.offset + block.total) (drop (left + 4) bytes))
     else refused (record { file = file; offset = block.offset; rule = BlockTrailer }) ∷ []
 

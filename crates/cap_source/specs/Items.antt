@@ -1,6 +1,6 @@
 -- The packets of a capture file, by the records or the blocks that it splits into (draft-ietf-opsawg-pcap, 4 and 5;
 -- draft-ietf-opsawg-pcapng, 4.1 and 4.2).
-use Rattle.std.specs.Prelude.{◌+◌, ◌&&◌, ℕ, nat_le, if◌then◌else◌, Bool, true, false, List, [], ◌∷◌, ◌++◌, length, take}
+use Rattle.std.specs.Prelude.{◌+◌, ◌==◌, ◌&&◌, ℕ, nat_le, if◌then◌else◌, Bool, true, false, List, [], ◌∷◌, ◌++◌, length, take}
 use Rattle.std.specs.Prelude.{drop, Option, Some, None, Result, Ok, Err, refl}
 use Rattle.cap_bytes.specs.Items as pieces
 use Rattle.cap_bytes.specs.declared.faults.Rule.{Rule}
@@ -25,22 +25,44 @@ use Rattle.cap_source.specs.declared.contents.BlockContent.{BlockContent}
 use Rattle.cap_source.specs.declared.contents.BlockContent.TheVariants as contents
 use Rattle.cap_source.specs.declared.contents.BlockPacket.{BlockPacket}
 use Rattle.cap_source.specs.declared.feeds.FileEnd.{FileEnd}
+use Rattle.cap_source.specs.declared.feeds.SkippedKinds.{SkippedKinds}
 use Rattle.cap_bytes.specs.declared.formats.Format.TheVariants.{Pcap, Pcapng}
 use Rattle.cap_source.specs.declared.packets.Meta.{Meta}
 
 -- How far a pcapng file was read: the interfaces of the section that is being read, in order; how many
--- interface blocks of the file stand before the section; how many of its blocks were skipped; how many of its
--- interfaces have a name; and its interface of instance 0, once that was read.
+-- interface blocks of the file stand before the section; how many of its blocks were skipped, and how many of these have
+-- secrets or names; how many of its interfaces have a name; and its interface of instance 0, once that was read.
 pub record SectionProgress : Type 0 where
   pub interfaces : List Interface
   pub base : ℕ
   pub skipped : ℕ
+  pub kinds : SkippedKinds
   pub named : ℕ
   pub first : Option Interface
 
+-- The types of the skipped blocks that are counted by themselves: Name Resolution Blocks (draft-ietf-opsawg-pcapng, 4.5)
+-- and Decryption Secrets Blocks (4.7).
+abbrev pub names_kind : ℕ
+names_kind = 4
+
+abbrev pub secrets_kind : ℕ
+secrets_kind = 10
+
+-- no such block was skipped
+abbrev pub no_kinds : SkippedKinds
+no_kinds = record { secrets = 0; names = 0 }
+
+-- one more block was skipped, of that type
+abbrev pub with_kind : SkippedKinds → ℕ → SkippedKinds
+with_kind kinds kind =
+    record {
+      secrets = kinds.secrets + (if kind == secrets_kind then 1 else 0);
+      names = kinds.names + (if kind == names_kind then 1 else 0);
+    }
+
 -- nothing was read yet
 abbrev pub fresh : SectionProgress
-fresh = record { interfaces = []; base = 0; skipped = 0; named = 0; first = None }
+fresh = record { interfaces = []; base = 0; skipped = 0; kinds = no_kinds; named = 0; first = None }
 
 abbrev pub first_or : Option Interface → Interface → Interface
 first_or None interface = interface
@@ -53,6 +75,7 @@ after progress contents.Section =
       interfaces = [];
       base = progress.base + length progress.interfaces;
       skipped = progress.skipped;
+      kinds = progress.kinds;
       named = progress.named;
       first = progress.first;
     }
@@ -61,15 +84,17 @@ after progress (contents.Interface described) =
       interfaces = progress.interfaces ++ described.interface ∷ [];
       base = progress.base;
       skipped = progress.skipped;
+      kinds = progress.kinds;
       named = progress.named + (if described.is_named then 1 else 0);
       first = Some (first_or progress.first described.interface);
     }
 after progress (contents.Packet p) = progress
-after progress contents.Other =
+after progress (contents.Other kind) =
     record {
       interfaces = progress.interfaces;
       base = progress.base;
       skipped = progress.skipped + 1;
+      kinds = with_kind progress.kinds kind;
       named = progress.named;
       first = progress.first;
     }
@@ -98,7 +123,7 @@ items_at_block file progress block body (Ok contents.Section) rest = rest
 items_at_block file progress block body (Ok (contents.Interface described)) rest = rest
 items_at_block file progress block body (Ok (contents.Packet p)) rest =
     packet (meta_in file progress block p) (frame_in p body) ∷ rest
-items_at_block file progress block body (Ok contents.Other) rest = rest
+items_at_block file progress block body (Ok (contents.Other kind)) rest = rest
 items_at_block file progress block body (Err rule) rest =
     refused (record { file = file; offset = block.offset; rule = rule }) ∷ []
 
@@ -121,14 +146,15 @@ items_of_blocks file progress (pieces.given block body ∷ rest) =
     let content = content_in progress.interfaces block.kind block.order body in
     items_at_block file progress block body content (items_of_blocks file (behind progress content) rest)
 
--- how a pcapng file ends that was read so far, the rest that was dropped, how many interfaces it has, and how many of
--- them have a name
+-- how a pcapng file ends that was read so far, the rest that was dropped, how many interfaces it has, how many of them
+-- have a name, and how many of its skipped blocks have secrets or names
 abbrev pub ending_with : SectionProgress → Option CutRest → FileEnd
 ending_with progress cut =
     record {
       ending = record { format = Pcapng; skipped = progress.skipped; cut = cut };
       interfaces = progress.base + length progress.interfaces;
       named = progress.named;
+      kinds = progress.kinds;
     }
 
 -- one of two, by whether a block breaks a rule
@@ -149,7 +175,7 @@ abbrev pub unless_item : {A : Type 0} → Result BlockContent Rule → A → A �
 unless_item (Ok contents.Section) here later = later
 unless_item (Ok (contents.Interface described)) here later = later
 unless_item (Ok (contents.Packet p)) here later = here
-unless_item (Ok contents.Other) here later = later
+unless_item (Ok (contents.Other kind)) here later = later
 unless_item (Err rule) here later = here
 
 -- the interface of instance 0 that stands before the next item or the end, by the blocks of its rest
@@ -204,6 +230,7 @@ pcap_ending_with cut =
       ending = record { format = Pcap; skipped = 0; cut = cut };
       interfaces = 1;
       named = 0;
+      kinds = no_kinds;
     }
 
 unfoldable pub pcap_ending : List (pieces.PieceItem Record) → FileEnd

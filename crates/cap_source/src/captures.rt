@@ -14,7 +14,7 @@ ghost use Rattle.cap_source.specs.inner.Laws.{captures_lawful};
 ghost use Rattle.cap_source.specs.inner.SectionState.{progress_of};
 ghost use Rattle.cap_source.specs.inner.Readers.{reader_file_state, is_there, reader_room};
 
-use crate::feeds::{Ending, FeedHeld, FileEnd, Head, PacketFeed};
+use crate::feeds::{Ending, FeedHeld, FileEnd, Head, PacketFeed, SkippedKinds};
 use crate::opening::open;
 use crate::packets::Meta;
 use crate::pcap::{ending_of_pcap, next_of_pcap};
@@ -271,6 +271,10 @@ impl<R: Source> PacketFeed for Capture<R> {
 
     fn named_interfaces(&self, _file: u32) -> u64 {
         ending_of(self.next.get()).named
+    }
+
+    fn skipped_kinds(&self, _file: u32) -> SkippedKinds {
+        ending_of(self.next.get()).kinds
     }
 
     fn feed_held(&self) -> FeedHeld {

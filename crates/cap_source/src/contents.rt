@@ -50,8 +50,8 @@ pub enum BlockContent {
     Interface(InterfaceDescription),
     /// A packet.
     Packet(BlockPacket),
-    /// Nothing that is read.
-    Other,
+    /// Nothing that is read: the block is skipped, which is of that type.
+    Other(u32),
 }
 
 // A packet whose captured bytes are within the limit and within the body.
@@ -201,6 +201,6 @@ pub fn content_of(
             Ok(BlockContent::Packet(timed_packet(interfaces, number, order, body)?))
         }
         SIMPLE_PACKET => Ok(BlockContent::Packet(simple_packet(interfaces, order, body)?)),
-        _ => Ok(BlockContent::Other),
+        _ => Ok(BlockContent::Other(kind)),
     }
 }

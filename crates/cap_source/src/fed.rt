@@ -13,7 +13,7 @@ use crate::contents::{BlockContent, content_of};
 use crate::packets::Meta;
 use crate::pcap::meta_of_record;
 use crate::pcapng::meta_of_packet;
-use crate::section_states::{SectionState, go_on};
+use crate::section_states::{SectionState, go_on, skip_block};
 use cap_blocks::{Block, body_rule, find_block_header, is_known, is_section};
 use cap_bytes::{Fault, Order, Refusal, Rule, Stop, Tail, u32_at};
 use cap_pcap::{PcapHeader, find_header, find_record};
@@ -356,7 +356,7 @@ fn step_skip(
     if u32_at(block.order, bytes, 0) != block.total {
         return break_skip(state, Rule::BlockTrailer, size);
     }
-    state.reached.skipped += 1;
+    skip_block(&mut state.reached, block.kind);
     state.offset += u64::from(block.total);
     state.stage = Stage::Blocks(Some(block.order));
     Ok(PushEvent::Passed(4))

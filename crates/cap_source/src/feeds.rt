@@ -28,7 +28,22 @@ pub struct Ending {
     pub cut: Option<CutRest>,
 }
 
-/// How a file ended, or was refused, and what it has of interfaces up to there.
+/// How many blocks of a file were skipped of the types that are counted by themselves; none in a pcap file.
+#[derive(Clone, Copy, Debug, PartialEq, Eq)]
+pub struct SkippedKinds {
+    /// Decryption Secrets Blocks, of type 10. draft-ietf-opsawg-pcapng, 4.7.
+    pub secrets: u64,
+    /// Name Resolution Blocks, of type 4. draft-ietf-opsawg-pcapng, 4.5.
+    pub names: u64,
+}
+
+/// No such block was skipped.
+pub const NO_KINDS: SkippedKinds = SkippedKinds {
+    secrets: 0,
+    names: 0,
+};
+
+/// How a file ended, or was refused, and what it has of interfaces and of skipped blocks up to there.
 #[derive(Clone, Copy, Debug, PartialEq, Eq)]
 pub struct FileEnd {
     /// How it ended.
@@ -37,6 +52,8 @@ pub struct FileEnd {
     pub interfaces: u64,
     /// How many of its interface blocks have an `if_name`; 0 in a pcap file. draft-ietf-opsawg-pcapng, 4.2.
     pub named: u64,
+    /// How many of its skipped blocks have secrets, and how many have names.
+    pub kinds: SkippedKinds,
 }
 
 /// What a feed holds of its files, each number being the greatest of any of them.
@@ -108,6 +125,13 @@ pub trait PacketFeed: Drop {
         requires end { (feed self.now).known ≡ Some Head.End }
         requires file { HasFile (feed self.now).files file }
         ensures named { result ≡ ((feed self.now).endings file).named };
+
+    /// How many blocks of a file of that number, which is one of the feed's, were skipped of the types that are counted
+    /// by themselves.
+    fn skipped_kinds(&self, file: u32) -> SkippedKinds
+        requires end { (feed self.now).known ≡ Some Head.End }
+        requires file { HasFile (feed self.now).files file }
+        ensures kinds { result ≡ ((feed self.now).endings file).kinds };
 
     /// What it holds.
     fn feed_held(&self) -> FeedHeld

@@ -1,6 +1,7 @@
 //! Laws of capture files, each the contract of a function that does nothing.
 ghost use Rattle.cap_source.specs.inner.Fields.{FieldsFit, FramesFit};
-ghost use Rattle.cap_source.specs.inner.Places.{ItemsByPlaces, EndingByPlaces, FirstByPlaces, NumbersByPlaces};
+ghost use Rattle.cap_source.specs.inner.Places.{ItemsByPlaces, EndingByPlaces, FirstByPlaces, KindsByPlaces};
+ghost use Rattle.cap_source.specs.inner.Places.{NumbersByPlaces};
 ghost use Rattle.cap_source.specs.inner.Written.{InterfaceWritten};
 
 /// In every file, of either format, the fields of a packet and of its interface fit in their widths: the
@@ -14,13 +15,14 @@ pub fn fields_fit()
 
 /// In every pcapng file what counts at a block are the blocks before it, by their kinds: the interfaces are those
 /// of the interface blocks after the last section header, in order; how many stand before that header counts for
-/// the instance; and as many blocks were skipped as are of no known kind. By these go the items, how the file
-/// ends, and its first interface.
+/// the instance; and as many blocks were skipped as are of no known kind, those of secrets and of names among them.
+/// By these go the items, how the file ends, and its first interface.
 pub fn blocks_by_places()
     ensures items { ItemsByPlaces }
     ensures ending { EndingByPlaces }
     ensures first { FirstByPlaces }
     ensures numbers { NumbersByPlaces }
+    ensures kinds { KindsByPlaces }
 {}
 
 /// What is written for an interface of which the fields fit is read again as that interface: its link type, its

@@ -20,7 +20,7 @@ mod walks;
 
 pub use crate::captures::Capture;
 pub use crate::fed_captures::{Fed, FedCapture};
-pub use crate::feeds::{Ending, FeedHeld, FileEnd, Head, PacketFeed};
+pub use crate::feeds::{Ending, FeedHeld, FileEnd, Head, NO_KINDS, PacketFeed, SkippedKinds};
 pub use crate::listed::Listed;
 pub use crate::packets::Meta;
 pub use crate::walks::next_packet;

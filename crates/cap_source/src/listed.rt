@@ -3,7 +3,7 @@ ghost use Rattle.std.specs.Prelude.{◌≡◌, ◌≤◌, ◌^◌, None, drop, l
 ghost use Rattle.std.specs.Option.{ForSome};
 ghost use Rattle.cap_source.specs.inner.Listed.{head_at, list_feed, lists_lawful};
 
-use crate::feeds::{Ending, FeedHeld, Head, PacketFeed};
+use crate::feeds::{Ending, FeedHeld, Head, NO_KINDS, PacketFeed, SkippedKinds};
 use crate::packets::Meta;
 use cap_bytes::{Fault, Format, Refusal, Rule};
 use cap_time::Interface;
@@ -134,6 +134,10 @@ impl PacketFeed for Listed {
 
     fn named_interfaces(&self, _file: u32) -> u64 {
         0
+    }
+
+    fn skipped_kinds(&self, _file: u32) -> SkippedKinds {
+        NO_KINDS
     }
 
     fn feed_held(&self) -> FeedHeld {

@@ -5,7 +5,7 @@ ghost use Rattle.cap_source.specs.inner.FileState.{FileAnswers, TakesShown, File
 ghost use Rattle.cap_source.specs.inner.FileState.{pcap_state};
 ghost use Rattle.cap_source.specs.inner.Fronts.{FrontsAnswer, FrontsPass, pcap_fronts};
 
-use crate::feeds::{Ending, FileEnd};
+use crate::feeds::{Ending, FileEnd, NO_KINDS};
 use crate::packets::Meta;
 use crate::peek_slots::PeekSlot;
 use cap_bytes::{CutRest, Fault, Format, Source};
@@ -47,6 +47,7 @@ pub fn ending_of_pcap(cut: Option<CutRest>) -> FileEnd
         },
         interfaces: 1,
         named: 0,
+        kinds: NO_KINDS,
     }
 }
 

@@ -26,6 +26,7 @@ pub fn ending_of_blocks(reached: &SectionState, cut: Option<CutRest>) -> FileEnd
 {
     let skipped = reached.skipped;
     let named = reached.named;
+    let kinds = reached.kinds;
     FileEnd {
         ending: Ending {
             format: Format::Pcapng,
@@ -34,6 +35,7 @@ pub fn ending_of_blocks(reached: &SectionState, cut: Option<CutRest>) -> FileEnd
         },
         interfaces: reached.base + reached.interfaces.len() as u64,
         named,
+        kinds,
     }
 }
 
@@ -52,7 +54,7 @@ fn read_content<R: Source>(
     if is_known(block.kind) {
         content_of(interfaces, block.kind, block.order, reader.body())
     } else {
-        Ok(BlockContent::Other)
+        Ok(BlockContent::Other(block.kind))
     }
 }
 

@@ -4,8 +4,14 @@ ghost use Rattle.cap_source.specs.Items.{after, fresh};
 ghost use Rattle.cap_source.specs.inner.SectionState.{progress_of, counted_blocks};
 
 use crate::contents::{BlockContent, InterfaceDescription};
+use crate::feeds::{NO_KINDS, SkippedKinds};
 use cap_time::Interface;
 use std::alloc::Global;
+
+// The types of the blocks that are counted by themselves among those that are skipped.
+const NAME_RESOLUTION: u32 = 4;
+
+const DECRYPTION_SECRETS: u32 = 10;
 
 /// How far a pcapng file was read.
 #[derive(Drop)]
@@ -16,6 +22,8 @@ pub struct SectionState {
     pub base: u64,
     /// How many blocks of the file were skipped.
     pub skipped: u64,
+    /// How many of these blocks have secrets, and how many have names.
+    pub kinds: SkippedKinds,
     /// How many interfaces of the file have a name.
     pub named: u64,
     /// The first interface of the file, once it was read.
@@ -30,6 +38,7 @@ pub fn nothing_reached(alloc: Global) -> SectionState
         interfaces: Vec::new(alloc),
         base: 0,
         skipped: 0,
+        kinds: NO_KINDS,
         named: 0,
         first: None,
     }
@@ -57,6 +66,19 @@ fn add_interface(reached: &mut SectionState, described: InterfaceDescription)
     reached.interfaces.push_reserved(described.interface);
 }
 
+/// After a block that is skipped, of that type.
+pub fn skip_block(reached: &mut SectionState, kind: u32)
+    requires { counted_blocks (progress_of reached.old) < 2 ^ 40 }
+    ensures { progress_of reached.new ≡ after (progress_of reached.old) (BlockContent.Other kind) }
+{
+    reached.skipped += 1;
+    match kind {
+        DECRYPTION_SECRETS => reached.kinds.secrets += 1,
+        NAME_RESOLUTION => reached.kinds.names += 1,
+        _ => {}
+    }
+}
+
 /// Goes on after a block that says this. There is room for an interface.
 pub fn go_on(reached: &mut SectionState, content: BlockContent)
     requires room { vec_len reached.old.interfaces < vec_capacity reached.old.interfaces }
@@ -67,6 +89,6 @@ pub fn go_on(reached: &mut SectionState, content: BlockContent)
         BlockContent::Section => begin_section(reached),
         BlockContent::Interface(described) => add_interface(reached, described),
         BlockContent::Packet(_) => {}
-        BlockContent::Other => reached.skipped += 1,
+        BlockContent::Other(kind) => skip_block(reached, kind),
     }
 }

@@ -55,6 +55,17 @@ pub(crate) const OPTIONS_PCAPNG: File = &[
     "05000000180000000000000000000000a025260018000000",
 ];
 
+// A section, two Decryption Secrets Blocks of 20 bytes, of which one has a key log without lines and the other no known
+// secrets, a Name Resolution Block of 16 without records, a statistics block of 24, and a block of 12 of type 11.
+pub(crate) const SKIPPED_PCAPNG: File = &[
+    SECTION,
+    "0a000000140000004b534c540000000014000000",
+    "0a00000014000000000000000000000014000000",
+    "04000000100000000000000010000000",
+    "05000000180000000000000000000000a025260018000000",
+    "0b0000000c0000000c000000",
+];
+
 // An interface of Ethernet and snaplen 4, and a simple packet on it that had 10 bytes.
 const SNAPLEN_4: &str = "0100000014000000010000000400000014000000";
 

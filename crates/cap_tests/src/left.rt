@@ -2,7 +2,9 @@
 
 use crate::checks::{holds, same};
 use crate::files::{reader_of, room_of, sources_of};
-use crate::hex_vectors::{CUT_PCAP, File, LATE, OPTIONS_PCAPNG, RUNS_BACK, RUNS_ON};
+use crate::hex_vectors::{
+    CUT_PCAP, File, LATE, OPTIONS_PCAPNG, RUNS_BACK, RUNS_ON, SKIPPED_PCAPNG,
+};
 use cap_bytes::{CutRest, Fault, Order, Pieces, Refusal, Rule, Sink, Source, Tail};
 use cap_commands::{DroppedInfo, convert_and_count, join_and_count, merge_and_count};
 use cap_merge::{Merged, merge_files};
@@ -16,22 +18,25 @@ const CUT: Fault = Fault::Refused(Refusal {
     rule: Rule::Cut,
 });
 
-// Files, how a merge or a join of them ends, how many blocks they hold that are skipped, how many interfaces with
-// names, and how many packets run back.
-type Row = (&'static [File], Result<(), Fault>, u128, u128, u128);
+// Files, how a merge or a join of them ends, how many blocks they hold that are skipped, how many of these have secrets
+// and how many names, how many interfaces have a name, and how many packets run back.
+type Row = (&'static [File], Result<(), Fault>, [u128; 5]);
 
-const LEFT: [Row; 5] = [
-    (&[OPTIONS_PCAPNG], Ok(()), 1, 1, 0),
-    (&[RUNS_ON, RUNS_ON], Ok(()), 0, 0, 0),
-    (&[RUNS_BACK, RUNS_BACK], Ok(()), 0, 0, 2),
+const LEFT: [Row; 6] = [
+    (&[OPTIONS_PCAPNG], Ok(()), [1, 0, 0, 1, 0]),
+    (&[RUNS_ON, RUNS_ON], Ok(()), [0, 0, 0, 0, 0]),
+    (&[RUNS_BACK, RUNS_BACK], Ok(()), [0, 0, 0, 0, 2]),
     (
         &[OPTIONS_PCAPNG, RUNS_BACK, OPTIONS_PCAPNG],
         Ok(()),
-        2,
-        2,
-        1,
+        [2, 0, 0, 2, 1],
     ),
-    (&[RUNS_BACK, CUT_PCAP], Err(CUT), 0, 0, 0),
+    (
+        &[SKIPPED_PCAPNG, OPTIONS_PCAPNG, SKIPPED_PCAPNG],
+        Ok(()),
+        [11, 4, 2, 1, 0],
+    ),
+    (&[RUNS_BACK, CUT_PCAP], Err(CUT), [0, 0, 0, 0, 0]),
 ];
 
 // What a merge of 1 to 32 files answers, whose packets that run backward are counted.
@@ -64,10 +69,13 @@ fn join<R: Source, W: Sink>(
 
 // What is answered of files that are merged or joined.
 fn wanted(row: &Row) -> Result<DroppedInfo, Fault> {
-    let (_, ending, skipped, named, ran_back) = *row;
+    let (_, ending, counts) = *row;
     ending?;
+    let [skipped, secret_blocks, name_blocks, named, ran_back] = counts;
     Ok(DroppedInfo {
         skipped,
+        secret_blocks,
+        name_blocks,
         named,
         ran_back,
         cuts: [None; 32],
@@ -112,23 +120,26 @@ fn always_memory_files_are_joined_with_a_count(rt: HostRuntime) {
     }
 }
 
-// A file, the format that it is written in, how many of its blocks are skipped, and how many of its interfaces have
-// names.
-const CONVERTED: [(File, Format, u128, u128); 3] = [
-    (OPTIONS_PCAPNG, Format::Pcapng, 1, 1),
-    (OPTIONS_PCAPNG, Format::Pcap, 1, 1),
-    (RUNS_BACK, Format::Pcapng, 0, 0),
+// A file, the format that it is written in, how many of its blocks are skipped, how many of these have secrets and how
+// many names, and how many of its interfaces have a name.
+const CONVERTED: [(File, Format, [u128; 4]); 4] = [
+    (OPTIONS_PCAPNG, Format::Pcapng, [1, 0, 0, 1]),
+    (OPTIONS_PCAPNG, Format::Pcap, [1, 0, 0, 1]),
+    (SKIPPED_PCAPNG, Format::Pcapng, [5, 2, 1, 0]),
+    (RUNS_BACK, Format::Pcapng, [0, 0, 0, 0]),
 ];
 
 // What is left of a file that is converted.
-fn converts(rt: &impl Abort, alloc: Global, file: File, format: Format, kept_back: (u128, u128)) {
+fn converts(rt: &impl Abort, alloc: Global, file: File, format: Format, counts: [u128; 4]) {
     let mut writer = room_of(rt, alloc, 512);
     let source = reader_of(rt, alloc, file, 4096);
     let order = Order::Little;
     let answer = convert_and_count(alloc, source, Tail::Refuse, order, format, &mut writer);
-    let (skipped, named) = kept_back;
+    let [skipped, secret_blocks, name_blocks, named] = counts;
     let left_out = DroppedInfo {
         skipped,
+        secret_blocks,
+        name_blocks,
         named,
         ran_back: 0,
         cuts: [None; 32],
@@ -139,8 +150,8 @@ fn converts(rt: &impl Abort, alloc: Global, file: File, format: Format, kept_bac
 
 #[test]
 fn always_memory_files_are_converted_with_a_count(rt: HostRuntime) {
-    for (file, format, skipped, named) in &CONVERTED {
-        converts(&rt, rt.alloc(), *file, *format, (*skipped, *named));
+    for (file, format, counts) in &CONVERTED {
+        converts(&rt, rt.alloc(), *file, *format, *counts);
     }
 }
 
@@ -165,6 +176,8 @@ fn cut_files_left() -> Result<DroppedInfo, Fault> {
     cuts[2] = Some(RECORD_REST);
     Ok(DroppedInfo {
         skipped: 0,
+        secret_blocks: 0,
+        name_blocks: 0,
         named: 0,
         ran_back: 0,
         cuts,
@@ -198,6 +211,8 @@ fn always_memory_the_rest_of_a_converted_file_is_left(rt: HostRuntime) {
     cuts[0] = Some(RECORD_REST);
     let left_out = DroppedInfo {
         skipped: 0,
+        secret_blocks: 0,
+        name_blocks: 0,
         named: 0,
         ran_back: 0,
         cuts,

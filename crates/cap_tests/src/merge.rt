@@ -9,7 +9,7 @@ use crate::files::{bytes_of, fails_twice, merged_of, pair_of, reader_of, sources
 use crate::hex_vectors::{File, PACKET, RUNS_BACK, RUNS_ON, SECTION};
 use cap_bytes::{Fault, Pieces, Refusal, Rule};
 use cap_merge::Merged;
-use cap_source::{Ending, Format, Head, Listed, PacketFeed};
+use cap_source::{Ending, Format, Head, Listed, NO_KINDS, PacketFeed};
 use cap_time::{Interface, Resolution, Stamp};
 use std::alloc::{AllocError, Global};
 use std::process::Abort;
@@ -177,6 +177,7 @@ fn endings(rt: HostRuntime) {
         cut: None,
     };
     same!(&rt; feed.ending(2), ending);
+    same!(&rt; feed.skipped_kinds(2), NO_KINDS);
 }
 
 // An interface of Ethernet without options, once and twice in front of a packet.

@@ -1,5 +1,5 @@
 -- The lines that tell what a command that writes a capture leaves out, or leaves as it was.
-use Rattle.std.specs.Prelude.{ℕ, ◌==◌, ◌&&◌, List, [], ◌++◌, codes, decimal, if◌then◌else◌}
+use Rattle.std.specs.Prelude.{ℕ, ◌==◌, ◌&&◌, ◌-◌, Bool, List, [], ◌++◌, codes, decimal, if◌then◌else◌}
 use Rattle.cap_commands.specs.declared.left.DroppedInfo.{DroppedInfo}
 use Rattle.cap_tool.specs.declared.outcomes.Outcome.{Outcome}
 use Rattle.cap_tool.specs.declared.outcomes.Outcome.TheVariants as outcomes
@@ -9,21 +9,44 @@ abbrev pub count_text : List ℕ → ℕ → List ℕ → List ℕ → List ℕ
 count_text label count one many = if count == 0 then [] else label ++ decimal count
     ++ (if count == 1 then one else many)
 
--- what stands before the number of named interfaces
-abbrev pub names_label : ℕ → List ℕ
-names_label skipped = if skipped == 0 then codes "not carried on: names of " else codes ", names of "
+-- the skipped blocks that are neither blocks of secrets nor blocks of names
+abbrev pub other_blocks : DroppedInfo → ℕ
+other_blocks left = left.skipped - left.secret_blocks - left.name_blocks
 
--- the line of what isn't carried on: the blocks, and the interfaces with names
-abbrev pub dropped_text : ℕ → ℕ → List ℕ
-dropped_text skipped named =
-    count_text (codes "not carried on: ") skipped (codes " block") (codes " blocks")
-    ++ count_text (names_label skipped) named (codes " interface") (codes " interfaces")
-    ++ (if (skipped == 0) && (named == 0) then [] else codes "\n")
+-- The parts of the line of what isn't carried on, each of which is its first part or follows another: the blocks of
+-- names,
+abbrev pub name_blocks_text : Bool → ℕ → List ℕ
+name_blocks_text is_first count =
+    if is_first then count_text (codes "not carried on: ") count (codes " block of names") (codes " blocks of names")
+    else count_text (codes ", ") count (codes " of names") (codes " of names")
+
+-- the blocks of other kinds,
+abbrev pub other_blocks_text : Bool → ℕ → List ℕ
+other_blocks_text is_first count =
+    if is_first then count_text (codes "not carried on: ") count (codes " block") (codes " blocks")
+    else count_text (codes ", ") count (codes " of another kind") (codes " of other kinds")
+
+-- and what stands before the number of interfaces with a name.
+abbrev pub names_label : Bool → List ℕ
+names_label is_first = if is_first then codes "not carried on: names of " else codes ", names of "
+
+-- the line of what isn't carried on: the blocks of secrets, those of names, the others, and the interfaces with names,
+-- each unless there is none
+abbrev pub dropped_text : DroppedInfo → List ℕ
+dropped_text left =
+    let no_secrets = left.secret_blocks == 0 in
+    let no_kinds = no_secrets && (left.name_blocks == 0) in
+    let no_blocks = no_kinds && (other_blocks left == 0) in
+    count_text (codes "not carried on: ") left.secret_blocks (codes " block of secrets") (codes " blocks of secrets")
+    ++ name_blocks_text no_secrets left.name_blocks
+    ++ other_blocks_text no_kinds (other_blocks left)
+    ++ count_text (names_label no_blocks) left.named (codes " interface") (codes " interfaces")
+    ++ (if no_blocks && (left.named == 0) then [] else codes "\n")
 
 -- the lines of what is left
 abbrev pub left_text : DroppedInfo → List ℕ
 left_text left =
-    dropped_text left.skipped left.named
+    dropped_text left
     ++ count_text (codes "ran back: ") left.ran_back (codes " packet\n") (codes " packets\n")
 
 -- these, if all was done

@@ -2,8 +2,8 @@
 //! or leaves as it was.
 ghost use Rattle.std.specs.Prelude.{◌≡◌, ◌+◌, ◌≤◌, ◌++◌, length};
 ghost use Rattle.cap_print.specs.Lines.{room_in, text_in};
-ghost use Rattle.cap_tool.specs.LeftLines.{count_text, dropped_text, left_text, left_told};
-ghost use Rattle.cap_tool.specs.LeftLines.{names_label as names_label_text};
+ghost use Rattle.cap_tool.specs.LeftLines.{count_text, dropped_text, left_text, left_told, name_blocks_text};
+ghost use Rattle.cap_tool.specs.LeftLines.{names_label as names_label_text, other_blocks, other_blocks_text};
 
 use crate::outcomes::Outcome;
 use cap_commands::DroppedInfo;
@@ -33,37 +33,89 @@ fn prepend_count(line: &mut Line, label: &[u8], count: u128, one: &[u8], many: &
     line.prepend_integer(label, count);
 }
 
-// `not carried on: 3 blocks, names of 1 interface`
-fn prepend_dropped(line: &mut Line, skipped: u128, named: u128)
-    requires { 200 ≤ room_in line.old }
-    ensures { text_in line.new ≡ dropped_text skipped named ++ text_in line.old }
+// How many skipped blocks are neither blocks of secrets nor blocks of names.
+fn other_blocks(left: &DroppedInfo) -> u128
+    ensures { result ≡ other_blocks left.now }
 {
-    if skipped == 0 && named == 0 {
-        return;
-    }
-    line.prepend_text(b"\n");
-    prepend_count(
-        line,
-        names_label(skipped),
-        named,
-        b" interface",
-        b" interfaces",
-    );
-    prepend_count(line, b"not carried on: ", skipped, b" block", b" blocks");
+    let beside_secrets = left.skipped.saturating_sub(left.secret_blocks);
+    beside_secrets.saturating_sub(left.name_blocks)
 }
 
-// What stands before the number of named interfaces.
-fn names_label(skipped: u128) -> &'static [u8]
-    ensures { result.now ≡ names_label_text skipped }
+// The blocks of names, which are the first part of the line, or follow blocks of secrets.
+fn prepend_name_blocks(line: &mut Line, is_first: bool, count: u128)
+    requires { 100 ≤ room_in line.old }
+    ensures text { text_in line.new ≡ name_blocks_text is_first count ++ text_in line.old }
+    ensures room { room_in line.old ≤ room_in line.new + 100 }
 {
-    if skipped == 0 {
+    if is_first {
+        prepend_count(
+            line,
+            b"not carried on: ",
+            count,
+            b" block of names",
+            b" blocks of names",
+        );
+    } else {
+        prepend_count(line, b", ", count, b" of names", b" of names");
+    }
+}
+
+// The blocks of other kinds, which are the first part of the line, or follow blocks of secrets or of names.
+fn prepend_other_blocks(line: &mut Line, is_first: bool, count: u128)
+    requires { 100 ≤ room_in line.old }
+    ensures text { text_in line.new ≡ other_blocks_text is_first count ++ text_in line.old }
+    ensures room { room_in line.old ≤ room_in line.new + 100 }
+{
+    if is_first {
+        prepend_count(line, b"not carried on: ", count, b" block", b" blocks");
+    } else {
+        prepend_count(line, b", ", count, b" of another kind", b" of other kinds");
+    }
+}
+
+// What stands before the number of interfaces with a name, which is the first part of the line, or follows blocks.
+fn names_label(is_first: bool) -> &'static [u8]
+    ensures { result.now ≡ names_label_text is_first }
+{
+    if is_first {
         b"not carried on: names of "
     } else {
         b", names of "
     }
 }
 
-// `not carried on: 3 blocks, names of 1 interface`, `ran back: 1 packet`
+// `not carried on: 2 blocks of secrets, 1 of names, 3 of other kinds, names of 2 interfaces`
+fn prepend_dropped(line: &mut Line, left: &DroppedInfo)
+    requires { 400 ≤ room_in line.old }
+    ensures { text_in line.new ≡ dropped_text left.now ++ text_in line.old }
+{
+    let others = other_blocks(left);
+    let no_secrets = left.secret_blocks == 0;
+    let no_kinds = no_secrets && left.name_blocks == 0;
+    let no_blocks = no_kinds && others == 0;
+    if no_blocks && left.named == 0 {
+        return;
+    }
+    line.prepend_text(b"\n");
+    prepend_count(
+        line,
+        names_label(no_blocks),
+        left.named,
+        b" interface",
+        b" interfaces",
+    );
+    prepend_other_blocks(line, no_kinds, others);
+    prepend_name_blocks(line, no_secrets, left.name_blocks);
+    prepend_count(
+        line,
+        b"not carried on: ",
+        left.secret_blocks,
+        b" block of secrets",
+        b" blocks of secrets",
+    );
+}
+
+// `not carried on: 1 block of secrets, names of 1 interface`, `ran back: 1 packet`
 fn count_lines(left: &DroppedInfo) -> Line
     ensures { text_in result ≡ left_text left.now }
 {
@@ -75,12 +127,13 @@ fn count_lines(left: &DroppedInfo) -> Line
         b" packet\n",
         b" packets\n",
     );
-    prepend_dropped(&mut line, left.skipped, left.named);
+    prepend_dropped(&mut line, left);
     line
 }
 
-/// The lines that tell what is left after a run that is done: `not carried on: 3 blocks, names of 1 interface` and `ran
-/// back: 2 packets`, each unless it would tell of none. There is none after any other run.
+/// The lines that tell what is left after a run that is done: `not carried on: 2 blocks of secrets, 1 of names, 3 of
+/// other kinds, names of 1 interface` and `ran back: 2 packets`. Each part is left out if it would tell of none, and so
+/// is each line. There is none after any other run.
 pub fn left_lines(outcome: &Outcome, left: &DroppedInfo) -> Line
     ensures { text_in result ≡ left_told outcome.now left.now }
 {

@@ -12,43 +12,81 @@ const CUT: Fault = Fault::Refused(Refusal {
     rule: Rule::Cut,
 });
 
-// How a run ended, what is left, and what is known of it.
-const TOLD: [(Outcome, [u128; 3], &str); 12] = [
-    (Outcome::Done, [0, 0, 0], ""),
-    (Outcome::Done, [1, 0, 0], "not carried on: 1 block\n"),
-    (Outcome::Done, [3, 0, 0], "not carried on: 3 blocks\n"),
+// How a run ended, how many blocks were skipped, how many of these have secrets and how many names, how many interfaces
+// have a name, how many packets ran back, and what is told of that.
+const TOLD: [(Outcome, [u128; 5], &str); 19] = [
+    (Outcome::Done, [0, 0, 0, 0, 0], ""),
+    (Outcome::Done, [1, 0, 0, 0, 0], "not carried on: 1 block\n"),
+    (Outcome::Done, [3, 0, 0, 0, 0], "not carried on: 3 blocks\n"),
     (
         Outcome::Done,
-        [0, 1, 0],
+        [1, 1, 0, 0, 0],
+        "not carried on: 1 block of secrets\n",
+    ),
+    (
+        Outcome::Done,
+        [2, 0, 2, 0, 0],
+        "not carried on: 2 blocks of names\n",
+    ),
+    (
+        Outcome::Done,
+        [2, 0, 1, 0, 0],
+        "not carried on: 1 block of names, 1 of another kind\n",
+    ),
+    (
+        Outcome::Done,
+        [4, 2, 0, 0, 0],
+        "not carried on: 2 blocks of secrets, 2 of other kinds\n",
+    ),
+    (
+        Outcome::Done,
+        [6, 2, 1, 1, 0],
+        "not carried on: 2 blocks of secrets, 1 of names, 3 of other kinds, names of 1 interface\n",
+    ),
+    (
+        Outcome::Done,
+        [2, 1, 1, 2, 0],
+        "not carried on: 1 block of secrets, 1 of names, names of 2 interfaces\n",
+    ),
+    (
+        Outcome::Done,
+        [1, 0, 1, 1, 1],
+        "not carried on: 1 block of names, names of 1 interface\nran back: 1 packet\n",
+    ),
+    (
+        Outcome::Done,
+        [0, 0, 0, 1, 0],
         "not carried on: names of 1 interface\n",
     ),
     (
         Outcome::Done,
-        [0, 2, 0],
+        [0, 0, 0, 2, 0],
         "not carried on: names of 2 interfaces\n",
     ),
     (
         Outcome::Done,
-        [3, 1, 0],
+        [3, 0, 0, 1, 0],
         "not carried on: 3 blocks, names of 1 interface\n",
     ),
-    (Outcome::Done, [0, 0, 2], "ran back: 2 packets\n"),
+    (Outcome::Done, [0, 0, 0, 0, 2], "ran back: 2 packets\n"),
     (
         Outcome::Done,
-        [12, 0, 1],
+        [12, 0, 0, 0, 1],
         "not carried on: 12 blocks\nran back: 1 packet\n",
     ),
-    (Outcome::Fault(CUT), [12, 1, 1], ""),
-    (Outcome::Line(LineFault::Help), [12, 1, 1], ""),
-    (Outcome::Differ, [12, 1, 1], ""),
-    (Outcome::NotWhole, [12, 1, 1], ""),
+    (Outcome::Fault(CUT), [12, 1, 1, 1, 1], ""),
+    (Outcome::Line(LineFault::Help), [12, 1, 1, 1, 1], ""),
+    (Outcome::Differ, [12, 1, 1, 1, 1], ""),
+    (Outcome::NotWhole, [12, 1, 1, 1, 1], ""),
 ];
 
 // What is printed of what is left.
-fn tells(rt: &impl Abort, outcome: &Outcome, counts: [u128; 3], text: &str) {
-    let [skipped, named, ran_back] = counts;
+fn tells(rt: &impl Abort, outcome: &Outcome, counts: [u128; 5], text: &str) {
+    let [skipped, secret_blocks, name_blocks, named, ran_back] = counts;
     let left = DroppedInfo {
         skipped,
+        secret_blocks,
+        name_blocks,
         named,
         ran_back,
         cuts: [None; 32],
@@ -116,6 +154,8 @@ fn tells_packets(rt: &impl Abort, outcome: &Outcome, numbers: [u64; 8], text: &s
     };
     let left = DroppedInfo {
         skipped: 0,
+        secret_blocks: 0,
+        name_blocks: 0,
         named: 0,
         ran_back: 0,
         cuts: [None; 32],

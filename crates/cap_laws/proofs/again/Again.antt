@@ -22,7 +22,7 @@ use Rattle.cap_source.specs.Contents.{content_in}
 use Rattle.cap_source.specs.Feed.{packet}
 use Rattle.cap_source.specs.Items.{SectionProgress, after, behind, items_at_block, items_of_blocks, meta_in, first_or}
 use Rattle.cap_source.specs.Items.{unless_item}
-use Rattle.cap_source.specs.Items.{first_in}
+use Rattle.cap_source.specs.Items.{first_in, no_kinds}
 use Rattle.cap_source.specs.declared.contents.BlockContent.{BlockContent}
 use Rattle.cap_source.specs.declared.contents.BlockContent.TheVariants as contents
 use Rattle.cap_time.specs.declared.resolutions.Interface.{Interface}
@@ -138,7 +138,8 @@ items_in-packet order tail file offset progress n rest known few fits base skipp
 
 -- how far a written file was read, after those interfaces
 abbrev pub reached : List Interface → Option Interface → SectionProgress
-reached interfaces first = record { interfaces = interfaces; base = 0; skipped = 0; named = 0; first = first }
+reached interfaces first =
+    record { interfaces = interfaces; base = 0; skipped = 0; kinds = no_kinds; named = 0; first = first }
 
 -- what is written for a packet of a known interface, and of a new one
 packets_bytes-known : (order : Order) (count : ℕ) (n : Numbered) (rest : List Numbered) → (n.number == count) ≡ false

@@ -45,7 +45,7 @@ abbrev added : Result BlockContent Rule → List Interface → List Interface
 added (Ok contents.Section) later = later
 added (Ok (contents.Interface described)) later = described.interface ∷ later
 added (Ok (contents.Packet p)) later = later
-added (Ok contents.Other) later = later
+added (Ok (contents.Other kind)) later = later
 added (Err rule) later = []
 
 abbrev future : SectionProgress → List (pieces.PieceItem Block) → List Interface

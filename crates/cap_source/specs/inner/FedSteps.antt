@@ -95,14 +95,14 @@ abbrev pub IsNoPacket : BlockContent → Type 0
 IsNoPacket contents.Section = ⊤
 IsNoPacket (contents.Interface described) = ⊤
 IsNoPacket (contents.Packet p) = ⊥
-IsNoPacket contents.Other = ⊤
+IsNoPacket (contents.Other kind) = ⊤
 
 -- a packet's bytes lie within its block
 abbrev pub SaysWithin : Block → Result BlockContent Rule → Type 0
 SaysWithin block (Ok contents.Section) = ⊤
 SaysWithin block (Ok (contents.Interface described)) = ⊤
 SaysWithin block (Ok (contents.Packet p)) = 12 + p.place + p.captured ≤ block.total
-SaysWithin block (Ok contents.Other) = ⊤
+SaysWithin block (Ok (contents.Other kind)) = ⊤
 SaysWithin block (Err rule) = ⊤
 
 -- What taking a block of a known kind returns and leaves, by what the block says.

@@ -385,7 +385,7 @@ abbrev pub next_at : ℕ → SectionProgress → Block → Result BlockContent R
 next_at file progress block (Ok contents.Section) = None
 next_at file progress block (Ok (contents.Interface described)) = None
 next_at file progress block (Ok (contents.Packet p)) = Some (peeks.Packet (meta_in file progress block p) p.place)
-next_at file progress block (Ok contents.Other) = None
+next_at file progress block (Ok (contents.Other kind)) = None
 next_at file progress block (Err rule) =
     Some (peeks.Refused (record { file = file; offset = block.offset; rule = rule }) (ending_with progress None))
 

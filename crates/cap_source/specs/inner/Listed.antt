@@ -5,6 +5,7 @@ use Rattle.std.proofs.lemmas.Bool.Decides.{nat_tests}
 use Rattle.std.specs.Option.{ForSome}
 use Rattle.cap_bytes.specs.declared.faults.Rule.{Rule}
 use Rattle.cap_source.specs.Feed.{Feed, Item, packet, refused, HasFile, IsFeed}
+use Rattle.cap_source.specs.Items.{no_kinds}
 use Rattle.cap_source.specs.declared.feeds.Head.{Head}
 use Rattle.cap_source.specs.declared.feeds.Head.TheVariants as heads
 use Rattle.cap_bytes.specs.declared.formats.Format.TheVariants.{Pcap}
@@ -50,6 +51,7 @@ list_feed file interface end place times known =
         ending = record { format = Pcap; skipped = 0; cut = None };
         interfaces = 1;
         named = 0;
+        kinds = no_kinds;
       };
       known = known;
       frame = [];

@@ -1,5 +1,5 @@
 -- What is known at a block of a pcapng file, by the blocks before it and the kinds that they have, whatever reads them.
-use Rattle.std.specs.Prelude.{◌≡◌, ◌==◌, ◌&&◌, ◌+◌, ℕ, not, Bool, List, [], ◌∷◌, ◌++◌, map, length, drop}
+use Rattle.std.specs.Prelude.{◌≡◌, ◌≤◌, ◌==◌, ◌&&◌, ◌+◌, ℕ, not, Bool, List, [], ◌∷◌, ◌++◌, map, length, drop}
 use Rattle.std.specs.Prelude.{slice_get, Option, None}
 use Rattle.std.specs.List.{filter, count_by, before_last, after_last}
 use Rattle.cap_bytes.specs.Items as pieces
@@ -10,7 +10,7 @@ use Rattle.cap_source.specs.Feed.{Item}
 use Rattle.cap_source.specs.declared.feeds.FileEnd.{FileEnd}
 use Rattle.cap_source.specs.Contents.{content_in}
 use Rattle.cap_source.specs.Items.{SectionProgress, fresh, items_at_block, items_of_blocks, items_of_stop, ending_with}
-use Rattle.cap_source.specs.Items.{ending_in}
+use Rattle.cap_source.specs.Items.{ending_in, names_kind, secrets_kind}
 use Rattle.cap_source.specs.Items.{unless_faulty, first_in, unless_item}
 use Rattle.cap_source.specs.TimeBases.{interface_at, is_named}
 use Rattle.cap_time.specs.declared.resolutions.Interface.{Interface}
@@ -33,6 +33,13 @@ is_other b = not (is_known_kind b.0.kind)
 abbrev pub told : Standing → Interface
 told b = interface_at b.0.order b.1 (options_of b.0.order (drop 8 b.1))
 
+-- a block of secrets, and one of names, both of which are skipped. draft-ietf-opsawg-pcapng, 4.7 and 4.5.
+abbrev pub is_secrets : Standing → Bool
+is_secrets b = b.0.kind == secrets_kind
+
+abbrev pub is_names : Standing → Bool
+is_names b = b.0.kind == names_kind
+
 -- a block of an interface with a name
 abbrev pub is_named_interface : Standing → Bool
 is_named_interface b = is_interface b && is_named b.0.order b.1
@@ -42,14 +49,15 @@ abbrev pub interfaces_of : List Standing → List Interface
 interfaces_of bs = map told (filter is_interface bs)
 
 -- What is known behind these blocks of a file: the interfaces of those after the last section header; how many
--- interface blocks stand before that header; how many blocks were skipped; how many interfaces have a name; and the
--- first interface of all.
+-- interface blocks stand before that header; how many blocks were skipped, and how many of these have secrets or names;
+-- how many interfaces have a name; and the first interface of all.
 unfoldable pub known_behind : List Standing → SectionProgress
 known_behind before =
     record {
       interfaces = interfaces_of (after_last is_header before);
       base = count_by is_interface (before_last is_header before);
       skipped = count_by is_other before;
+      kinds = record { secrets = count_by is_secrets before; names = count_by is_names before };
       named = count_by is_named_interface before;
       first = slice_get (interfaces_of before) 0;
     }
@@ -95,3 +103,8 @@ FirstByPlaces = (items : List (pieces.PieceItem Block)) → first_in fresh items
 abbrev pub NumbersByPlaces : Type 0
 NumbersByPlaces = (before : List Standing) → (known_behind before).base + length (known_behind before).interfaces
     ≡ count_by is_interface before
+
+-- The blocks of secrets and those of names are among the skipped ones.
+abbrev pub KindsByPlaces : Type 0
+KindsByPlaces = (before : List Standing) → (known_behind before).kinds.secrets + (known_behind before).kinds.names
+    ≤ (known_behind before).skipped

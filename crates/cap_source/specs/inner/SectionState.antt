@@ -9,13 +9,16 @@ progress_of reached =
       interfaces = reached.interfaces.items;
       base = reached.base;
       skipped = reached.skipped;
+      kinds = reached.kinds;
       named = reached.named;
       first = reached.first;
     }
 
--- how many blocks of the file are counted in it, those of interfaces with a name twice
+-- how many blocks of the file are counted in it: those of interfaces with a name, of secrets and of names twice
 abbrev pub counted_blocks : SectionProgress → ℕ
-counted_blocks progress = progress.base + length progress.interfaces + progress.skipped + progress.named
+counted_blocks progress =
+    progress.base + length progress.interfaces + progress.skipped + progress.named + progress.kinds.secrets
+    + progress.kinds.names
 
 -- whether there is room for an interface, once a read has failed
 abbrev pub has_room : Option ℕ → SectionState → Bool

@@ -5,11 +5,12 @@ use crate::checks::same;
 use crate::files::{bytes_of, reader_of, room_of};
 use crate::hex_vectors::{
     CARRY_PCAP, CUT_PCAP, File, INTERFACE, OPTIONS_PCAPNG, PACKET, RUNS_BACK, SECTION,
-    SIMPLE_PACKET, TAGGED_FRAMES,
+    SIMPLE_PACKET, SKIPPED_PCAPNG, TAGGED_FRAMES,
 };
 use cap_bytes::{Fault, Pieces, Tail};
 use cap_check::{Check, CheckEnd, CheckLine, check_file, check_to, put_check_line};
 use cap_print::Form;
+use cap_source::SkippedKinds;
 use std::alloc::Global;
 use std::process::Abort;
 
@@ -289,4 +290,21 @@ fn a_check_counts_a_file(rt: HostRuntime) {
         panic!(&rt; "not whole");
     };
     same!(&rt; (end.interfaces, end.named, end.ending.cut), (3, 0, None));
+}
+
+// How many of its blocks are skipped, and how many of these have secrets and how many names.
+#[test]
+fn a_check_counts_skipped_blocks(rt: HostRuntime) {
+    let source = reader_of(&rt, rt.alloc(), SKIPPED_PCAPNG, 1);
+    let Ok(check) = check_file(rt.alloc(), source, 1, Tail::Refuse, false) else {
+        panic!(&rt; "memory");
+    };
+    let CheckEnd::Whole(end) = check.end else {
+        panic!(&rt; "not whole");
+    };
+    let kinds = SkippedKinds {
+        secrets: 2,
+        names: 1,
+    };
+    same!(&rt; (end.ending.skipped, end.kinds), (5, kinds));
 }

@@ -316,6 +316,8 @@ fn leaves(rt: &impl Abort, alloc: Global, task: Task, skipped: u128) {
         finding: Finding::Nothing,
         left: DroppedInfo {
             skipped,
+            secret_blocks: 0,
+            name_blocks: 0,
             named: 0,
             ran_back: 0,
             cuts: [None; 32],

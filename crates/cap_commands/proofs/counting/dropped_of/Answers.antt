@@ -2,7 +2,7 @@ use Rattle.std.proofs.Common.{◌≡◌, ◌-◌, ◌++◌, None, arith, ap, ◌
 use Rattle.std.specs.Prelude.{replicate}
 use Rattle.std.proofs.lemmas.List.{length-set}
 use Rattle.cap_commands.proofs.Leaving.{is-file, places-more, rests-all, rests-more, sum-more}
-use Rattle.cap_commands.specs.Left.{named_in, rests_in, skipped_in}
+use Rattle.cap_commands.specs.Left.{named_in, name_blocks_in, rests_in, secret_blocks_in, skipped_in}
 use Rattle.cap_commands.proofs.counting.dropped_of.Goals as goal
 
 pub ending-ending-requires-clause-file : goal.ending-ending-requires-clause-file
@@ -12,6 +12,10 @@ ending-ending-requires-clause-file g c =
 pub named_interfaces-requires-clause-file : goal.named_interfaces-requires-clause-file
 named_interfaces-requires-clause-file g c = is-file _ c.args.files c.loop-place.place c.requires.files (omega arith)
 
+pub skipped_kinds-kinds-requires-clause-file : goal.skipped_kinds-kinds-requires-clause-file
+skipped_kinds-kinds-requires-clause-file g c =
+    is-file _ c.args.files c.loop-place.place c.requires.files (omega arith)
+
 -- what the next file leaves is counted, and its rest is at its place
 pub loop-place-preserved : goal.loop-place-preserved
 loop-place-preserved g c =
@@ -19,6 +23,7 @@ loop-place-preserved g c =
     let n = c.loop-place.place in
     let endings = (g.F.PacketFeed.feed c.args.feed.now).endings in
     let ended = c.ending-ending.ensures.ending in
+    let kinds = c.skipped_kinds-kinds.ensures.kinds in
     record {
       skipped =
           omega (
@@ -36,8 +41,26 @@ loop-place-preserved g c =
             c.named_interfaces.ensures.named,
             sum-more (λ end. end.named) endings n,
           );
+      secrets =
+          omega (
+            arith,
+            i.secrets,
+            c.from-secret_blocks.ensures,
+            ap (λ k. k.secrets) kinds,
+            sum-more (λ end. end.kinds.secrets) endings n,
+          );
+      names =
+          omega (
+            arith,
+            i.names,
+            c.from-name_blocks.ensures,
+            ap (λ k. k.names) kinds,
+            sum-more (λ end. end.kinds.names) endings n,
+          );
       few_skipped = omega (arith, i.few_skipped, c.from-skipped.ensures);
       few_named = omega (arith, i.few_named, c.from-named.ensures);
+      few_secrets = omega (arith, i.few_secrets, c.from-secret_blocks.ensures);
+      few_names = omega (arith, i.few_names, c.from-name_blocks.ensures);
       places = length-set c.loop-place.cuts n c.ending-ending.result.cut ∙ i.places;
       cuts = rests-more endings n c.loop-place.cuts c.ending-ending.result.cut (omega (arith, i.places)) i.cuts
           (ap (λ e. e.cut) ended);
@@ -51,6 +74,8 @@ returns g c =
     let done : c.loop-place.place ≡ c.args.files = omega arith in
     record {
       skipped = i.skipped ∙ ap (skipped_in endings) done;
+      secrets = i.secrets ∙ ap (secret_blocks_in endings) done;
+      names = i.names ∙ ap (name_blocks_in endings) done;
       named = i.named ∙ ap (named_in endings) done;
       cuts = rests-all endings c.loop-place.place c.loop-place.cuts i.cuts i.others
           ∙ ap (λ n. rests_in endings n ++ replicate (32 - n) None) done;

@@ -30,8 +30,8 @@ returns-clause-step c =
     skip-passes (push_view c.args.state.now) c.args.block c.args.left c.args.bytes.now c.requires.stage
     c.requires.sound (sym c.passed_of-passed.ensures ∙ grind (arith, c.if-passed-gt0.false)) _ c.if-bytes-lt4.false
     (sym c.u32_at.ensures ∙ c.if-u32_at-block.false)
-    (ap (λ (n : ℕ). record (push_view c.args.state.now) {
-      offset = c.args.state.now.offset + n;
+    (λ i. record (push_view c.args.state.now) {
+      offset = c.args.state.now.offset + c.from-2.ensures i;
       stage = Blocks (Some c.args.block.order);
-      progress = after (progress_of c.args.state.now.reached) contents.Other;
-    }) c.from-2.ensures)
+      progress = c.skip_block.ensures i;
+    })

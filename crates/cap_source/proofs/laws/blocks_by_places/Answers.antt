@@ -1,4 +1,4 @@
-use Rattle.cap_source.proofs.Places.{items-law, ending-law, first-law, numbers-law}
+use Rattle.cap_source.proofs.Places.{items-law, ending-law, first-law, kinds-law, numbers-law}
 use Rattle.cap_source.proofs.laws.blocks_by_places.Goals as goal
 
 pub returns-clause-items : goal.returns-clause-items
@@ -12,3 +12,6 @@ returns-clause-first c = first-law
 
 pub returns-clause-numbers : goal.returns-clause-numbers
 returns-clause-numbers c = numbers-law
+
+pub returns-clause-kinds : goal.returns-clause-kinds
+returns-clause-kinds c = kinds-law
