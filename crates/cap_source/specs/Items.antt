@@ -1,6 +1,6 @@
 -- The packets of a capture file, by the records or the blocks that it splits into (draft-ietf-opsawg-pcap, 4 and 5;
 -- draft-ietf-opsawg-pcapng, 4.1 and 4.2).
-use Rattle.std.specs.Prelude.{◌+◌, ◌==◌, ◌&&◌, ℕ, nat_le, if◌then◌else◌, Bool, true, false, List, [], ◌∷◌, ◌++◌, length, take}
+use Rattle.std.specs.Prelude.{◌+◌, ◌==◌, ◌&&◌, ℕ, nat_le, if◌then◌else◌, Bool, List, [], ◌∷◌, ◌++◌, length, take}
 use Rattle.std.specs.Prelude.{drop, Option, Some, None, Result, Ok, Err, refl}
 use Rattle.cap_bytes.specs.Items as pieces
 use Rattle.cap_bytes.specs.declared.faults.Rule.{Rule}

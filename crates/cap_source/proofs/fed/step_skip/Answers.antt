@@ -1,10 +1,7 @@
-use Rattle.std.proofs.Common.{ℕ, ◌+◌, Some, refl, sym, ap, ◌∙◌, arith}
+use Rattle.std.proofs.Common.{◌+◌, Some, refl, sym, ◌∙◌, arith}
 use Rattle.cap_source.proofs.FedBlockSteps.{skip-cut, skip-on, skip-passes, skip-trailer}
-use Rattle.cap_source.specs.Items.{after}
-use Rattle.cap_source.specs.declared.contents.BlockContent.TheVariants as contents
 use Rattle.cap_source.specs.declared.fed.Stage.TheVariants.{Blocks}
 use Rattle.cap_source.specs.inner.FedSteps.{push_view}
-use Rattle.cap_source.specs.inner.SectionState.{progress_of}
 use Rattle.cap_source.proofs.fed.step_skip.Goals as goal
 
 pub returns-then-passed-gt0-clause-step : goal.returns-then-passed-gt0-clause-step
