@@ -1,7 +1,7 @@
 -- What is known at a block goes by the blocks before it.
-use Rattle.std.proofs.Common.{◌≡◌, ◌≤◌, ◌==◌, ◌&&◌, ◌+◌, ◌-◌, ℕ, not, true, false, Bool, List, [], ◌∷◌, ◌++◌, ◌||◌, length}
-use Rattle.std.proofs.Common.{drop, slice_get, Some, Result, Ok, Err, IfOk, refl, sym, ap, ◌∙◌, subst, arith, cond}
-use Rattle.std.proofs.Common.{None, if◌then◌else◌, length-append, append_assoc, append-nil}
+use Rattle.std.proofs.Common.{◌≡◌, ◌≤◌, ◌==◌, ◌&&◌, ◌+◌, ◌-◌, ℕ, not, true, false, Bool, List, [], ◌∷◌, ◌++◌, ◌||◌}
+use Rattle.std.proofs.Common.{length, drop, slice_get, Some, Result, Ok, Err, IfOk, refl, sym, ap, ◌∙◌, subst, arith}
+use Rattle.std.proofs.Common.{None, cond, if◌then◌else◌, length-append, append_assoc, append-nil}
 use Rattle.std.specs.List.{filter, count_by, suffix_len, before_last, after_last}
 use Rattle.std.proofs.lemmas.Bool.Decides.{nat_tests}
 use Rattle.std.proofs.lemmas.List.{length-map, drop-append-le, drop_all, take-append-le, take_at, reverse-append}

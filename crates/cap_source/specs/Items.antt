@@ -30,8 +30,9 @@ use Rattle.cap_bytes.specs.declared.formats.Format.TheVariants.{Pcap, Pcapng}
 use Rattle.cap_source.specs.declared.packets.Meta.{Meta}
 
 -- How far a pcapng file was read: the interfaces of the section that is being read, in order; how many
--- interface blocks of the file stand before the section; how many of its blocks were skipped, and how many of these have
--- secrets or names; how many of its interfaces have a name; and its interface of instance 0, once that was read.
+-- interface blocks of the file stand before the section; how many of its blocks were skipped, and how many of
+-- these have secrets or names; how many of its interfaces have a name; and its interface of instance 0, once that
+-- was read.
 pub record SectionProgress : Type 0 where
   pub interfaces : List Interface
   pub base : ℕ
@@ -40,8 +41,8 @@ pub record SectionProgress : Type 0 where
   pub named : ℕ
   pub first : Option Interface
 
--- The types of the skipped blocks that are counted by themselves: Name Resolution Blocks (draft-ietf-opsawg-pcapng, 4.5)
--- and Decryption Secrets Blocks (4.7).
+-- The types of the skipped blocks that are counted by themselves: Name Resolution Blocks
+-- (draft-ietf-opsawg-pcapng, 4.5) and Decryption Secrets Blocks (4.7).
 abbrev pub names_kind : ℕ
 names_kind = 4
 
