@@ -13,6 +13,20 @@ count_text label count one many = if count == 0 then [] else label ++ decimal co
 abbrev pub other_blocks : DroppedInfo → ℕ
 other_blocks left = left.skipped - left.secret_blocks - left.name_blocks
 
+-- whether no block of secrets was skipped, whether no block of names was either, whether no block was, and whether no
+-- interface has a name either
+abbrev pub no_secrets : DroppedInfo → Bool
+no_secrets left = left.secret_blocks == 0
+
+abbrev pub no_kinds : DroppedInfo → Bool
+no_kinds left = no_secrets left && (left.name_blocks == 0)
+
+abbrev pub no_blocks : DroppedInfo → Bool
+no_blocks left = no_kinds left && (other_blocks left == 0)
+
+abbrev pub drops_nothing : DroppedInfo → Bool
+drops_nothing left = no_blocks left && (left.named == 0)
+
 -- The parts of the line of what isn't carried on, each of which is its first part or follows another: the blocks of
 -- names,
 abbrev pub name_blocks_text : Bool → ℕ → List ℕ
@@ -34,14 +48,11 @@ names_label is_first = if is_first then codes "not carried on: names of " else c
 -- each unless there is none
 abbrev pub dropped_text : DroppedInfo → List ℕ
 dropped_text left =
-    let no_secrets = left.secret_blocks == 0 in
-    let no_kinds = no_secrets && (left.name_blocks == 0) in
-    let no_blocks = no_kinds && (other_blocks left == 0) in
     count_text (codes "not carried on: ") left.secret_blocks (codes " block of secrets") (codes " blocks of secrets")
-    ++ name_blocks_text no_secrets left.name_blocks
-    ++ other_blocks_text no_kinds (other_blocks left)
-    ++ count_text (names_label no_blocks) left.named (codes " interface") (codes " interfaces")
-    ++ (if no_blocks && (left.named == 0) then [] else codes "\n")
+    ++ name_blocks_text (no_secrets left) left.name_blocks
+    ++ other_blocks_text (no_kinds left) (other_blocks left)
+    ++ count_text (names_label (no_blocks left)) left.named (codes " interface") (codes " interfaces")
+    ++ (if drops_nothing left then [] else codes "\n")
 
 -- the lines of what is left
 abbrev pub left_text : DroppedInfo → List ℕ

@@ -4,6 +4,7 @@ ghost use Rattle.std.specs.Prelude.{◌≡◌, ◌+◌, ◌≤◌, ◌++◌, len
 ghost use Rattle.cap_print.specs.Lines.{room_in, text_in};
 ghost use Rattle.cap_tool.specs.LeftLines.{count_text, dropped_text, left_text, left_told, name_blocks_text};
 ghost use Rattle.cap_tool.specs.LeftLines.{names_label as names_label_text, other_blocks, other_blocks_text};
+ghost use Rattle.cap_tool.specs.LeftLines.{drops_nothing, no_blocks, no_kinds, no_secrets};
 
 use crate::outcomes::Outcome;
 use cap_commands::DroppedInfo;
@@ -22,9 +23,8 @@ pub struct Told {
 fn prepend_count(line: &mut Line, label: &[u8], count: u128, one: &[u8], many: &[u8])
     requires one { length label.now + length one.now + 40 ≤ room_in line.old }
     requires many { length label.now + length many.now + 40 ≤ room_in line.old }
-    requires longer { length one.now ≤ length many.now }
     ensures text { text_in line.new ≡ count_text label.now count one.now many.now ++ text_in line.old }
-    ensures room { room_in line.old ≤ room_in line.new + length label.now + length many.now + 40 }
+    ensures room { room_in line.old ≤ room_in line.new + length label.now + length one.now + length many.now + 40 }
 {
     if count == 0 {
         return;
@@ -39,6 +39,34 @@ fn other_blocks(left: &DroppedInfo) -> u128
 {
     let beside_secrets = left.skipped.saturating_sub(left.secret_blocks);
     beside_secrets.saturating_sub(left.name_blocks)
+}
+
+// Whether no block of secrets was skipped.
+fn no_secrets(left: &DroppedInfo) -> bool
+    ensures { result ≡ no_secrets left.now }
+{
+    left.secret_blocks == 0
+}
+
+// Whether no block of names was either.
+fn no_kinds(left: &DroppedInfo) -> bool
+    ensures { result ≡ no_kinds left.now }
+{
+    no_secrets(left) && left.name_blocks == 0
+}
+
+// Whether no block was.
+fn no_blocks(left: &DroppedInfo) -> bool
+    ensures { result ≡ no_blocks left.now }
+{
+    no_kinds(left) && other_blocks(left) == 0
+}
+
+// Whether no block was, and no interface has a name.
+fn drops_nothing(left: &DroppedInfo) -> bool
+    ensures { result ≡ drops_nothing left.now }
+{
+    no_blocks(left) && left.named == 0
 }
 
 // The blocks of names, which are the first part of the line, or follow blocks of secrets.
@@ -89,23 +117,19 @@ fn prepend_dropped(line: &mut Line, left: &DroppedInfo)
     requires { 400 ≤ room_in line.old }
     ensures { text_in line.new ≡ dropped_text left.now ++ text_in line.old }
 {
-    let others = other_blocks(left);
-    let no_secrets = left.secret_blocks == 0;
-    let no_kinds = no_secrets && left.name_blocks == 0;
-    let no_blocks = no_kinds && others == 0;
-    if no_blocks && left.named == 0 {
+    if drops_nothing(left) {
         return;
     }
     line.prepend_text(b"\n");
     prepend_count(
         line,
-        names_label(no_blocks),
+        names_label(no_blocks(left)),
         left.named,
         b" interface",
         b" interfaces",
     );
-    prepend_other_blocks(line, no_kinds, others);
-    prepend_name_blocks(line, no_secrets, left.name_blocks);
+    prepend_other_blocks(line, no_kinds(left), other_blocks(left));
+    prepend_name_blocks(line, no_secrets(left), left.name_blocks);
     prepend_count(
         line,
         b"not carried on: ",
