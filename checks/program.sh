@@ -434,7 +434,7 @@ counted 'a name alone' 'not carried on: names of 1 interface' convert --explain 
 counted 'names of two files' 'not carried on: names of 2 interfaces' merge --explain -o "$work/new" "$work/named" "$one" "$work/named"
 counted 'a name in what was written of one' '' convert --explain --to pcapng -o "$work/newer" "$work/new"
 counted 'blocks of two files' 'not carried on: 1 block of secrets, 1 of names, 7 of other kinds, names of 1 interface' merge --explain -o "$work/new" "$one_skipped" "$one" "$many"
-counted 'blocks of each kind of two files' 'not carried on: 2 blocks of secrets, 2 of names, 12 of other kinds' join --explain -o "$work/new" "$many" "$many"
+counted 'blocks of each kind of two files' 'not carried on: 2 blocks of secrets, 2 of names, 12 of other kinds' merge --explain -o "$work/new" "$many" "$many"
 # the section of that file with its blocks of names and of statistics, with that of names alone, and with that of secrets alone
 head -c 68 "$many" > "$work/hosts"
 counted 'names and another block' 'not carried on: 1 block of names, 1 of another kind' convert --explain --to pcapng -o "$work/new" "$work/hosts"
