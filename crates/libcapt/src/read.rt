@@ -3,6 +3,6 @@
 pub use cap_blocks::{Block, BlockReader, Options};
 pub use cap_pcap::{PcapHeader, PcapReader, Record};
 pub use cap_source::{
-    Capture, Ending, Fed, FedCapture, FeedHeld, FileEnd, Format, Head, Meta, PacketFeed,
-    next_packet,
+    Capture, Ending, Fed, FedCapture, FeedHeld, FileEnd, Format, Head, Meta, NO_KINDS, PacketFeed,
+    SkippedKinds, next_packet,
 };
