@@ -1,16 +1,17 @@
 -- The report over files that are read.
 use Rattle.std.proofs.Common.{◌≡◌, ℕ, Bool, List, [], length, map, IsTrue, IsOkUnless, Option, Some}
 use Rattle.std.proofs.Common.{None, Result, Ok, Err, ap, ◌∙◌, subst, arith}
-use Rattle.std.specs.Prelude.{if◌then◌else◌}
+use Rattle.std.specs.Prelude.{IfOk, if◌then◌else◌}
 use Rattle.std.specs.List.{list_all}
 use Rattle.std.proofs.lemmas.List.{length-map}
 use Rattle.std.proofs.lemmas.List.FromFn.{length-range_with_len}
 use Rattle.cap_bytes.specs.Device.{Writer, WriterKeeps}
 use Rattle.cap_bytes.specs.Printing.{Prints, is_write}
 use Rattle.cap_bytes.specs.declared.faults.Fault.{Fault}
-use Rattle.cap_bytes.specs.declared.faults.Fault.TheVariants.{Write}
+use Rattle.cap_bytes.specs.declared.faults.Fault.TheVariants.{Memory, Read, Refused, Write}
 use Rattle.cap_bytes.specs.declared.faults.Refusal.{Refusal}
 use Rattle.cap_bytes.specs.declared.faults.Tail.{Tail}
+use Rattle.cap_bytes.specs.declared.stops.CutRest.{CutRest}
 use Rattle.cap_print.specs.declared.forms.Form.{Form}
 use Rattle.cap_source.proofs.Onward.{Lasts-goes}
 use Rattle.cap_merge.proofs.Unread.{told-readers, bytes-readers}
@@ -26,7 +27,10 @@ use Rattle.cap_talks.specs.table.TakenText.{text_of_in}
 use Rattle.cap_talks.specs.inner.table.Stepping.{TableState, TableStands, endings_so_far}
 use Rattle.cap_class.specs.Taken.{Taken}
 use Rattle.cap_talks.specs.talks.Telling.{Tells}
-use Rattle.cap_talks.proofs.Telling.{tells-printed}
+use Rattle.cap_talks.proofs.CutRests.{ended-cuts}
+use Rattle.cap_talks.specs.counts.FileLines.{counted_cuts, ended_from}
+use Rattle.cap_talks.specs.talks.CutRests.{rests_by_place}
+use Rattle.cap_talks.proofs.Telling.{tells-fault, tells-printed}
 
 -- Files of which nothing was read yet.
 module _ {A : Type 0} (reader : A → ReaderFacts) (tail : Tail) (sources : List A) (ps : List Part)
@@ -41,7 +45,7 @@ module _ {A : Type 0} (reader : A → ReaderFacts) (tail : Tail) (sources : List
   count-is = ap length unread.files ∙ length-range_with_len 1 (length (map reader sources)) ∙ length-map sources reader
 
   -- the report of their run is theirs
-  pub tells-files : (form : Form) (held out : List ℕ) (result : Result (Unit {0}) Fault)
+  pub tells-files : {B : Type 0} (form : Form) (held out : List ℕ) (result : Result B Fault)
       → (IsTrue (merged_feed ps).told → TellsReport form (length (merged_feed ps).files) ps held result out)
       → IsTrue (list_all (λ s. (reader s).told) sources)
       → Tells (report_text_in form (length sources) (endings_of_files tail (map (λ s. (reader s).bytes) sources))
@@ -51,6 +55,27 @@ module _ {A : Type 0} (reader : A → ReaderFacts) (tail : Tail) (sources : List
       subst (λ (e : List ℕ × Option Refusal). Tells e.0 e.1 held result out)
       (λ i. (report_text_in form (count-is i) (endings-are i) (run-is i), report_refusal (run-is i)))
       (tells (told-readers reader tail sources ps unread t))
+
+  -- and so are the rests that were cut
+  pub cuts-files : (result : Result (List (Option CutRest)) Fault)
+      → IfOk result (λ cuts. IsTrue (merged_feed ps).told
+      → cuts ≡ rests_by_place (merged_feed ps).endings (length (merged_feed ps).files))
+      → IfOk result (λ cuts. IsTrue (list_all (λ s. (reader s).told) sources)
+      → cuts ≡ rests_by_place (endings_of_files tail (map (λ s. (reader s).bytes) sources)) (length sources))
+  cuts-files (Ok cuts) is = λ t. is (told-readers reader tail sources ps unread t)
+      ∙ (λ i. rests_by_place (endings-are i) (count-is i))
+  cuts-files (Err fault) is = tt
+
+-- the rests of files of which all packets were taken
+pub took-cuts : (old new : TableState) → TookAll old new → IsTrue (merged_feed old.parts).told
+    → counted_cuts (ended_from (endings_so_far new) 1 new.totals.files)
+    ≡ rests_by_place (merged_feed old.parts).endings (length old.totals.files)
+took-cuts old new took t =
+    let endings = ap (λ (d : Bool). if d then Some (merged_feed new.parts).endings else None) took.done
+    ∙ ap Some (λ i file. took.endings t file i) in
+    ap (λ e. counted_cuts (ended_from e 1 new.totals.files)) endings
+    ∙ (ended-cuts (merged_feed old.parts).endings new.totals.files
+    ∙ ap (rests_by_place (merged_feed old.parts).endings) took.files)
 
 -- all packets of a table were taken: the report is written
 pub tells-report : (form : Form) (old new : TableState) (held out : List ℕ) (result : Result (Unit {0}) Fault)
@@ -70,7 +95,7 @@ tells-report form old new held out result t stands took fault prints =
 -- taking them faults: nothing is written
 pub tells-nothing : (form : Form) (old new : TableState) (held : List ℕ) (fault : Fault) → TakesAll old (Err fault) new
     → IsTrue (merged_feed old.parts).told → TableStands old []
-    → TellsReport form (length old.totals.files) old.parts held (Err fault) held
+    → TellsReport {A = Unit {0}} form (length old.totals.files) old.parts held (Err fault) held
 tells-nothing form old new held fault takes t stands = grind arith
 
 -- the feed is at its end as the report is written
@@ -82,3 +107,24 @@ walks-written old new result walks fault = grind (arith, Lasts-goes)
 pub writer-same : (w : Writer) (old new : TableState) (fault : Fault) → TakesAll old (Err fault) new
     → WriterKeeps w (is_write {A = Unit {0}} (Err fault)) w
 writer-same w old new fault takes = grind arith
+
+-- a fault of the report is also that of a call that returns more
+pub report-fault : (A B : Type 0) (form : Form) (old : TableState) (held out : List ℕ) (fault : Fault)
+    → TellsReport {A = A} form (length old.totals.files) old.parts held (Err fault) out
+    → TellsReport {A = B} form (length old.totals.files) old.parts held (Err fault) out
+report-fault A B form old held out fault t = tells-fault A B _ _ held out fault t
+
+pub walks-fault : (A B : Type 0) (old new : Feed) (fault : Fault) → Walks {A = A} old (Err fault) new
+    → Walks {A = B} old (Err fault) new
+walks-fault A B old new (Refused r) w = w
+walks-fault A B old new (Read file offset) w = w
+walks-fault A B old new Write w = w
+walks-fault A B old new Memory w = w
+
+-- the rests of a table's files are those of its merge
+pub report-cuts : (result : Result (List (Option CutRest)) Fault) (ps qs : List Part) (n m : ℕ) → ps ≡ qs → n ≡ m
+    → IfOk result (λ cuts. IsTrue (merged_feed ps).told → cuts ≡ rests_by_place (merged_feed ps).endings n)
+    → IfOk result (λ cuts. IsTrue (merged_feed qs).told → cuts ≡ rests_by_place (merged_feed qs).endings m)
+report-cuts result ps qs n m is many h =
+    subst (λ (p : List Part × ℕ). IfOk result (λ cuts. IsTrue (merged_feed p.0).told
+    → cuts ≡ rests_by_place (merged_feed p.0).endings p.1)) (λ i. (is i, many i)) h

@@ -26,5 +26,6 @@ pub mod TableTexts
 pub mod CountedPackets
 pub mod FileByFile
 pub mod Telling
+pub mod CutRests
 pub mod Reporting
 pub mod Headline

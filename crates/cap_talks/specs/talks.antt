@@ -1,3 +1,4 @@
+pub mod CutRests
 pub mod InfoText
 pub mod Reading
 pub mod Telling

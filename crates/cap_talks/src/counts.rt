@@ -5,4 +5,5 @@ mod file_lines;
 mod files;
 
 pub use crate::counts::counts::Counts;
+pub(crate) use crate::counts::files::cuts_of;
 pub use crate::counts::files::{Counted, put_files};

@@ -9,4 +9,6 @@ pub use crate::table::{
     CountedUnit, Description, Endpoint, Held, Step, Table, TalkKey, TalkRow, TimedFrame, describe,
     put_description, talk_laws,
 };
-pub use crate::talks::{file_lines, file_lines_in, report, report_in};
+pub use crate::talks::{
+    file_lines, file_lines_and_cuts, file_lines_in, report, report_and_cuts, report_in,
+};

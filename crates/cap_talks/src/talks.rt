@@ -3,5 +3,5 @@
 mod files;
 mod reports;
 
-pub use crate::talks::files::{file_lines, file_lines_in};
-pub use crate::talks::reports::{report, report_in};
+pub use crate::talks::files::{file_lines, file_lines_and_cuts, file_lines_in};
+pub use crate::talks::reports::{report, report_and_cuts, report_in};

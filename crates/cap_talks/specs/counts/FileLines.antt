@@ -1,12 +1,13 @@
 -- The lines of files that were counted.
-use Rattle.std.specs.Prelude.{ℕ, ◌+◌, Bool, false, List, [], ◌∷◌, ◌++◌, codes, Option, Some, None, is_some}
-use Rattle.std.specs.Prelude.{option_map}
+use Rattle.std.specs.Prelude.{ℕ, ◌+◌, ◌-◌, Bool, false, List, [], ◌∷◌, ◌++◌, codes, length, map, replicate, Option}
+use Rattle.std.specs.Prelude.{Some, None, is_some, option_map}
 use Rattle.cap_print.specs.Facts.{Facts, one, number, word, moment, named, flagged, line_in}
 use Rattle.cap_print.specs.declared.forms.Form.{Form}
 use Rattle.cap_bytes.specs.Formats.{format_name}
 use Rattle.cap_source.specs.declared.feeds.Ending.{Ending}
 use Rattle.cap_source.specs.declared.feeds.FileEnd.{FileEnd}
 use Rattle.cap_bytes.specs.declared.formats.Format.{Format}
+use Rattle.cap_bytes.specs.declared.stops.CutRest.{CutRest}
 use Rattle.cap_time.specs.Stamp.{printed_of}
 use Rattle.cap_talks.specs.declared.counts.counts.Counts.{Counts}
 use Rattle.cap_talks.specs.declared.counts.files.Counted.{Counted}
@@ -39,6 +40,15 @@ file_facts file counts (Some ending) =
 abbrev pub ending_at : Option (ℕ → FileEnd) → ℕ → Option Ending
 ending_at None file = None
 ending_at (Some endings) file = Some (endings file).ending
+
+-- the rest of it that was cut, and dropped, if that is known and there is one
+abbrev pub cut_of : Option Ending → Option CutRest
+cut_of None = None
+cut_of (Some ending) = ending.cut
+
+-- the rests of files that were counted, at 32 places, of which those that no file has are empty
+abbrev pub counted_cuts : List Counted → List (Option CutRest)
+counted_cuts counted = map (λ it. cut_of it.ending) counted ++ replicate (32 - length counted) None
 
 -- the line that says how many files there are
 abbrev pub files_facts : ℕ → Facts

@@ -7,7 +7,7 @@ use Rattle.cap_bytes.specs.declared.faults.Refusal.{Refusal}
 
 -- The text is written if nothing is refused. A refusal is returned, and nothing is written then, nor if a read
 -- failed or a growth was refused. If the writer failed, a prefix of the text is written.
-abbrev pub Tells : List ℕ → Option Refusal → List ℕ → Result Unit Fault → List ℕ → Type 0
+abbrev pub Tells : {A : Type 0} → List ℕ → Option Refusal → List ℕ → Result A Fault → List ℕ → Type 0
 Tells text refusal old (Ok _) new = (refusal ≡ None) × (new ≡ old ++ text)
 Tells text refusal old (Err (Refused r)) new = (refusal ≡ Some r) × (new ≡ old)
 Tells text refusal old (Err (Read file offset)) new = new ≡ old

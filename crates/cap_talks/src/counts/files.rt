@@ -1,13 +1,13 @@
 //! The lines of files that were counted.
-ghost use Rattle.std.specs.Prelude.{◌≤◌, ◌++◌, IsTrue, IsOkUnless, None, length};
+ghost use Rattle.std.specs.Prelude.{◌≡◌, ◌≤◌, ◌++◌, IsTrue, IsOkUnless, None, length};
 ghost use Rattle.cap_bytes.specs.Device.{WriterKeeps, writer_of};
 ghost use Rattle.cap_bytes.specs.Printing.{Prints, is_write};
 ghost use Rattle.cap_print.specs.Facts.{line_in};
-ghost use Rattle.cap_talks.specs.counts.FileLines.{counted_texts_in, files_facts};
+ghost use Rattle.cap_talks.specs.counts.FileLines.{counted_cuts, counted_texts_in, cut_of, files_facts};
 
 use crate::counts::counts::Counts;
 use crate::counts::file_lines::{file_line, files_line};
-use cap_bytes::{Fault, Sink, put_all};
+use cap_bytes::{CutRest, Fault, Sink, put_all};
 use cap_print::Form;
 use cap_source::Ending;
 
@@ -33,6 +33,25 @@ fn put_each<W: Sink>(writer: &mut W, form: Form, counted: &[Counted]) -> Result<
         put_all(writer, line.as_slice())?;
     }
     Ok(())
+}
+
+// The rest of a file that was cut, and dropped, if that is known and there is one.
+fn cut_of(ending: Option<Ending>) -> Option<CutRest>
+    ensures { result ≡ cut_of ending }
+{
+    ending?.cut
+}
+
+/// The rests that were cut of files that were counted, by their places: those that no file has are empty.
+pub(crate) fn cuts_of(counted: &[Counted]) -> [Option<CutRest>; 32]
+    requires most { length counted.now ≤ 32 }
+    ensures { result ≡ counted_cuts counted.now }
+{
+    let mut cuts: [Option<CutRest>; 32] = [None; 32];
+    for (place, each) in counted.iter().enumerate() {
+        cuts[place] = cut_of(each.ending);
+    }
+    cuts
 }
 
 /// Writes a line that says how many files there are, at most 32, and the lines of these, which have the numbers from 1

@@ -8,7 +8,7 @@ ghost use Rattle.cap_merge.specs.Parts.{merged_feed, is_end_head};
 ghost use Rattle.cap_merge.specs.inner.View.{parts_of};
 ghost use Rattle.cap_source.specs.Feed.{HasFile};
 ghost use Rattle.cap_talks.specs.inner.table.Props.{IsNumbered-prop};
-ghost use Rattle.cap_talks.specs.counts.FileLines.{ended_from, ending_at};
+ghost use Rattle.cap_talks.specs.counts.FileLines.{counted_cuts, ended_from, ending_at};
 ghost use Rattle.cap_talks.specs.inner.table.Holding.{held_of};
 ghost use Rattle.cap_talks.specs.inner.table.Stepping.{TableStands, StepKeeps, TableSteps, AnswersAgain};
 ghost use Rattle.cap_talks.specs.inner.table.Stepping.{endings_so_far};
@@ -16,13 +16,13 @@ ghost use Rattle.cap_talks.specs.table.CountedUnits.{limit_refusal};
 ghost use Rattle.cap_talks.specs.table.TakenText.{text_of, text_of_in};
 ghost use Rattle.cap_class.specs.Taken.{Taken};
 
-use crate::counts::{Counted, Counts, put_files};
+use crate::counts::{Counted, Counts, cuts_of, put_files};
 use crate::table::conversations::ConversationsFault;
 use crate::table::report_lines::total_line;
 use crate::table::tallies::Tally;
 use crate::table::totals::Totals;
 use arrayvec::ArrayVec;
-use cap_bytes::{Fault, Refusal, Rule, Sink, put_all};
+use cap_bytes::{CutRest, Fault, Refusal, Rule, Sink, put_all};
 use cap_merge::Merged;
 use cap_print::Form;
 use cap_source::{Ending, Meta, PacketFeed};
@@ -152,6 +152,16 @@ impl<F: PacketFeed> Table<F> {
         let line = total_line(form, totals.packets(), totals.bytes(), totals.truncated());
         put_all(writer, line.as_slice())?;
         self.tally.put_lines(form, writer)
+    }
+
+    /// The rest of each file, by its place, that was cut and is dropped, once `step` has returned `Done`: none before. The
+    /// places that no file has are empty.
+    pub(crate) fn cuts(&self) -> [Option<CutRest>; 32]
+        ensures { result ≡ counted_cuts (ended_from (endings_so_far (table_of self.now)) 1
+            (table_of self.now).totals.files) }
+    {
+        let counted = with_endings(&self.merged, self.totals.files(), self.done);
+        cuts_of(counted.as_slice())
     }
 
     /// What the table holds of its files, of groups of fragments and of conversations.

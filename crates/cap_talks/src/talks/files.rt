@@ -7,12 +7,14 @@ ghost use Rattle.cap_source.specs.Feed.{FeedKeeps};
 ghost use Rattle.cap_source.specs.inner.Walk.{Walks};
 ghost use Rattle.cap_source.specs.inner.Growing.{IfMemory};
 ghost use Rattle.cap_source.specs.ReadFaults.{FailsAs, FailsOf};
+ghost use Rattle.cap_merge.specs.Files.{endings_of_files};
+ghost use Rattle.cap_talks.specs.talks.CutRests.{rests_by_place};
 ghost use Rattle.cap_talks.specs.talks.InfoText.{info_text, info_text_in, first_refusal};
 ghost use Rattle.cap_talks.specs.talks.Reading.{CountsAll, CountsFile, CountsFiles, FailsFirst};
 ghost use Rattle.cap_talks.specs.talks.Telling.{Tells};
 
-use crate::counts::{Counted, Counts, put_files};
-use cap_bytes::{Fault, Sink, Source, Tail};
+use crate::counts::{Counted, Counts, cuts_of, put_files};
+use cap_bytes::{CutRest, Fault, Sink, Source, Tail};
 use cap_print::Form;
 use cap_source::{Capture, Head, PacketFeed};
 use std::alloc::Global;
@@ -122,6 +124,31 @@ pub fn file_lines_in<R: Source, W: Sink>(
     ensures first { IsTrue (list_all R.tells_coming sources.items)
         → FailsFirst tail (map R.coming sources.items) result }
 {
+    file_lines_and_cuts(alloc, sources, tail, form, writer).and(Ok(()))
+}
+
+/// Writes what `file_lines_in` writes, and returns the faults that it returns, or the rest of each file, by its place,
+/// that was cut and is dropped: the places that no file has are empty.
+pub fn file_lines_and_cuts<R: Source, W: Sink>(
+    alloc: Global,
+    sources: Vec<R>,
+    tail: Tail,
+    form: Form,
+    writer: &mut W,
+) -> Result<[Option<CutRest>; 32], Fault>
+    requires some { 1 ≤ vec_len sources }
+    requires most { vec_len sources ≤ 32 }
+    ensures text { IsTrue (list_all R.tells_coming sources.items) → IsTrue (W.tells_held writer.old)
+        → Tells (info_text_in form tail (map R.coming sources.items))
+        (first_refusal tail 1 (map R.coming sources.items)) (W.held writer.old) result (W.held writer.new) }
+    ensures cuts { IfOk result (λ cuts. IsTrue (list_all R.tells_coming sources.items)
+        → cuts ≡ rests_by_place (endings_of_files tail (map R.coming sources.items)) (length sources.items)) }
+    ensures writer { WriterKeeps (writer_of W.Sink writer.old) (is_write result) (writer_of W.Sink writer.new) }
+    ensures read { FailsOf (map R.can_fail sources.items) result }
+    ensures first { IsTrue (list_all R.tells_coming sources.items)
+        → FailsFirst tail (map R.coming sources.items) result }
+{
     let counted = count_files(alloc, sources, tail)?;
-    put_files(writer, form, counted.as_slice())
+    put_files(writer, form, counted.as_slice())?;
+    Ok(cuts_of(counted.as_slice()))
 }

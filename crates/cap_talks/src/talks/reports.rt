@@ -1,5 +1,5 @@
 //! The report over capture files.
-ghost use Rattle.std.specs.Prelude.{◌≤◌, [], IsTrue, length, map, vec_len};
+ghost use Rattle.std.specs.Prelude.{◌≡◌, ◌≤◌, [], IfOk, IsTrue, OnOk, length, map, vec_len};
 ghost use Rattle.std.specs.List.{list_all};
 ghost use Rattle.cap_bytes.specs.Device.{WriterKeeps, writer_of};
 ghost use Rattle.cap_bytes.specs.Printing.{is_write};
@@ -10,14 +10,15 @@ ghost use Rattle.cap_source.specs.ReadFaults.{FailsOf};
 ghost use Rattle.cap_source.specs.Feed.{Feed};
 ghost use Rattle.cap_source.specs.inner.Walk.{Walks};
 ghost use Rattle.cap_source.specs.inner.Growing.{IfMemory, IsAtPacket};
-ghost use Rattle.cap_talks.specs.inner.talks.Reporting.{TakesAll, TellsReport};
+ghost use Rattle.cap_talks.specs.inner.talks.Reporting.{TakesAll, TellsReport, TookAll};
+ghost use Rattle.cap_talks.specs.talks.CutRests.{rests_by_place};
 ghost use Rattle.cap_talks.specs.talks.ReportText.{report_text, report_text_in, report_refusal};
 ghost use Rattle.cap_talks.specs.inner.table.Stepping.{TableStands};
 ghost use Rattle.cap_talks.specs.inner.table.TableView.{table_of};
 ghost use Rattle.cap_talks.specs.talks.Telling.{Tells};
 
 use crate::table::{Step, Table};
-use cap_bytes::{Fault, Sink, Source, Tail};
+use cap_bytes::{CutRest, Fault, Sink, Source, Tail};
 use cap_merge::{Merged, merge_files};
 use cap_print::Form;
 use cap_source::PacketFeed;
@@ -33,7 +34,7 @@ fn take_all<F: PacketFeed>(table: &mut Table<F>) -> Result<(), Fault>
 }
 
 // Takes all packets of a table that has taken none, and writes the report over them in a form.
-fn report_table<F: PacketFeed, W: Sink>(
+fn write_table<F: PacketFeed, W: Sink>(
     table: &mut Table<F>,
     form: Form,
     writer: &mut W,
@@ -45,21 +46,45 @@ fn report_table<F: PacketFeed, W: Sink>(
     ensures writer { WriterKeeps (writer_of W.Sink writer.old) (is_write result) (writer_of W.Sink writer.new) }
     ensures walks { Walks (merged_feed (table_of table.old).parts) result (merged_feed (table_of table.new).parts) }
     ensures memory { IfMemory result (IsAtPacket (merged_feed (table_of table.new).parts).known) }
+    ensures took { OnOk result (TookAll (table_of table.old) (table_of table.new)) }
 {
     take_all(table)?;
     table.write_in(form, writer)
 }
 
-// Writes the report over the packets of a merge, in a form.
+// Does the same, and returns which rests of the files were cut.
+fn report_table<F: PacketFeed, W: Sink>(
+    table: &mut Table<F>,
+    form: Form,
+    writer: &mut W,
+) -> Result<[Option<CutRest>; 32], Fault>
+    requires stands { TableStands (table_of table.old) [] }
+    ensures text { IsTrue (merged_feed (table_of table.old).parts).told → IsTrue (W.tells_held writer.old)
+        → TellsReport form (length (table_of table.old).totals.files) (table_of table.old).parts (W.held writer.old)
+        result (W.held writer.new) }
+    ensures cuts { IfOk result (λ cuts. IsTrue (merged_feed (table_of table.old).parts).told
+        → cuts ≡ rests_by_place (merged_feed (table_of table.old).parts).endings
+        (length (table_of table.old).totals.files)) }
+    ensures writer { WriterKeeps (writer_of W.Sink writer.old) (is_write result) (writer_of W.Sink writer.new) }
+    ensures walks { Walks (merged_feed (table_of table.old).parts) result (merged_feed (table_of table.new).parts) }
+{
+    write_table(table, form, writer)?;
+    Ok(table.cuts())
+}
+
+// Writes the report over the packets of a merge, in a form, and returns which rests of its files were cut.
 fn report_merged<F: PacketFeed, W: Sink>(
     alloc: Global,
     merged: Merged<F>,
     form: Form,
     writer: &mut W,
-) -> Result<(), Fault>
+) -> Result<[Option<CutRest>; 32], Fault>
     ensures text { IsTrue (merged_feed (parts_of merged)).told → IsTrue (W.tells_held writer.old)
         → TellsReport form (length (merged_feed (parts_of merged)).files) (parts_of merged) (W.held writer.old) result
         (W.held writer.new) }
+    ensures cuts { IfOk result (λ cuts. IsTrue (merged_feed (parts_of merged)).told
+        → cuts ≡ rests_by_place (merged_feed (parts_of merged)).endings
+        (length (merged_feed (parts_of merged)).files)) }
     ensures writer { WriterKeeps (writer_of W.Sink writer.old) (is_write result) (writer_of W.Sink writer.new) }
     ensures walks { (new : Feed) × Walks (merged_feed (parts_of merged)) result new }
 {
@@ -125,6 +150,30 @@ pub fn report_in<R: Source, W: Sink>(
         (clocked_run tail (map R.coming sources.items)))
         (report_refusal (clocked_run tail (map R.coming sources.items)))
         (W.held writer.old) result (W.held writer.new) }
+    ensures writer { WriterKeeps (writer_of W.Sink writer.old) (is_write result) (writer_of W.Sink writer.new) }
+    ensures read { FailsOf (map R.can_fail sources.items) result }
+{
+    report_and_cuts(alloc, sources, tail, form, writer).and(Ok(()))
+}
+
+/// Writes what `report_in` writes, and returns the faults that it returns, or the rest of each file, by its place, that
+/// was cut and is dropped: the places that no file has are empty.
+pub fn report_and_cuts<R: Source, W: Sink>(
+    alloc: Global,
+    sources: Vec<R>,
+    tail: Tail,
+    form: Form,
+    writer: &mut W,
+) -> Result<[Option<CutRest>; 32], Fault>
+    requires some { 1 ≤ vec_len sources }
+    requires most { vec_len sources ≤ 32 }
+    ensures text { IsTrue (list_all R.tells_coming sources.items) → IsTrue (W.tells_held writer.old)
+        → Tells (report_text_in form (length sources.items) (endings_of_files tail (map R.coming sources.items))
+        (clocked_run tail (map R.coming sources.items)))
+        (report_refusal (clocked_run tail (map R.coming sources.items)))
+        (W.held writer.old) result (W.held writer.new) }
+    ensures cuts { IfOk result (λ cuts. IsTrue (list_all R.tells_coming sources.items)
+        → cuts ≡ rests_by_place (endings_of_files tail (map R.coming sources.items)) (length sources.items)) }
     ensures writer { WriterKeeps (writer_of W.Sink writer.old) (is_write result) (writer_of W.Sink writer.new) }
     ensures read { FailsOf (map R.can_fail sources.items) result }
 {

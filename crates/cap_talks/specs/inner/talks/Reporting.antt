@@ -31,6 +31,6 @@ TakesAll old (Err Write) new = ⊥
 TakesAll old (Err Memory) new = IsAtPacket (merged_feed new.parts).known
 
 -- The report of the run of that many files is written, in a form.
-abbrev pub TellsReport : Form → ℕ → List Part → List ℕ → Result (Unit {0}) Fault → List ℕ → Type 0
+abbrev pub TellsReport : {A : Type 0} → Form → ℕ → List Part → List ℕ → Result A Fault → List ℕ → Type 0
 TellsReport form count ps held result new =
     Tells (report_text_in form count (merged_feed ps).endings (run_of ps)) (report_refusal (run_of ps)) held result new

@@ -1,19 +1,22 @@
-use Rattle.cap_merge.proofs.Unread.{Fails-merged}
-use Rattle.cap_merge.specs.inner.Readers.{reader_of}
-use Rattle.cap_merge.specs.inner.View.{parts_of}
-use Rattle.cap_talks.proofs.Headline.{tells-files}
+use Rattle.std.proofs.Common.{length, map}
+use Rattle.cap_merge.specs.Files.{clocked_run, endings_of_files}
+use Rattle.cap_talks.specs.talks.ReportText.{report_refusal, report_text_in}
+use Rattle.cap_talks.proofs.Telling.{fails-and, is-write-and, tells-and}
 use Rattle.cap_talks.proofs.talks.reports.report_in.Goals as goal
 
 pub returns-clause-text : goal.returns-clause-text
 returns-clause-text g c = λ t w.
-    let reader = reader_of g.R.Source.tells_coming g.R.Device.can_fail g.R.Source.coming in
-    tells-files reader c.args.tail c.args.sources.items (parts_of c.in_ok-merged.merged) c.in_ok-merged.ensures.unread
-    c.args.form (g.W.Sink.held c.args.writer.now) (g.W.Sink.held c.report_merged.new.writer) c.report_merged.result
-    (λ told. c.report_merged.ensures.text told w) t
+    let files = map g.R.Source.coming c.args.sources.items in
+    let run = clocked_run c.args.tail files in
+    rw c.and.ensures
+    (tells-and
+    (report_text_in c.args.form (length c.args.sources.items) (endings_of_files c.args.tail files) run)
+    (report_refusal run) (g.W.Sink.held c.args.writer.now) (g.W.Sink.held c.report_and_cuts.new.writer)
+    c.report_and_cuts.result (c.report_and_cuts.ensures.text t w))
+
+pub returns-clause-writer : goal.returns-clause-writer
+returns-clause-writer g c = rw (c.and.ensures, is-write-and c.report_and_cuts.result) c.report_and_cuts.ensures.writer
 
 pub returns-clause-read : goal.returns-clause-read
-returns-clause-read g c =
-    let reader = reader_of g.R.Source.tells_coming g.R.Device.can_fail g.R.Source.coming in
-    Fails-merged reader c.args.tail c.args.sources.items
-    (parts_of c.in_ok-merged.merged) c.report_merged.ensures.walks.0 c.report_merged.result
-    c.in_ok-merged.ensures.unread c.report_merged.ensures.walks.1
+returns-clause-read g c = rw c.and.ensures
+    (fails-and _ c.report_and_cuts.result c.report_and_cuts.ensures.read)

@@ -1,40 +1,25 @@
+use Rattle.std.proofs.Common.{List, Option, ◌∙◌}
 use Rattle.std.proofs.lemmas.Result.{err_from_is_err_and}
+use Rattle.cap_bytes.specs.declared.stops.CutRest.{CutRest}
 use Rattle.cap_talks.specs.inner.table.TableView.{table_of}
-use Rattle.cap_talks.proofs.Headline.{tells-report, tells-nothing, walks-written, writer-same}
-use Rattle.cap_talks.proofs.Reporting.{memory-unless, taken-memory}
+use Rattle.cap_talks.proofs.Headline.{report-fault, took-cuts, walks-fault}
 use Rattle.cap_talks.proofs.talks.reports.report_table.Goals as goal
 
-pub returns-in_err-take_all-clause-text : goal.returns-in_err-take_all-clause-text
-returns-in_err-take_all-clause-text g c = λ t w.
+pub returns-in_err-write_table-clause-text : goal.returns-in_err-write_table-clause-text
+returns-in_err-write_table-clause-text g c = λ t w.
     let p = err_from_is_err_and c.from_residual.result c.from_residual.ensures.1 in
     rw (p.1, p.2)
-    (tells-nothing c.args.form (table_of c.args.table.now) (table_of c.take_all.new.table)
-    (g.W.Sink.held c.args.writer.now) c.in_err-take_all.field-0.0
-    c.in_err-take_all.ensures.takes t c.requires.stands)
+    (report-fault (Unit {0}) (List (Option CutRest)) c.args.form (table_of c.args.table.now) _ _
+    c.in_err-write_table.field-0.0 (c.in_err-write_table.ensures.text t w))
 
-pub returns-in_err-take_all-clause-writer : goal.returns-in_err-take_all-clause-writer
-returns-in_err-take_all-clause-writer g c =
+pub returns-in_err-write_table-clause-walks : goal.returns-in_err-write_table-clause-walks
+returns-in_err-write_table-clause-walks g c =
     let p = err_from_is_err_and c.from_residual.result c.from_residual.ensures.1 in
-    rw (p.1, p.2) (writer-same _ (table_of c.args.table.now)
-    (table_of c.take_all.new.table) c.in_err-take_all.field-0.0 c.in_err-take_all.ensures.takes)
+    rw (p.1, p.2)
+    (walks-fault (Unit {0}) (List (Option CutRest)) _ _ c.in_err-write_table.field-0.0
+    c.in_err-write_table.ensures.walks)
 
-pub returns-clause-text : goal.returns-clause-text
-returns-clause-text g c = λ t w.
-    tells-report c.args.form (table_of c.args.table.now) (table_of c.take_all.new.table)
-    (g.W.Sink.held c.args.writer.now)
-    (g.W.Sink.held c.write_in.new.writer)
-    c.write_in.result t c.requires.stands c.in_ok-take_all.ensures.takes c.write_in.ensures.fault
-    (λ xs stands. c.write_in.ensures.text xs stands w)
-
-pub returns-clause-walks : goal.returns-clause-walks
-returns-clause-walks g c =
-    walks-written _ _ c.write_in.result c.in_ok-take_all.ensures.walks c.write_in.ensures.fault
-
-pub returns-in_err-take_all-clause-memory : goal.returns-in_err-take_all-clause-memory
-returns-in_err-take_all-clause-memory g c =
-    let p = err_from_is_err_and c.from_residual.result c.from_residual.ensures.1 in
-    rw (p.1, p.2) (taken-memory (table_of c.args.table.now)
-    (table_of c.take_all.new.table) c.in_err-take_all.field-0.0 c.in_err-take_all.ensures.takes)
-
-pub returns-clause-memory : goal.returns-clause-memory
-returns-clause-memory g c = memory-unless c.write_in.result _ c.write_in.ensures.fault
+pub returns-clause-cuts : goal.returns-clause-cuts
+returns-clause-cuts g c = λ t.
+    c.cuts.ensures
+    ∙ took-cuts (table_of c.args.table.now) (table_of c.write_table.new.table) c.in_ok-write_table.ensures.took t
