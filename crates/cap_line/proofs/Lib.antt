@@ -4,3 +4,4 @@ pub mod Rows
 pub mod Escapes
 pub mod Numbers
 pub mod Limits
+pub mod Naming

@@ -114,6 +114,10 @@ data_rule = option_rule (codes "data")
 abbrev pub list_rule : Rule
 list_rule = option_rule (codes "files0-from")
 
+-- the option `--verify`
+abbrev pub verify_rule : Rule
+verify_rule = option_rule (codes "verify")
+
 -- the subcommand of that name with `[--allow-cut] [--explain] [--json]`, before its other arguments: one that prints
 abbrev pub showing_app : Text → App
 showing_app name = with_rule (reading_app name) (flag_rule (codes "json"))
@@ -142,9 +146,9 @@ pub record IsDiff (app : App) : Type 0 where
 abbrev pub surveying_app : App → App
 surveying_app before = with_rule (with_rule (with_rule before (flag_rule (codes "names"))) list_rule) listed_rule
 
--- `digest [--names] [--files0-from LIST] [FILE..]`
+-- `digest [--verify LIST] [--names] [--files0-from LIST] [FILE..]`
 abbrev pub digest_app : App
-digest_app = surveying_app (showing_app (codes "digest"))
+digest_app = surveying_app (with_rule (showing_app (codes "digest")) verify_rule)
 
 -- `check [--digest] [--names] [--files0-from LIST] [FILE..]`
 abbrev pub check_app : App

@@ -1,12 +1,13 @@
 -- What a command line asks for, by clap's matches of its words.
 use Rattle.std.specs.Prelude.{◌≡◌, ◌⊎◌, ◌++◌, ℕ, List, [], length, codes, Bool, Option, Some, None, Result, Ok, Err}
-use Rattle.std.specs.Prelude.{map, option_map, unwrap_or, IsTrue, IsFalse, ◌↔◌}
+use Rattle.std.specs.Prelude.{map, option_map, unwrap_or, is_some, IsTrue, IsFalse, ◌↔◌}
+use Rattle.std.specs.Option.{option_or}
 use Rattle.clap.specs.Words.{App, Row, Text, all_of, first_of, fault_of, subcommand_of, IsAmong}
 use Rattle.clap.specs.declared.error.kind.ErrorKind.{ErrorKind}
 use Rattle.clap.specs.declared.error.kind.ErrorKind.TheVariants as kind
 use Rattle.cap_line.specs.Command.{IsCapt}
 use Rattle.cap_bytes.specs.declared.formats.Format.{Format}
-use Rattle.cap_line.specs.Jobs.{IsShownJob, IsWholeJob, can_replace, can_show, data_by, format_by}
+use Rattle.cap_line.specs.Jobs.{IsShownJob, IsWholeJob, can_replace, can_show, can_verify, data_by, format_by}
 use Rattle.cap_line.specs.Jobs.{ignored_by, inputs_fault, is_whole_task, order_by, task_by}
 use Rattle.cap_line.specs.declared.jobs.Job.{Job}
 use Rattle.cap_line.specs.declared.jobs.Task.{Task}
@@ -34,6 +35,13 @@ out_in rows = first_of (codes "out") rows
 abbrev pub list_in : List Row → Option Text
 list_in rows = first_of (codes "files0-from") rows
 
+abbrev pub verify_in : List Row → Option Text
+verify_in rows = first_of (codes "verify") rows
+
+-- the file that names the captures in place of the words: one whose lines are verified, or a list of them
+abbrev pub names_file_in : List Row → Option Text
+names_file_in rows = option_or (verify_in rows) (list_in rows)
+
 abbrev pub to_in : List Row → Option Format
 to_in rows = format_by (first_of (codes "to") rows)
 
@@ -55,6 +63,12 @@ Lacks name rows =
 abbrev pub CannotReplace : List Row → Type 0
 CannotReplace rows = (whole : Bool) × Flags whole (codes "whole") rows × IsFalse (can_replace whole (out_in rows))
 
+-- Lines are to be verified, and can't be.
+abbrev pub CannotVerify : List Row → Type 0
+CannotVerify rows =
+    (names : Bool) × Flags names (codes "names") rows
+    × IsFalse (can_verify (is_some (verify_in rows)) (is_some (list_in rows)) names)
+
 -- What is to be shown is no number of bytes, or a task can't show it.
 abbrev pub CannotShow : Text → List Row → Type 0
 CannotShow name rows =
@@ -66,7 +80,7 @@ CannotShow name rows =
 abbrev pub RefusesFiles : Text → List Row → LineFault → Type 0
 RefusesFiles name rows fault =
     (task : Task) × (task_by name ≡ Some task)
-    × (inputs_fault task (files_in rows) (list_in rows) (out_in rows) ≡ Err fault)
+    × (inputs_fault task (files_in rows) (names_file_in rows) (out_in rows) ≡ Err fault)
 
 -- The job is what the rows say.
 pub record HasRows (task : Task) (rows : List Row) (job : Job) : Type 0 where
@@ -83,20 +97,21 @@ pub record HasRows (task : Task) (rows : List Row) (job : Job) : Type 0 where
   pub digests : Flags job.digests (codes "digest") rows
   pub names : Flags job.names (codes "names") rows
   pub list : option_map (λ l. l.now) job.list ≡ list_in rows
+  pub verify : option_map (λ v. v.now) job.verify ≡ verify_in rows
   pub count : data_in rows ≡ Ok job.data
   pub ignored : job.ignored ≡ ignored_by (names_in (codes "ignore") rows)
 
 -- What a subcommand of that name with those rows gives: a whole job, or the first fault. A name that is no task's, a
--- task that lacks what it takes, standard output that is to take a name, and what can't be shown, are refused as the
--- line.
+-- task that lacks what it takes, standard output that is to take a name, what can't be shown, and lines that can't be
+-- verified, are refused as the line.
 abbrev pub IsJobBy : Text → List Row → Result Job LineFault → Type 0
 IsJobBy name rows (Ok job) =
     (task : Task) × (task_by name ≡ Some task)
-    × (inputs_fault task (files_in rows) (list_in rows) (out_in rows) ≡ Ok tt)
+    × (inputs_fault task (files_in rows) (names_file_in rows) (out_in rows) ≡ Ok tt)
     × HasRows task rows job × IsWholeJob job × IsShownJob job
 IsJobBy name rows (Err Help) = ⊥
 IsJobBy name rows (Err Line) =
-    (task_by name ≡ None) ⊎ Lacks name rows ⊎ CannotReplace rows ⊎ CannotShow name rows
+    (task_by name ≡ None) ⊎ Lacks name rows ⊎ CannotReplace rows ⊎ CannotShow name rows ⊎ CannotVerify rows
     ⊎ RefusesFiles name rows Line
 IsJobBy name rows (Err Files) = RefusesFiles name rows Files
 IsJobBy name rows (Err Input) = RefusesFiles name rows Input

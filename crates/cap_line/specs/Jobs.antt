@@ -2,6 +2,7 @@
 use Rattle.std.specs.Prelude.{◌&&◌, ◌||◌, ◌==◌, ◌≤◌, ℕ, not, Bool, true, false, List, length, codes, count_by, Option}
 use Rattle.std.specs.Prelude.{Some, None, is_some, Result, Ok, Err, if◌then◌else◌, nat_le, nat_lt, option_map, vec_len}
 use Rattle.std.specs.Prelude.{IsTrue, IfSome, IsSome}
+use Rattle.std.specs.Option.{option_or}
 use Rattle.std.specs.Char.{is_ascii_digit}
 use Rattle.std.specs.Str.{bytes_eq}
 use Rattle.std.specs.Str.Parse.{digits_value}
@@ -105,6 +106,11 @@ abbrev pub can_replace : Bool → Option (List ℕ) → Bool
 can_replace whole None = true
 can_replace whole (Some out) = not (whole && bytes_eq out (codes "-"))
 
+-- whether the lines of a file can be verified, if that is asked for: a list of names besides, or names that are asked
+-- for, are refused with it
+abbrev pub can_verify : Bool → Bool → Bool → Bool
+can_verify verifies has_list has_names = not verifies || (not has_list && not has_names)
+
 -- whether a text is one decimal digit or more, and nothing else
 abbrev pub is_digits : List ℕ → Bool
 is_digits text = nat_lt 0 (length text) && list_all is_ascii_digit text
@@ -152,11 +158,15 @@ abbrev pub can_show : Task → Bool → Option ℕ → Bool
 can_show task json None = not json || is_printing task
 can_show task json (Some count) = json && is_listing task
 
--- A job has 1 file or more, or a list of files if its task takes one, at most as many files as its task takes, and all
--- else that its task takes.
+-- the file that names the captures of a job, in place of its own files: one whose lines are verified, or a list of them
+abbrev pub names_file : Job → Option (List ℕ)
+names_file job = option_or (option_map (λ v. v.now) job.verify) (option_map (λ l. l.now) job.list)
+
+-- A job has 1 file or more, or a file that names them if its task takes one, at most as many files as its task takes,
+-- and all else that its task takes.
 pub record IsWholeJob (job : Job) : Type 0 where
-  pub some : least_files (option_map (λ l. l.now) job.list) ≤ vec_len job.files
-  pub listed : IsSome job.list → IsTrue (is_surveying job.task)
+  pub some : least_files (names_file job) ≤ vec_len job.files
+  pub listed : IsSome (names_file job) → IsTrue (is_surveying job.task)
   pub most : vec_len job.files ≤ most_files job.task
   pub taken : IsTrue (is_whole_task job.task (vec_len job.files) job.to (option_map (λ o. o.now) job.out))
   pub replaced : IsTrue (can_replace job.whole (option_map (λ o. o.now) job.out))

@@ -1,7 +1,11 @@
 -- What a terminal shows of a text that someone else chose.
 use Rattle.std.specs.Prelude.{◌&&◌, ◌||◌, ◌==◌, ℕ, Bool, true, false, not, nat_le, if◌then◌else◌, List, [], ◌∷◌, chars}
-use Rattle.std.specs.Prelude.{encode_utf8_all, flat_map, IsFalse}
+use Rattle.std.specs.Prelude.{◌-◌, suc, zero, nat_lt, drop, take, length, encode_utf8_all, flat_map, IsFalse, Option, Some}
+use Rattle.std.specs.Prelude.{None, is_some}
+use Rattle.std.specs.Char.{digit_value}
 use Rattle.std.specs.Char.Escape.{escape_unicode}
+use Rattle.std.specs.List.{starts_with, take_while}
+use Rattle.std.specs.Str.Parse.{digits_value}
 
 -- whether a code is one of those from `low` to `high`
 abbrev pub is_between : ℕ → ℕ → ℕ → Bool
@@ -31,3 +35,39 @@ IsSeen c = IsFalse (is_escaped false c)
 
 abbrev pub IsSeenOrLine : ℕ → Type 0
 IsSeenOrLine c = IsFalse (is_escaped true c)
+
+-- whether a character is a hexadecimal digit
+abbrev pub is_hex_digit : ℕ → Bool
+is_hex_digit c = nat_lt (digit_value c) 16
+
+-- the code that the hexadecimal digits write which some characters begin with, of which the first four count: no hidden
+-- character has a code of more
+abbrev pub hex_code : List ℕ → ℕ
+hex_code cs = digits_value 16 (take_while is_hex_digit (take 4 cs))
+
+-- the hidden character whose escape, `\u{..}`, some characters begin with, if they begin with one
+abbrev pub escaped_first : List ℕ → Option ℕ
+escaped_first cs =
+    if is_hidden (hex_code (drop 3 cs)) && starts_with ◌==◌ cs (escape_unicode (hex_code (drop 3 cs)))
+    then Some (hex_code (drop 3 cs)) else None
+
+-- a character before those that are behind it: a hidden one, whose escape was read, or that character itself
+abbrev pub with_first : Option ℕ → ℕ → (ℕ → List ℕ) → List ℕ
+with_first (Some hidden) c behind = hidden ∷ behind (length (escape_unicode hidden) - 1)
+with_first None c behind = c ∷ behind 0
+
+-- The characters of a name of which those are shown, once the first of them, which are as many as `past` says, are
+-- passed over: in place of the escape of a hidden character that character, and any other as it is.
+unfoldable pub unshown_past : ℕ → List ℕ → List ℕ
+unshown_past past [] = []
+unshown_past (suc past) (c ∷ cs) = unshown_past past cs
+unshown_past zero (c ∷ cs) = with_first (escaped_first (c ∷ cs)) c (λ past. unshown_past past cs)
+
+-- the name of which that text is shown in one line
+abbrev pub unshown_text : List ℕ → List ℕ
+unshown_text text = encode_utf8_all (unshown_past 0 (chars text))
+
+-- whether some characters have in them the escape of a hidden one
+abbrev pub spells_hidden : List ℕ → Bool
+spells_hidden [] = false
+spells_hidden (c ∷ cs) = is_some (escaped_first (c ∷ cs)) || spells_hidden cs

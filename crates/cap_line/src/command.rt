@@ -8,7 +8,7 @@ ghost use Rattle.cap_line.specs.Command.{IsToRule, IsWriting, blocks_app, capt_a
 ghost use Rattle.cap_line.specs.Command.{cutting_app, data_rule, digest_app, file_rule, files_rule, flag_rule};
 ghost use Rattle.cap_line.specs.Command.{info_app, list_app, list_rule, listed_rule, listing_app, option_rule};
 ghost use Rattle.cap_line.specs.Command.{out_rule, reading_app, report_app, required_rule, showing_app};
-ghost use Rattle.cap_line.specs.Command.{surveying_app};
+ghost use Rattle.cap_line.specs.Command.{surveying_app, verify_rule};
 
 use crate::texts;
 use crate::usage::USAGE;
@@ -107,6 +107,14 @@ fn list_of_files<'a>(alloc: Global) -> Arg<'a>
     ensures local { result.global ≡ false }
 {
     option(alloc, "files0-from", "LIST", texts::LIST_OF_FILES_HELP)
+}
+
+// `--verify`
+fn verify<'a>(alloc: Global) -> Arg<'a>
+    ensures rule { rule_of result ≡ verify_rule }
+    ensures local { result.global ≡ false }
+{
+    option(alloc, "verify", "LIST", texts::VERIFY_HELP)
 }
 
 // `--whole`
@@ -379,10 +387,8 @@ fn digest<'a>(alloc: Global) -> Result<Command<'a>, AllocError>
     ensures app { IfOk result (λ c. app_of c ≡ digest_app) }
     ensures local { IfOk result (λ c. (fields_of c).has_globals ≡ false) }
 {
-    surveying(
-        alloc,
-        showing(alloc, "digest", texts::DIGEST_ABOUT, texts::DIGEST_HELP),
-    )
+    let before = showing(alloc, "digest", texts::DIGEST_ABOUT, texts::DIGEST_HELP);
+    surveying(alloc, with_argument(before, verify(alloc)))
 }
 
 // `check`

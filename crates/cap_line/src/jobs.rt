@@ -1,9 +1,9 @@
 //! Jobs, and what the words of a command line name in one.
-ghost use Rattle.std.specs.Prelude.{◌≡◌, map, count_by, codes, option_map};
+ghost use Rattle.std.specs.Prelude.{◌≡◌, map, count_by, codes, option_map, is_some};
 ghost use Rattle.std.specs.Char.{is_ascii_digit};
 ghost use Rattle.std.specs.List.{list_all, list_any};
 ghost use Rattle.std.specs.Str.{bytes_eq};
-ghost use Rattle.cap_line.specs.Jobs.{can_replace, can_show, count_in, data_by, files_fault, format_by};
+ghost use Rattle.cap_line.specs.Jobs.{can_replace, can_show, can_verify, count_in, data_by, files_fault, format_by};
 ghost use Rattle.cap_line.specs.Jobs.{ignored_by, inputs_fault, is_also_file, is_digits, is_surveying};
 ghost use Rattle.cap_line.specs.Jobs.{is_whole_task, most_files, order_by, task_by};
 
@@ -67,12 +67,15 @@ pub const NOTHING_IGNORED: Ignored = Ignored {
 pub struct Job<'a> {
     /// What is to be done.
     pub task: Task,
-    /// The capture files, as they were named: from 1 to 32, of `Digest` and `Check` to 4,294,967,295; none if a list
-    /// names them. `-` is standard input.
+    /// The capture files, as they were named: from 1 to 32, of `Digest` and `Check` to 4,294,967,295; none if `list` or
+    /// `verify` names them. `-` is standard input.
     pub files: Vec<&'a str>,
     /// The file that lists the captures in place of `files`, for `Digest` and `Check`: a NUL ends the name of each. `-`
     /// is standard input.
     pub list: Option<&'a str>,
+    /// The file whose lines `Digest` verifies, in place of `files` and `list`: lines that `capt digest --names` printed.
+    /// `-` is standard input.
+    pub verify: Option<&'a str>,
     /// Whether a cut end of a file is dropped, and not refused.
     pub allow_cut: bool,
     /// The byte order of what is written.
@@ -162,6 +165,14 @@ pub fn can_replace(whole: bool, out: Option<&str>) -> bool
         Some(out) => !(whole && out == "-"),
         None => true,
     }
+}
+
+/// Whether the lines of a file can be verified, if that is asked for: with another list, or with names asked for, they
+/// can't.
+pub fn can_verify(verify: Option<&str>, list: Option<&str>, names: bool) -> bool
+    ensures { result ≡ can_verify (is_some verify.entry) (is_some list.entry) names }
+{
+    verify.is_none() || list.is_none() && !names
 }
 
 // Whether each byte is a decimal digit.

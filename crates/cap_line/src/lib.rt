@@ -12,8 +12,9 @@ mod words;
 
 pub use crate::faults::LineFault;
 pub use crate::jobs::{
-    Ignored, Job, NOTHING_IGNORED, Task, can_replace, can_show, check_files, check_inputs, data_of,
-    files_limit, format_of, ignored_of, is_surveying, is_whole, order_of, standard_inputs, task_of,
+    Ignored, Job, NOTHING_IGNORED, Task, can_replace, can_show, can_verify, check_files,
+    check_inputs, data_of, files_limit, format_of, ignored_of, is_surveying, is_whole, order_of,
+    standard_inputs, task_of,
 };
 pub use crate::shown::{escape, escape_lines, is_hidden};
 pub use crate::texts::VERSION;

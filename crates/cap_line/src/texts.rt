@@ -104,8 +104,15 @@ captures with the same packets in the same order have the same digest, in
 whatever format, byte order and time units. The word cut follows if --allow-cut
 dropped a cut end. With --names, name and the file's name end the line. The
 status is 1 if any capture has no digest.
+With --verify LIST, LIST has such lines with names. It prints, for each:
+  verify I same name FILE     the file has the same line now
+  verify I differs name FILE  it has another line
+  verify I missing name FILE  it can't be opened
+I is the number in the line. The status is 1 if any is missing, else 3 if any
+differs. Give --allow-cut if the lines were printed with it.
 
 Examples: capt digest trace.pcap trace.pcapng
+          capt digest --names *.pcap > digests; capt digest --verify digests
           set -o pipefail; find . -type f -print0 | capt digest --files0-from -
           set -o pipefail; zcat trace.pcap.gz | capt digest -";
 
@@ -198,6 +205,10 @@ pub(crate) const DIGESTS_HELP: &str = "Print the SHA-256 of each capture's packe
 
 pub(crate) const LIST_OF_FILES_HELP: &str = "Read the names of captures, each ended by a NUL,
 from the file LIST, or - for standard input";
+
+pub(crate) const VERIFY_HELP: &str = "Say for each line of the file LIST, or - for standard
+input, whether its file still has that line: lines
+that capt digest --names printed";
 
 pub(crate) const DATA_HELP: &str = "With --json, show at most N bytes of a packet, from
 0 to 262144, default 16";

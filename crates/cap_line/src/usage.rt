@@ -10,6 +10,7 @@ Usage: capt report [--allow-cut] [--json] FILE...
        capt blocks [--allow-cut] [--json] FILE
        capt diff [--allow-cut] [--ignore KIND]... [--json [--data N]] A B
        capt digest [--allow-cut] [--json] [--names] FILE...
+       capt digest [--allow-cut] [--json] --verify LIST
        capt check [--allow-cut] [--digest] [--json] [--names] FILE...
        capt convert [--allow-cut] [--order ORDER] --to FORMAT -o OUT FILE
        capt merge [--allow-cut] [--order ORDER] [--to FORMAT] -o OUT FILE...
@@ -49,13 +50,16 @@ Options:
       --files0-from LIST
                  Of digest and check: read the names of captures, each ended
                  by a NUL, from the file LIST, or - for standard input
+      --verify LIST
+                 Of digest: say of each line of LIST, which digest --names
+                 printed, whether its file still has that line
       --whole    Of convert, merge and join: leave OUT as it was until all is
                  done
 
 A refusal names the file, the offset and the broken rule.
 Status 0: success; 1: a capture is refused, or one that is checked isn't whole,
 a file can't be opened, read, created or written, or memory ran out; 2: the
-command line is invalid; 3: diff found a difference.
+command line is invalid; 3: diff or digest --verify found a difference.
 ";
 
 /// What is printed for words that aren't all UTF-8.
@@ -99,6 +103,25 @@ For more information, try '--help'.
 
 pub(crate) const FILES_BESIDE_LIST: &str =
     "error: the argument '--files0-from <LIST>' cannot be used with '[FILE]...'
+
+For more information, try '--help'.
+";
+
+// What is printed for `digest --verify` with what it can't have beside it.
+pub(crate) const LIST_BESIDE_VERIFY: &str =
+    "error: the argument '--verify <LIST>' cannot be used with '--files0-from <LIST>'
+
+For more information, try '--help'.
+";
+
+pub(crate) const NAMES_BESIDE_VERIFY: &str =
+    "error: the argument '--verify <LIST>' cannot be used with '--names'
+
+For more information, try '--help'.
+";
+
+pub(crate) const FILES_BESIDE_VERIFY: &str =
+    "error: the argument '--verify <LIST>' cannot be used with '[FILE]...'
 
 For more information, try '--help'.
 ";

@@ -1,22 +1,23 @@
 //! What the words of the command line ask for.
 ghost use Rattle.std.specs.Prelude.{◌≡◌, ◌≢◌, ◌⊎◌, ◌++◌, All, chars, string_bytes, IfSome, IsSome, ◌↔◌, map, codes};
-ghost use Rattle.std.specs.Prelude.{option_map, IsTrue, IfOk, OnOk, Some};
+ghost use Rattle.std.specs.Prelude.{option_map, IsTrue, IfErr, IfOk, OnOk, Some};
 ghost use Rattle.clap.specs.Values.{kind_of};
 ghost use Rattle.clap.specs.Words.{first_of, rows_of, found_of, subcommand_rows_of};
-ghost use Rattle.cap_line.specs.Jobs.{IsShownJob, IsWholeJob, ignored_by};
+ghost use Rattle.cap_line.specs.Jobs.{IsShownJob, IsWholeJob, ignored_by, inputs_fault};
 ghost use Rattle.cap_line.specs.CommandLine.{fault_by, files_in, names_in, IsJobBy, IsJobOf, IsNoJob, IsRefused};
-ghost use Rattle.cap_line.specs.CommandLine.{Parses};
+ghost use Rattle.cap_line.specs.CommandLine.{CannotVerify, Parses, names_file_in, out_in};
 ghost use Rattle.cap_line.specs.Shown.{IsSeenOrLine};
 
 use crate::command::capt;
 use crate::faults::LineFault;
 use crate::jobs::{
-    Ignored, Job, NOTHING_IGNORED, can_replace, can_show, check_inputs, data_of, format_of,
-    ignored_of, is_whole, order_of, task_of,
+    Ignored, Job, NOTHING_IGNORED, Task, can_replace, can_show, can_verify, check_inputs, data_of,
+    format_of, ignored_of, is_whole, order_of, task_of,
 };
 use crate::shown::{escape, escape_lines};
 use crate::usage::{
-    DATA_ALONE, DATA_NUMBER, FILES_BESIDE_LIST, NO_FILES, TALKS_TIP, WHOLE_DASH, WRITE_TIP,
+    DATA_ALONE, DATA_NUMBER, FILES_BESIDE_LIST, FILES_BESIDE_VERIFY, LIST_BESIDE_VERIFY,
+    NAMES_BESIDE_VERIFY, NO_FILES, TALKS_TIP, WHOLE_DASH, WRITE_TIP,
 };
 use clap::error::ErrorKind;
 use clap::{ArgMatches, Error};
@@ -96,8 +97,8 @@ fn said_by<S: AsStr>(alloc: Global, error: Error, words: &[S]) -> Option<String>
 }
 
 // What is wrong with a line that clap takes and that gives no job, by the matches of its subcommand: the text of
-// `--data` is no number, or is one without `--json`; standard output can't take its name once all is done; there are
-// files beside a list of them; or there is neither.
+// `--data` is no number, or is one without `--json`; standard output can't take its name once all is done; `--verify`
+// has beside it what it can't have; there are files beside a list of them; or there is neither.
 fn line_text(matches: &ArgMatches<'_>) -> &'static str {
     if let Some(text) = text_of(matches, "data") {
         return if data_of(Some(text)).is_ok() {
@@ -109,9 +110,17 @@ fn line_text(matches: &ArgMatches<'_>) -> &'static str {
     if is_set(text_of(matches, "whole")) {
         return WHOLE_DASH;
     }
-    match text_of(matches, "files0-from") {
-        Some(_) => FILES_BESIDE_LIST,
-        None => NO_FILES,
+    match (text_of(matches, "verify"), text_of(matches, "files0-from")) {
+        (Some(_), Some(_)) => LIST_BESIDE_VERIFY,
+        (Some(_), None) => {
+            if is_set(text_of(matches, "names")) {
+                NAMES_BESIDE_VERIFY
+            } else {
+                FILES_BESIDE_VERIFY
+            }
+        }
+        (None, Some(_)) => FILES_BESIDE_LIST,
+        (None, None) => NO_FILES,
     }
 }
 
@@ -180,6 +189,23 @@ fn is_set(flag: Option<&str>) -> bool
     flag == Some("true")
 }
 
+// Tests the files that a task is given, by their own names or by a file that has these.
+fn check_named(task: Task, files: &[&str], matches: &ArgMatches<'_>) -> Result<(), LineFault>
+    ensures taken { OnOk result (inputs_fault task (map (λ f. f.now) files.now)
+        (names_file_in (rows_of (found_of matches.now))) (out_in (rows_of (found_of matches.now))) ≡ Ok tt) }
+    ensures refused { IfErr result (λ fault.
+        ((fault ≡ LineFault.Line) × CannotVerify (rows_of (found_of matches.now)))
+        ⊎ (inputs_fault task (map (λ f. f.now) files.now) (names_file_in (rows_of (found_of matches.now)))
+        (out_in (rows_of (found_of matches.now))) ≡ Err fault)) }
+{
+    let list = text_of(matches, "files0-from");
+    let verify = text_of(matches, "verify");
+    if !can_verify(verify, list, is_set(text_of(matches, "names"))) {
+        return Err(LineFault::Line);
+    }
+    check_inputs(task, files, verify.or(list), text_of(matches, "out"))
+}
+
 // The job of a subcommand's name and its matches, or what it is refused by.
 fn job_of<'a>(alloc: Global, name: &str, matches: &ArgMatches<'a>) -> Result<Job<'a>, LineFault>
     ensures { IsJobBy name.now (rows_of (found_of matches.now)) result }
@@ -201,12 +227,12 @@ fn job_of<'a>(alloc: Global, name: &str, matches: &ArgMatches<'a>) -> Result<Job
     if !can_show(task, json, data) {
         return Err(LineFault::Line);
     }
-    let list = text_of(matches, "files0-from");
-    check_inputs(task, files.as_slice(), list, out)?;
+    check_named(task, files.as_slice(), matches)?;
     Ok(Job {
         task,
         files,
-        list,
+        list: text_of(matches, "files0-from"),
+        verify: text_of(matches, "verify"),
         allow_cut: is_set(text_of(matches, "allow-cut")),
         order: order_of(text_of(matches, "order")),
         to,

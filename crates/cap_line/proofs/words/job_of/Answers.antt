@@ -1,6 +1,34 @@
-use Rattle.std.proofs.Common.{arith}
+use Rattle.std.proofs.Common.{◌≡◌, Ok, length, option_map, vec_len, arith}
 use Rattle.std.proofs.lemmas.Grind.{common_steps}
+use Rattle.std.specs.Option.{option_or}
+use Rattle.clap.specs.Words.{found_of, rows_of}
+use Rattle.cap_line.specs.CommandLine.{files_in, names_file_in, out_in}
+use Rattle.cap_line.specs.Jobs.{inputs_fault}
+use Rattle.cap_line.proofs.Naming.{named-refused, taken-is}
 use Rattle.cap_line.proofs.words.job_of.Goals as goal
 
 pub returns : goal.returns
-returns c = grind (arith, common_steps)
+returns c =
+    let rows = rows_of (found_of c.args.matches.now) in
+    let taken : inputs_fault c.in-Some.task (files_in rows) (names_file_in rows) (out_in rows) ≡ Ok tt =
+    grind (arith, common_steps) in
+    let count : length (files_in rows) ≡ vec_len c.in-Ok.files = grind (arith, common_steps) in
+    let named : option_or (option_map (λ v. v.now) c.text_of-6.result) (option_map (λ l. l.now) c.text_of-5.result)
+    ≡ names_file_in rows = grind (arith, common_steps) in
+    let whole = taken-is c.in-Some.task (files_in rows) (names_file_in rows) _ (out_in rows) _ taken count named in (
+      c.in-Some.task,
+      grind (arith, common_steps),
+      taken,
+      grind (arith, common_steps),
+      record {
+        some = whole.0;
+        listed = whole.1;
+        most = whole.2;
+        taken = grind (arith, common_steps);
+        replaced = grind (arith, common_steps);
+      },
+      grind (arith, common_steps),
+    )
+
+pub returns-in_err-check_named : goal.returns-in_err-check_named
+returns-in_err-check_named c = grind (arith, common_steps, named-refused)
