@@ -5,3 +5,5 @@ pub mod Escapes
 pub mod Numbers
 pub mod Limits
 pub mod Naming
+pub mod ShownNames
+pub mod ReadingEscapes

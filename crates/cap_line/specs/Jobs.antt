@@ -115,6 +115,11 @@ can_verify verifies has_list has_names = not verifies || (not has_list && not ha
 abbrev pub is_digits : List ℕ → Bool
 is_digits text = nat_lt 0 (length text) && list_all is_ascii_digit text
 
+-- the number that a text is in decimal digits, of which the first may be zeros, if it is at most 4,294,967,295
+abbrev pub number_in : List ℕ → Option ℕ
+number_in text =
+    if is_digits text && nat_le (digits_value 10 text) 4294967295 then Some (digits_value 10 text) else None
+
 -- the number that a text is in decimal digits, of which the first may be zeros, if it is at most 262,144
 abbrev pub count_in : List ℕ → Option ℕ
 count_in text = if is_digits text && nat_le (digits_value 10 text) 262144 then Some (digits_value 10 text) else None

@@ -5,7 +5,7 @@ ghost use Rattle.std.specs.List.{list_all, list_any};
 ghost use Rattle.std.specs.Str.{bytes_eq};
 ghost use Rattle.cap_line.specs.Jobs.{can_replace, can_show, can_verify, count_in, data_by, files_fault, format_by};
 ghost use Rattle.cap_line.specs.Jobs.{ignored_by, inputs_fault, is_also_file, is_digits, is_surveying};
-ghost use Rattle.cap_line.specs.Jobs.{is_whole_task, most_files, order_by, task_by};
+ghost use Rattle.cap_line.specs.Jobs.{is_whole_task, most_files, number_in, order_by, task_by};
 
 use crate::faults::LineFault;
 use cap_bytes::{Format, Order};
@@ -189,15 +189,25 @@ fn is_digits(text: &str) -> bool
     !text.is_empty() && are_digits(text.as_bytes())
 }
 
-// The number that a text is, if it is one from 0 to 262,144.
-fn count_of(text: &str) -> Option<u32>
-    ensures { result ≡ count_in text.now }
+/// The number that a text is in decimal digits alone, before which zeros may stand, if it is at most 4,294,967,295.
+pub fn number_of(text: &str) -> Option<u32>
+    ensures { result ≡ number_in text.now }
 {
     if !is_digits(text) {
         return None;
     }
     match text.parse::<u32>() {
-        Ok(count) if count <= DATA_LIMIT => Some(count),
+        Ok(number) => Some(number),
+        Err(_) => None,
+    }
+}
+
+// The number that a text is, if it is one from 0 to 262,144.
+fn count_of(text: &str) -> Option<u32>
+    ensures { result ≡ count_in text.now }
+{
+    match number_of(text) {
+        Some(count) if count <= DATA_LIMIT => Some(count),
         _ => None,
     }
 }

@@ -7,16 +7,18 @@ mod faults;
 mod jobs;
 mod shown;
 mod texts;
+mod unshown;
 mod usage;
 mod words;
 
 pub use crate::faults::LineFault;
 pub use crate::jobs::{
     Ignored, Job, NOTHING_IGNORED, Task, can_replace, can_show, can_verify, check_files,
-    check_inputs, data_of, files_limit, format_of, ignored_of, is_surveying, is_whole, order_of,
-    standard_inputs, task_of,
+    check_inputs, data_of, files_limit, format_of, ignored_of, is_surveying, is_whole, number_of,
+    order_of, standard_inputs, task_of,
 };
 pub use crate::shown::{escape, escape_lines, is_hidden};
 pub use crate::texts::VERSION;
+pub use crate::unshown::unescape;
 pub use crate::usage::{NOT_UTF_8, USAGE};
 pub use crate::words::{message, parse};
