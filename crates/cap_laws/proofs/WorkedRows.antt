@@ -11,8 +11,8 @@ use Rattle.cap_ip.specs.Transport.{ports_of, udp_length, udp_of, tcp_header_leng
 use Rattle.cap_join.specs.ByteMap.{completes, joined_data}
 use Rattle.cap_join.specs.Fragments.{piece_of}
 use Rattle.cap_join.specs.History.{joined_pieces, step, open_groups_after}
-use Rattle.cap_link.specs.Links.{typed, raw, network_of}
-use Rattle.cap_link.specs.Tags.{is_tag, ended_in_link as tag_ended, payload, carried}
+use Rattle.cap_link.specs.Links.{announced_in, network_of, raw, typed}
+use Rattle.cap_link.specs.Tags.{announced, carried, ended_in_link as tag_ended, is_tag, payload}
 use Rattle.cap_talks.specs.counts.Counting.{counted}
 use Rattle.cap_talks.specs.table.Conversations.{rows_of}
 use Rattle.cap_time.specs.Code.{units_of_code}
@@ -44,5 +44,6 @@ unfolding digits number version header_length service total_length identificatio
     transport_of completes joined_data piece_of joined_pieces step open_groups_after typed raw network_of counted
     rows_of
     units_of_code stamp_cmp stamp_in stamp_plus time_cmp time_at floor_of remainder_of classes group_class completed_of
-    body_text_in files_part_in classify events_of group_unit unit_at counted_units is_tag tag_ended payload carried
+    body_text_in files_part_in classify events_of group_unit unit_at counted_units is_tag tag_ended payload carried announced
+    announced_in
 tagged = record { classes_are = refl; done = refl }

@@ -1,2 +1,3 @@
 pub mod TagSteps
 pub mod TagsLaw
+pub mod OtherNetworks

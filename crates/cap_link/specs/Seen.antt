@@ -1,7 +1,9 @@
 -- What a frame carries, as a value of its own: the same for equal bytes, wherever they lie.
-use Rattle.std.specs.Prelude.{ℕ, List}
+use Rattle.std.specs.Prelude.{ℕ, List, Option}
+use Rattle.std.specs.Option.{option_map}
 use Rattle.cap_link.specs.declared.networks.Network.{Network}
 use Rattle.cap_link.specs.declared.networks.Network.TheVariants as variant
+use Rattle.cap_link.specs.declared.tags.AnnouncedBytes.{AnnouncedBytes}
 
 -- what a frame carries: the bytes of an IPv4 packet, or why there are none
 pub data Carried : Type 0 where
@@ -18,3 +20,12 @@ carried_seen variant.OtherLink = Carried.other_link
 carried_seen variant.NotIpv4 = Carried.not_ipv4
 carried_seen variant.Short = Carried.short
 carried_seen variant.Cut = Carried.cut
+
+-- what a link header and the tags behind it announce: a type that is no tag's, and the bytes behind it
+pub record Announced : Type 0 where
+  pub kind : ℕ
+  pub bytes : List ℕ
+
+-- its value, if anything is announced
+abbrev pub announced_seen : Option AnnouncedBytes → Option Announced
+announced_seen it = option_map (λ a. record { kind = a.kind; bytes = a.bytes.now }) it

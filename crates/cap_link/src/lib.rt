@@ -5,5 +5,5 @@ mod links;
 mod networks;
 mod tags;
 
-pub use crate::links::{network, tags_law};
-pub use crate::networks::Network;
+pub use crate::links::{network, other_network, tags_law};
+pub use crate::networks::{Network, OtherNetwork};

@@ -1,11 +1,12 @@
 //! The link headers of the five link types (LINKTYPE registry).
-ghost use Rattle.std.specs.Prelude.{◌≡◌, ◌+◌, ◌≤◌};
-ghost use Rattle.cap_link.specs.Seen.{carried_seen};
-ghost use Rattle.cap_link.specs.Links.{typed, raw, network_of};
+ghost use Rattle.std.specs.Prelude.{◌≡◌, ◌+◌, ◌≤◌, ℕ, is_some};
+ghost use Rattle.cap_link.specs.Seen.{announced_seen, carried_seen};
+ghost use Rattle.cap_link.specs.Links.{announced_in, is_not_ipv4, network_of, other_network_of, other_raw};
+ghost use Rattle.cap_link.specs.Links.{other_typed, raw, typed};
 ghost use Rattle.cap_link.specs.inner.Tagged.{TagsLaw};
 
-use crate::networks::Network;
-use crate::tags::{carried, ended};
+use crate::networks::{Network, OtherNetwork};
+use crate::tags::{AnnouncedBytes, announced, carried, ended, other_of_kind};
 use cap_bytes::{Order, u16_at};
 
 // LINKTYPE_ETHERNET: destination 6, source 6, type 2.
@@ -20,21 +21,55 @@ const IPV4: u16 = 228;
 // length 1, address 8.
 const LINUX_SLL2: u16 = 276;
 
+/// A link header that has a type field.
+#[derive(Clone, Copy)]
+pub(crate) struct LinkHeader {
+    /// How many bytes it has.
+    pub(crate) size: usize,
+    /// The place of the type field in it.
+    pub(crate) place: usize,
+}
+
+const ETHERNET_HEADER: LinkHeader = LinkHeader {
+    size: 14,
+    place: 12,
+};
+
+const LINUX_SLL_HEADER: LinkHeader = LinkHeader {
+    size: 16,
+    place: 14,
+};
+
+const LINUX_SLL2_HEADER: LinkHeader = LinkHeader { size: 20, place: 0 };
+
 // The version of an IPv4 packet, in the high four bits of its first byte (RFC 791, 3.1).
 const VERSION_4: u8 = 4;
+// The version of an IPv6 packet, at the same place (RFC 8200, 3).
+const VERSION_6: u8 = 6;
 
-// A header of `size` bytes whose type field stands at `place`.
-#[tactic(auto, unfolding(crate::specs::Links::typed))]
-fn typed(whole: bool, size: usize, place: usize, frame: &[u8]) -> Network<'_>
-    requires { place + 2 ≤ size }
-    ensures { carried_seen result ≡ typed whole size place frame.now }
+// What a frame's link header and the tags behind it announce; `None` if the frame ends inside them.
+#[tactic(auto, unfolding(crate::specs::Links::announced_in))]
+#[inline(always)]
+fn announced_in(header: LinkHeader, frame: &[u8]) -> Option<AnnouncedBytes<'_>>
+    requires { header.place + 2 ≤ header.size }
+    ensures { announced_seen result ≡ announced_in header frame.now }
 {
-    if frame.len() < size {
-        return ended(whole);
+    if frame.len() < header.size {
+        return None;
     }
-    let kind = u16_at(Order::Big, frame, place);
-    let (_, rest) = frame.split_at(size);
-    carried(whole, kind, rest)
+    let kind = u16_at(Order::Big, frame, header.place);
+    let (_, rest) = frame.split_at(header.size);
+    announced(kind, rest)
+}
+
+// What a frame carries that begins with such a link header.
+#[tactic(auto, unfolding(crate::specs::Links::typed))]
+#[inline(always)]
+fn typed(whole: bool, header: LinkHeader, frame: &[u8]) -> Network<'_>
+    requires { header.place + 2 ≤ header.size }
+    ensures { carried_seen result ≡ typed whole header frame.now }
+{
+    carried(whole, announced_in(header, frame))
 }
 
 // A packet without a link header.
@@ -66,12 +101,51 @@ pub fn network(link: u16, frame: &[u8], original: u32) -> Network<'_>
 {
     let whole = frame.len() >= original as usize;
     match link {
-        ETHERNET => typed(whole, 14, 12, frame),
+        ETHERNET => typed(whole, ETHERNET_HEADER, frame),
         RAW => raw(whole, frame),
-        LINUX_SLL => typed(whole, 16, 14, frame),
+        LINUX_SLL => typed(whole, LINUX_SLL_HEADER, frame),
         IPV4 => Network::Ipv4(frame),
-        LINUX_SLL2 => typed(whole, 20, 0, frame),
+        LINUX_SLL2 => typed(whole, LINUX_SLL2_HEADER, frame),
         _ => Network::OtherLink,
+    }
+}
+
+// The network other than IPv4 of a frame that begins with such a link header.
+#[tactic(auto, unfolding(crate::specs::Links::other_typed))]
+fn other_typed(header: LinkHeader, frame: &[u8]) -> Option<OtherNetwork>
+    requires { header.place + 2 ≤ header.size }
+    ensures { result ≡ other_typed header frame.now }
+{
+    other_of_kind(announced_in(header, frame)?.kind)
+}
+
+// The network other than IPv4 of a frame without a link header.
+#[tactic(auto, unfolding(crate::specs::Links::other_raw))]
+fn other_raw(frame: &[u8]) -> Option<OtherNetwork>
+    ensures { result ≡ other_raw frame.now }
+{
+    match *frame.first()? / 16 {
+        VERSION_4 => None,
+        VERSION_6 => Some(OtherNetwork::Ipv6),
+        _ => Some(OtherNetwork::Other),
+    }
+}
+
+/// The network of a captured frame that isn't IPv4, by its link type: `Some` exactly if `network` answers `NotIpv4`,
+/// whatever the frame's original length. It is that of the type after the link header and the tags: IPv6 of `86DD`
+/// (RFC 2464, 3), ARP of `0806` (RFC 826), and another of any other type or length. Of 101 RAW it is IPv6 if the high
+/// four bits of the first byte are 6 (RFC 8200, 3).
+#[tactic(auto, unfolding(crate::specs::Links::other_network_of))]
+pub fn other_network(link: u16, frame: &[u8]) -> Option<OtherNetwork>
+    ensures value { result ≡ other_network_of link frame.now }
+    ensures some { (original : ℕ) → is_some result ≡ is_not_ipv4 (network_of link frame.now original) }
+{
+    match link {
+        ETHERNET => other_typed(ETHERNET_HEADER, frame),
+        RAW => other_raw(frame),
+        LINUX_SLL => other_typed(LINUX_SLL_HEADER, frame),
+        LINUX_SLL2 => other_typed(LINUX_SLL2_HEADER, frame),
+        _ => None,
     }
 }
 

@@ -14,3 +14,14 @@ pub enum Network<'a> {
     /// The frame wasn't captured whole, and ends inside its link header or a tag.
     Cut,
 }
+
+/// The network of a frame that `network` calls `NotIpv4`.
+#[derive(Clone, Copy, Debug, PartialEq, Eq)]
+pub enum OtherNetwork {
+    /// IPv6: the type `86DD` (RFC 2464, 3), or the version 6 (RFC 8200, 3).
+    Ipv6,
+    /// The Address Resolution Protocol: the type `0806` (RFC 826).
+    Arp,
+    /// Any other type, length or version.
+    Other,
+}

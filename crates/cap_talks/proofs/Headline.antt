@@ -11,7 +11,6 @@ use Rattle.cap_bytes.specs.declared.faults.Fault.{Fault}
 use Rattle.cap_bytes.specs.declared.faults.Fault.TheVariants.{Memory, Read, Refused, Write}
 use Rattle.cap_bytes.specs.declared.faults.Refusal.{Refusal}
 use Rattle.cap_bytes.specs.declared.faults.Tail.{Tail}
-use Rattle.cap_bytes.specs.declared.stops.CutRest.{CutRest}
 use Rattle.cap_print.specs.declared.forms.Form.{Form}
 use Rattle.cap_source.proofs.Onward.{Lasts-goes}
 use Rattle.cap_merge.proofs.Unread.{told-readers, bytes-readers}
@@ -20,9 +19,11 @@ use Rattle.cap_merge.specs.Parts.{Part, merged_feed, run_of}
 use Rattle.cap_merge.specs.inner.Readers.{ReaderFacts, IsUnreadRun}
 use Rattle.cap_source.specs.Feed.{Feed}
 use Rattle.cap_source.specs.inner.Walk.{Walks}
-use Rattle.cap_talks.specs.inner.talks.Reporting.{TookAll, TakesAll, TellsReport}
-use Rattle.cap_class.specs.Runs.{taken_after}
+use Rattle.cap_talks.specs.inner.talks.Reporting.{LeavesReport, TookAll, TakesAll, TellsReport}
+use Rattle.cap_talks.specs.table.OtherNetworks.{counts_if}
+use Rattle.cap_talks.specs.declared.talks.reports.ReportLeft.{ReportLeft}
 use Rattle.cap_talks.specs.talks.ReportText.{report_text_in, report_refusal}
+use Rattle.cap_class.specs.Runs.{taken_after}
 use Rattle.cap_talks.specs.table.TakenText.{text_of_in}
 use Rattle.cap_talks.specs.inner.table.Stepping.{TableState, TableStands, endings_so_far}
 use Rattle.cap_class.specs.Taken.{Taken}
@@ -57,14 +58,25 @@ module _ {A : Type 0} (reader : A → ReaderFacts) (tail : Tail) (sources : List
       (tells (told-readers reader tail sources ps unread t))
 
   -- and so are the rests that were cut
-  pub cuts-files : (result : Result (List (Option CutRest)) Fault)
-      → IfOk result (λ cuts. IsTrue (merged_feed ps).told
-      → cuts ≡ rests_by_place (merged_feed ps).endings (length (merged_feed ps).files))
-      → IfOk result (λ cuts. IsTrue (list_all (λ s. (reader s).told) sources)
-      → cuts ≡ rests_by_place (endings_of_files tail (map (λ s. (reader s).bytes) sources)) (length sources))
-  cuts-files (Ok cuts) is = λ t. is (told-readers reader tail sources ps unread t)
+  pub cuts-files : (counts : Bool) (result : Result ReportLeft Fault)
+      → IfOk result (λ left. IsTrue (merged_feed ps).told
+      → LeavesReport counts (length (merged_feed ps).files) ps left)
+      → IfOk result (λ left. IsTrue (list_all (λ s. (reader s).told) sources)
+      → left.cuts ≡ rests_by_place (endings_of_files tail (map (λ s. (reader s).bytes) sources)) (length sources))
+  cuts-files counts (Ok left) is = λ t. (is (told-readers reader tail sources ps unread t)).cuts
       ∙ (λ i. rests_by_place (endings-are i) (count-is i))
-  cuts-files (Err fault) is = tt
+  cuts-files counts (Err fault) is = tt
+
+  -- and the packets of networks other than IPv4
+  pub networks-files : (counts : Bool) (result : Result ReportLeft Fault)
+      → IfOk result (λ left. IsTrue (merged_feed ps).told
+      → LeavesReport counts (length (merged_feed ps).files) ps left)
+      → IfOk result (λ left. IsTrue (list_all (λ s. (reader s).told) sources)
+      → left.not_ipv4
+      ≡ counts_if counts (taken_after [] (clocked_run tail (map (λ s. (reader s).bytes) sources))))
+  networks-files counts (Ok left) is = λ t. (is (told-readers reader tail sources ps unread t)).networks
+      ∙ ap (λ run. counts_if counts (taken_after [] run)) run-is
+  networks-files counts (Err fault) is = tt
 
 -- the rests of files of which all packets were taken
 pub took-cuts : (old new : TableState) → TookAll old new → IsTrue (merged_feed old.parts).told
@@ -93,10 +105,11 @@ tells-report form old new held out result t stands took fault prints =
     (prints (taken_after [] (run_of old.parts)) (took.stands t stands)))
 
 -- taking them faults: nothing is written
-pub tells-nothing : (form : Form) (old new : TableState) (held : List ℕ) (fault : Fault) → TakesAll old (Err fault) new
+pub tells-nothing : (A : Type 0) (form : Form) (old new : TableState) (held : List ℕ) (fault : Fault)
+    → TakesAll {A = A} old (Err fault) new
     → IsTrue (merged_feed old.parts).told → TableStands old []
-    → TellsReport {A = Unit {0}} form (length old.totals.files) old.parts held (Err fault) held
-tells-nothing form old new held fault takes t stands = grind arith
+    → TellsReport {A = A} form (length old.totals.files) old.parts held (Err fault) held
+tells-nothing A form old new held fault takes t stands = grind arith
 
 -- the feed is at its end as the report is written
 pub walks-written : (old new : Feed) (result : Result (Unit {0}) Fault) → Walks {A = Unit {0}} old (Ok tt) new
@@ -104,9 +117,9 @@ pub walks-written : (old new : Feed) (result : Result (Unit {0}) Fault) → Walk
 walks-written old new result walks fault = grind (arith, Lasts-goes)
 
 -- nothing is written as packets are taken
-pub writer-same : (w : Writer) (old new : TableState) (fault : Fault) → TakesAll old (Err fault) new
-    → WriterKeeps w (is_write {A = Unit {0}} (Err fault)) w
-writer-same w old new fault takes = grind arith
+pub writer-same : (A : Type 0) (w : Writer) (old new : TableState) (fault : Fault) → TakesAll {A = A} old (Err fault) new
+    → WriterKeeps w (is_write {A = A} (Err fault)) w
+writer-same A w old new fault takes = grind arith
 
 -- a fault of the report is also that of a call that returns more
 pub report-fault : (A B : Type 0) (form : Form) (old : TableState) (held out : List ℕ) (fault : Fault)
@@ -121,10 +134,10 @@ walks-fault A B old new (Read file offset) w = w
 walks-fault A B old new Write w = w
 walks-fault A B old new Memory w = w
 
--- the rests of a table's files are those of its merge
-pub report-cuts : (result : Result (List (Option CutRest)) Fault) (ps qs : List Part) (n m : ℕ) → ps ≡ qs → n ≡ m
-    → IfOk result (λ cuts. IsTrue (merged_feed ps).told → cuts ≡ rests_by_place (merged_feed ps).endings n)
-    → IfOk result (λ cuts. IsTrue (merged_feed qs).told → cuts ≡ rests_by_place (merged_feed qs).endings m)
-report-cuts result ps qs n m is many h =
-    subst (λ (p : List Part × ℕ). IfOk result (λ cuts. IsTrue (merged_feed p.0).told
-    → cuts ≡ rests_by_place (merged_feed p.0).endings p.1)) (λ i. (is i, many i)) h
+-- what is left of a table's files is what is left of its merge
+pub report-left : (counts : Bool) (result : Result ReportLeft Fault) (ps qs : List Part) (n m : ℕ) → ps ≡ qs → n ≡ m
+    → IfOk result (λ left. IsTrue (merged_feed ps).told → LeavesReport counts n ps left)
+    → IfOk result (λ left. IsTrue (merged_feed qs).told → LeavesReport counts m qs left)
+report-left counts result ps qs n m is many h =
+    subst (λ (p : List Part × ℕ). IfOk result (λ left. IsTrue (merged_feed p.0).told
+    → LeavesReport counts p.1 p.0 left)) (λ i. (is i, many i)) h

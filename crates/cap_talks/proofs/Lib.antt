@@ -28,4 +28,6 @@ pub mod FileByFile
 pub mod Telling
 pub mod CutRests
 pub mod Reporting
+pub mod OtherNetworks
+pub mod CountedNetworks
 pub mod Headline

@@ -43,17 +43,17 @@ pub Reporting-begin : (t : TableState) → Reporting t t
 Reporting-begin t = grind (arith, Went-none)
 
 -- the refusal of a run that begins with a packet
-refusal-packet : (xs : List Taken) (x : Taken) (run : List (Clocked Item)) (b : Bool) → is_limit_at xs x ≡ b
+pub refusal-packet : (xs : List Taken) (x : Taken) (run : List (Clocked Item)) (b : Bool) → is_limit_at xs x ≡ b
     → refusal_after xs (clocked x ∷ run) ≡ (if b then Some (limit_refusal x.meta) else refusal_after (x ∷ xs) run)
 unfolding refusal_after
 refusal-packet xs x run b is = grind arith
 
-taken-packet : (xs : List Taken) (x : Taken) (run : List (Clocked Item))
+pub taken-packet : (xs : List Taken) (x : Taken) (run : List (Clocked Item))
     → taken_after xs (clocked x ∷ run) ≡ taken_after (x ∷ xs) run
 unfolding taken_after
 taken-packet xs x run = refl
 
-taken-none : (xs : List Taken) → taken_after xs [] ≡ xs
+pub taken-none : (xs : List Taken) → taken_after xs [] ≡ xs
 unfolding taken_after
 taken-none xs = refl
 
@@ -66,7 +66,7 @@ refusal-refused : (xs : List Taken) (clock : Option Stamp) (r : Refusal)
 unfolding refusal_after
 refusal-refused xs clock r = refl
 
-more : (old mid new : TableState) → Reporting old mid → StepKeeps mid new → TableTakes mid new → Reporting old new
+unfoldable pub more : (old mid new : TableState) → Reporting old mid → StepKeeps mid new → TableTakes mid new → Reporting old new
 more old mid new p k t = record {
   taken = t.item ∷ p.taken;
   went = record {
@@ -114,22 +114,22 @@ at-cause old new (inr k) = by (merged_feed new.parts).known k.next
         clash e = cc
 
 -- the same of what taking all answers
-pub taken-memory : (old new : TableState) (fault : Fault) → TakesAll old (Err fault) new
+pub taken-memory : (A : Type 0) (old new : TableState) (fault : Fault) → TakesAll {A = A} old (Err fault) new
     → OfMemory fault (IsAtPacket (merged_feed new.parts).known)
-taken-memory old new (Refused refusal) t = tt
-taken-memory old new (Read file offset) t = tt
-taken-memory old new Write t = tt
-taken-memory old new Memory t = t
+taken-memory A old new (Refused refusal) t = tt
+taken-memory A old new (Read file offset) t = tt
+taken-memory A old new Write t = tt
+taken-memory A old new Memory t = t
 
-pub TakesAll-fault : (old mid new : TableState) (fault : Fault) → Reporting old mid → TableSteps mid (Err fault) new
-    → TakesAll old (Err fault) new
-TakesAll-fault old mid new (Refused r) p (inl t) = grind (arith, refusal-refused)
-TakesAll-fault old mid new (Refused r) p (inr t) = λ h s.
+pub TakesAll-fault : (A : Type 0) (old mid new : TableState) (fault : Fault) → Reporting old mid
+    → TableSteps mid (Err fault) new → TakesAll {A = A} old (Err fault) new
+TakesAll-fault A old mid new (Refused r) p (inl t) = grind (arith, refusal-refused)
+TakesAll-fault A old mid new (Refused r) p (inr t) = λ h s.
     p.refusal h s ∙ ap (refusal_after p.taken) (t.run (p.went.keeps.told h))
     ∙ refusal-packet p.taken t.item _ true (t.limit p.taken (p.stands s)) ∙ ap Some (sym t.is)
-TakesAll-fault old mid new (Read file offset) p t = tt
-TakesAll-fault old mid new Write p t = absurd t
-TakesAll-fault old mid new Memory p t = at-cause mid new t.cause
+TakesAll-fault A old mid new (Read file offset) p t = tt
+TakesAll-fault A old mid new Write p t = absurd t
+TakesAll-fault A old mid new Memory p t = at-cause mid new t.cause
 
 -- what only writes answers no refused growth
 pub memory-unless : {A : Type 0} (result : Result A Fault) (P : Type 0) → IsOkUnless result Write → IfMemory result P

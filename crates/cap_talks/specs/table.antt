@@ -5,3 +5,4 @@ pub mod TalkLines
 pub mod CountedUnits
 pub mod TakenText
 pub mod Descriptions
+pub mod OtherNetworks

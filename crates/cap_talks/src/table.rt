@@ -6,6 +6,7 @@ mod conversations;
 mod descriptions;
 mod keys;
 mod laws;
+mod others;
 mod report_lines;
 mod rows;
 mod tables;
@@ -15,7 +16,9 @@ mod totals;
 mod units;
 
 pub use crate::table::descriptions::{Description, describe, put_description};
-pub use crate::table::laws::talk_laws;
+pub use crate::table::laws::{other_networks_law, talk_laws};
+pub(crate) use crate::table::others::with_network;
+pub use crate::table::others::{NO_OTHERS, OtherCounts};
 pub use crate::table::rows::{TalkKey, TalkRow};
 pub use crate::table::tables::{Held, Step, Table};
 pub use crate::table::units::{CountedUnit, Endpoint, TimedFrame};

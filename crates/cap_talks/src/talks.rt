@@ -4,4 +4,4 @@ mod files;
 mod reports;
 
 pub use crate::talks::files::{file_lines, file_lines_and_cuts, file_lines_in};
-pub use crate::talks::reports::{report, report_and_cuts, report_in};
+pub use crate::talks::reports::{ReportLeft, report, report_and_count, report_in};

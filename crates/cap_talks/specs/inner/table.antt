@@ -3,6 +3,7 @@ pub mod Holding
 pub mod Keys
 pub mod Laws
 pub mod Looking
+pub mod Others
 pub mod Packed
 pub mod Props
 pub mod Stepping

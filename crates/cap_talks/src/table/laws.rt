@@ -2,6 +2,8 @@
 ghost use Rattle.std.specs.Prelude.{List};
 ghost use Rattle.cap_talks.specs.inner.table.Laws.{KeyLaw, FrameLaw, SumLaw};
 ghost use Rattle.cap_talks.specs.inner.table.Worked.{TalkLines, TalkLimit};
+ghost use Rattle.cap_talks.specs.table.OtherNetworks.{OtherNetworks};
+ghost use Rattle.cap_class.specs.Taken.{Taken};
 ghost use Rattle.cap_talks.specs.declared.table.units.CountedUnit.{CountedUnit};
 
 /// What a conversation is: two units belong to the same one if they have the same protocol and the same two
@@ -16,4 +18,10 @@ pub fn talk_laws()
     ensures sums { (units : List CountedUnit) → SumLaw units }
     ensures lines { TalkLines }
     ensures limit { TalkLimit }
+{}
+
+/// A law: the packets of a run that are of each network other than IPv4 add up to those of the class `NotIpv4`, which
+/// the report prints. It does nothing when it runs.
+pub fn other_networks_law()
+    ensures { (xs : List Taken) → OtherNetworks xs }
 {}

@@ -11,6 +11,7 @@ ghost use Rattle.cap_talks.specs.inner.table.Props.{IsNumbered-prop};
 ghost use Rattle.cap_talks.specs.counts.FileLines.{counted_cuts, ended_from, ending_at};
 ghost use Rattle.cap_talks.specs.inner.table.Holding.{held_of};
 ghost use Rattle.cap_talks.specs.inner.table.Stepping.{TableStands, StepKeeps, TableSteps, AnswersAgain};
+ghost use Rattle.cap_talks.specs.inner.table.Others.{SeesNext};
 ghost use Rattle.cap_talks.specs.inner.table.Stepping.{endings_so_far};
 ghost use Rattle.cap_talks.specs.table.CountedUnits.{limit_refusal};
 ghost use Rattle.cap_talks.specs.table.TakenText.{text_of, text_of_in};
@@ -23,6 +24,7 @@ use crate::table::tallies::Tally;
 use crate::table::totals::Totals;
 use arrayvec::ArrayVec;
 use cap_bytes::{CutRest, Fault, Refusal, Rule, Sink, put_all};
+use cap_link::{OtherNetwork, other_network};
 use cap_merge::Merged;
 use cap_print::Form;
 use cap_source::{Ending, Meta, PacketFeed};
@@ -122,6 +124,19 @@ impl<F: PacketFeed> Table<F> {
             Err(ConversationsFault::Limit) => Err(Fault::Refused(talk_limit(packet.meta))),
             Err(ConversationsFault::Memory) => Err(Fault::Memory),
         }
+    }
+
+    /// The network of the packet that comes next, if one does and that isn't IPv4. It faults as `step` does, and takes
+    /// nothing: `step` takes that packet next.
+    pub(crate) fn peek_network(&mut self) -> Result<Option<OtherNetwork>, Fault>
+        ensures sees { SeesNext (table_of self.old) result (table_of self.new) }
+        ensures keeps { StepKeeps (table_of self.old) (table_of self.new) }
+    {
+        if !self.merged.peek()? {
+            return Ok(None);
+        }
+        let packet = self.merged.next_packet();
+        Ok(other_network(packet.meta.interface.link, packet.frame))
     }
 
     /// Writes the report over the packets that were taken. Until `step` has returned `Done` it doesn't say how the

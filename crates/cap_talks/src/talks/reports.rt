@@ -4,25 +4,35 @@ ghost use Rattle.std.specs.List.{list_all};
 ghost use Rattle.cap_bytes.specs.Device.{WriterKeeps, writer_of};
 ghost use Rattle.cap_bytes.specs.Printing.{is_write};
 ghost use Rattle.cap_merge.specs.Files.{clocked_run, endings_of_files};
-ghost use Rattle.cap_merge.specs.Parts.{merged_feed};
+ghost use Rattle.cap_merge.specs.Parts.{merged_feed, run_of};
 ghost use Rattle.cap_merge.specs.inner.View.{parts_of};
 ghost use Rattle.cap_source.specs.ReadFaults.{FailsOf};
 ghost use Rattle.cap_source.specs.Feed.{Feed};
 ghost use Rattle.cap_source.specs.inner.Walk.{Walks};
 ghost use Rattle.cap_source.specs.inner.Growing.{IfMemory, IsAtPacket};
-ghost use Rattle.cap_talks.specs.inner.talks.Reporting.{TakesAll, TellsReport, TookAll};
+ghost use Rattle.cap_talks.specs.inner.talks.Reporting.{LeavesReport, TakesAll, TellsReport, TookAll};
 ghost use Rattle.cap_talks.specs.talks.CutRests.{rests_by_place};
-ghost use Rattle.cap_talks.specs.talks.ReportText.{report_text, report_text_in, report_refusal};
+ghost use Rattle.cap_talks.specs.table.OtherNetworks.{counts_if, other_counts};
+ghost use Rattle.cap_talks.specs.talks.ReportText.{report_text, report_text_in, report_refusal, taken_after};
 ghost use Rattle.cap_talks.specs.inner.table.Stepping.{TableStands};
 ghost use Rattle.cap_talks.specs.inner.table.TableView.{table_of};
 ghost use Rattle.cap_talks.specs.talks.Telling.{Tells};
 
-use crate::table::{Step, Table};
+use crate::table::{NO_OTHERS, OtherCounts, Step, Table, with_network};
 use cap_bytes::{CutRest, Fault, Sink, Source, Tail};
 use cap_merge::{Merged, merge_files};
 use cap_print::Form;
 use cap_source::PacketFeed;
 use std::alloc::Global;
+
+/// What a report drops, or counts without a line.
+#[derive(Clone, Copy, Debug, PartialEq, Eq)]
+pub struct ReportLeft {
+    /// The rest of each file, by its place, that was cut and is dropped: the places that no file has are empty.
+    pub cuts: [Option<CutRest>; 32],
+    /// How many packets of the class `NotIpv4` there are of each network, if they were counted.
+    pub not_ipv4: Option<OtherCounts>,
+}
 
 // Takes all packets that come.
 fn take_all<F: PacketFeed>(table: &mut Table<F>) -> Result<(), Fault>
@@ -33,12 +43,52 @@ fn take_all<F: PacketFeed>(table: &mut Table<F>) -> Result<(), Fault>
     Ok(())
 }
 
-// Takes all packets of a table that has taken none, and writes the report over them in a form.
+// Takes all packets that come, and counts those of networks other than IPv4.
+fn take_and_count<F: PacketFeed>(table: &mut Table<F>) -> Result<OtherCounts, Fault>
+    requires stands { TableStands (table_of table.old) [] }
+    ensures takes { TakesAll (table_of table.old) result (table_of table.new) }
+    ensures walks { Walks (merged_feed (table_of table.old).parts) result (merged_feed (table_of table.new).parts) }
+    ensures counts { IfOk result (λ counts. IsTrue (merged_feed (table_of table.old).parts).told
+        → counts ≡ other_counts (taken_after [] (run_of (table_of table.old).parts))) }
+{
+    let mut counts = NO_OTHERS;
+    loop {
+        let network = table.peek_network()?;
+        match table.step()? {
+            Step::Took => counts = with_network(counts, network),
+            Step::Done => return Ok(counts),
+        }
+    }
+}
+
+// Takes all packets that come, and counts those of networks other than IPv4, if that is asked for.
+fn take_packets<F: PacketFeed>(
+    table: &mut Table<F>,
+    counts: bool,
+) -> Result<Option<OtherCounts>, Fault>
+    requires stands { TableStands (table_of table.old) [] }
+    ensures takes { TakesAll (table_of table.old) result (table_of table.new) }
+    ensures walks { Walks (merged_feed (table_of table.old).parts) result (merged_feed (table_of table.new).parts) }
+    ensures counts { IfOk result (λ others. IsTrue (merged_feed (table_of table.old).parts).told
+        → others ≡ counts_if counts (taken_after [] (run_of (table_of table.old).parts))) }
+{
+    if counts {
+        let others = take_and_count(table)?;
+        Ok(Some(others))
+    } else {
+        take_all(table)?;
+        Ok(None)
+    }
+}
+
+// Takes all packets of a table that has taken none, and writes the report over them in a form. Packets of networks
+// other than IPv4 are counted if that is asked for.
 fn write_table<F: PacketFeed, W: Sink>(
     table: &mut Table<F>,
     form: Form,
+    counts: bool,
     writer: &mut W,
-) -> Result<(), Fault>
+) -> Result<Option<OtherCounts>, Fault>
     requires stands { TableStands (table_of table.old) [] }
     ensures text { IsTrue (merged_feed (table_of table.old).parts).told → IsTrue (W.tells_held writer.old)
         → TellsReport form (length (table_of table.old).totals.files) (table_of table.old).parts (W.held writer.old)
@@ -47,49 +97,55 @@ fn write_table<F: PacketFeed, W: Sink>(
     ensures walks { Walks (merged_feed (table_of table.old).parts) result (merged_feed (table_of table.new).parts) }
     ensures memory { IfMemory result (IsAtPacket (merged_feed (table_of table.new).parts).known) }
     ensures took { OnOk result (TookAll (table_of table.old) (table_of table.new)) }
+    ensures counts { IfOk result (λ others. IsTrue (merged_feed (table_of table.old).parts).told
+        → others ≡ counts_if counts (taken_after [] (run_of (table_of table.old).parts))) }
 {
-    take_all(table)?;
-    table.write_in(form, writer)
+    let others = take_packets(table, counts)?;
+    table.write_in(form, writer)?;
+    Ok(others)
 }
 
-// Does the same, and returns which rests of the files were cut.
+// Does the same, and returns which rests of the files were cut, too.
 fn report_table<F: PacketFeed, W: Sink>(
     table: &mut Table<F>,
     form: Form,
+    counts: bool,
     writer: &mut W,
-) -> Result<[Option<CutRest>; 32], Fault>
+) -> Result<ReportLeft, Fault>
     requires stands { TableStands (table_of table.old) [] }
     ensures text { IsTrue (merged_feed (table_of table.old).parts).told → IsTrue (W.tells_held writer.old)
         → TellsReport form (length (table_of table.old).totals.files) (table_of table.old).parts (W.held writer.old)
         result (W.held writer.new) }
-    ensures cuts { IfOk result (λ cuts. IsTrue (merged_feed (table_of table.old).parts).told
-        → cuts ≡ rests_by_place (merged_feed (table_of table.old).parts).endings
-        (length (table_of table.old).totals.files)) }
+    ensures left { IfOk result (λ left. IsTrue (merged_feed (table_of table.old).parts).told
+        → LeavesReport counts (length (table_of table.old).totals.files) (table_of table.old).parts left) }
     ensures writer { WriterKeeps (writer_of W.Sink writer.old) (is_write result) (writer_of W.Sink writer.new) }
     ensures walks { Walks (merged_feed (table_of table.old).parts) result (merged_feed (table_of table.new).parts) }
 {
-    write_table(table, form, writer)?;
-    Ok(table.cuts())
+    let not_ipv4 = write_table(table, form, counts, writer)?;
+    Ok(ReportLeft {
+        cuts: table.cuts(),
+        not_ipv4,
+    })
 }
 
-// Writes the report over the packets of a merge, in a form, and returns which rests of its files were cut.
+// Writes the report over the packets of a merge, in a form, and returns what it leaves.
 fn report_merged<F: PacketFeed, W: Sink>(
     alloc: Global,
     merged: Merged<F>,
     form: Form,
+    counts: bool,
     writer: &mut W,
-) -> Result<[Option<CutRest>; 32], Fault>
+) -> Result<ReportLeft, Fault>
     ensures text { IsTrue (merged_feed (parts_of merged)).told → IsTrue (W.tells_held writer.old)
         → TellsReport form (length (merged_feed (parts_of merged)).files) (parts_of merged) (W.held writer.old) result
         (W.held writer.new) }
-    ensures cuts { IfOk result (λ cuts. IsTrue (merged_feed (parts_of merged)).told
-        → cuts ≡ rests_by_place (merged_feed (parts_of merged)).endings
-        (length (merged_feed (parts_of merged)).files)) }
+    ensures left { IfOk result (λ left. IsTrue (merged_feed (parts_of merged)).told
+        → LeavesReport counts (length (merged_feed (parts_of merged)).files) (parts_of merged) left) }
     ensures writer { WriterKeeps (writer_of W.Sink writer.old) (is_write result) (writer_of W.Sink writer.new) }
     ensures walks { (new : Feed) × Walks (merged_feed (parts_of merged)) result new }
 {
     let mut table = Table::new(alloc, merged);
-    report_table(&mut table, form, writer)
+    report_table(&mut table, form, counts, writer)
 }
 
 /// Writes the report over 1 to 32 capture files, each of either format: a line for each file, the totals, how
@@ -153,18 +209,20 @@ pub fn report_in<R: Source, W: Sink>(
     ensures writer { WriterKeeps (writer_of W.Sink writer.old) (is_write result) (writer_of W.Sink writer.new) }
     ensures read { FailsOf (map R.can_fail sources.items) result }
 {
-    report_and_cuts(alloc, sources, tail, form, writer).and(Ok(()))
+    report_and_count(alloc, sources, tail, form, false, writer).and(Ok(()))
 }
 
-/// Writes what `report_in` writes, and returns the faults that it returns, or the rest of each file, by its place, that
-/// was cut and is dropped: the places that no file has are empty.
-pub fn report_and_cuts<R: Source, W: Sink>(
+/// Writes what `report_in` writes, and returns the faults that it returns, or what is left: the rest of each file that
+/// was cut and is dropped, and, if `counts` asks for it, how many packets of the class `NotIpv4` there are of each
+/// network.
+pub fn report_and_count<R: Source, W: Sink>(
     alloc: Global,
     sources: Vec<R>,
     tail: Tail,
     form: Form,
+    counts: bool,
     writer: &mut W,
-) -> Result<[Option<CutRest>; 32], Fault>
+) -> Result<ReportLeft, Fault>
     requires some { 1 ≤ vec_len sources }
     requires most { vec_len sources ≤ 32 }
     ensures text { IsTrue (list_all R.tells_coming sources.items) → IsTrue (W.tells_held writer.old)
@@ -172,11 +230,13 @@ pub fn report_and_cuts<R: Source, W: Sink>(
         (clocked_run tail (map R.coming sources.items)))
         (report_refusal (clocked_run tail (map R.coming sources.items)))
         (W.held writer.old) result (W.held writer.new) }
-    ensures cuts { IfOk result (λ cuts. IsTrue (list_all R.tells_coming sources.items)
-        → cuts ≡ rests_by_place (endings_of_files tail (map R.coming sources.items)) (length sources.items)) }
+    ensures cuts { IfOk result (λ left. IsTrue (list_all R.tells_coming sources.items)
+        → left.cuts ≡ rests_by_place (endings_of_files tail (map R.coming sources.items)) (length sources.items)) }
+    ensures networks { IfOk result (λ left. IsTrue (list_all R.tells_coming sources.items)
+        → left.not_ipv4 ≡ counts_if counts (taken_after [] (clocked_run tail (map R.coming sources.items)))) }
     ensures writer { WriterKeeps (writer_of W.Sink writer.old) (is_write result) (writer_of W.Sink writer.new) }
     ensures read { FailsOf (map R.can_fail sources.items) result }
 {
     let merged = merge_files(alloc, sources, tail)?;
-    report_merged(alloc, merged, form, writer)
+    report_merged(alloc, merged, form, counts, writer)
 }

@@ -1,5 +1,5 @@
 -- What taking all packets of a run returns.
-use Rattle.std.specs.Prelude.{◌≡◌, ℕ, List, [], true, IsTrue, Some, None, Result, Ok, Err, ⊤, length}
+use Rattle.std.specs.Prelude.{◌≡◌, ℕ, List, [], Bool, true, IsTrue, Some, None, Result, Ok, Err, ⊤, length}
 use Rattle.cap_bytes.specs.declared.faults.Fault.{Fault}
 use Rattle.cap_bytes.specs.declared.faults.Fault.TheVariants.{Refused, Read, Write, Memory}
 use Rattle.cap_merge.specs.Parts.{Part, merged_feed, run_of}
@@ -9,6 +9,9 @@ use Rattle.cap_source.specs.declared.feeds.Head.TheVariants as heads
 use Rattle.cap_class.specs.Runs.{taken_after}
 use Rattle.cap_talks.specs.talks.ReportText.{refusal_after, report_text_in, report_refusal}
 use Rattle.cap_talks.specs.talks.Telling.{Tells}
+use Rattle.cap_talks.specs.table.OtherNetworks.{counts_if}
+use Rattle.cap_talks.specs.talks.CutRests.{rests_by_place}
+use Rattle.cap_talks.specs.declared.talks.reports.ReportLeft.{ReportLeft}
 use Rattle.cap_talks.specs.inner.table.Stepping.{TableState, TableStands}
 
 -- All packets of a run that isn't refused were taken, by a table that stood for none.
@@ -22,13 +25,19 @@ pub record TookAll (old new : TableState) : Type 0 where
   pub endings : IsTrue (merged_feed old.parts).told → (file : ℕ)
       → (merged_feed new.parts).endings file ≡ (merged_feed old.parts).endings file
 
-abbrev pub TakesAll : TableState → Result (Unit {0}) Fault → TableState → Type 0
+abbrev pub TakesAll : {A : Type 0} → TableState → Result A Fault → TableState → Type 0
 TakesAll old (Ok _) new = TookAll old new
 TakesAll old (Err (Refused refusal)) new =
     IsTrue (merged_feed old.parts).told → TableStands old [] → refusal_after [] (run_of old.parts) ≡ Some refusal
 TakesAll old (Err (Read file offset)) new = ⊤
 TakesAll old (Err Write) new = ⊥
 TakesAll old (Err Memory) new = IsAtPacket (merged_feed new.parts).known
+
+-- What is left of the run of that many files: the rests that were cut of them, and the packets of networks other than
+-- IPv4, if they are counted.
+pub record LeavesReport (counts : Bool) (count : ℕ) (ps : List Part) (left : ReportLeft) : Type 0 where
+  pub cuts : left.cuts ≡ rests_by_place (merged_feed ps).endings count
+  pub networks : left.not_ipv4 ≡ counts_if counts (taken_after [] (run_of ps))
 
 -- The report of the run of that many files is written, in a form.
 abbrev pub TellsReport : {A : Type 0} → Form → ℕ → List Part → List ℕ → Result A Fault → List ℕ → Type 0

@@ -11,12 +11,12 @@ returns-clause-text g c = λ t w.
     rw c.and.ensures
     (tells-and
     (report_text_in c.args.form (length c.args.sources.items) (endings_of_files c.args.tail files) run)
-    (report_refusal run) (g.W.Sink.held c.args.writer.now) (g.W.Sink.held c.report_and_cuts.new.writer)
-    c.report_and_cuts.result (c.report_and_cuts.ensures.text t w))
+    (report_refusal run) (g.W.Sink.held c.args.writer.now) (g.W.Sink.held c.report_and_count.new.writer)
+    c.report_and_count.result (c.report_and_count.ensures.text t w))
 
 pub returns-clause-writer : goal.returns-clause-writer
-returns-clause-writer g c = rw (c.and.ensures, is-write-and c.report_and_cuts.result) c.report_and_cuts.ensures.writer
+returns-clause-writer g c = rw (c.and.ensures, is-write-and c.report_and_count.result) c.report_and_count.ensures.writer
 
 pub returns-clause-read : goal.returns-clause-read
 returns-clause-read g c = rw c.and.ensures
-    (fails-and _ c.report_and_cuts.result c.report_and_cuts.ensures.read)
+    (fails-and _ c.report_and_count.result c.report_and_count.ensures.read)

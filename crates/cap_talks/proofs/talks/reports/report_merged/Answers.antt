@@ -4,7 +4,7 @@ use Rattle.cap_merge.specs.Parts.{Part, merged_feed}
 use Rattle.cap_merge.specs.inner.View.{parts_of}
 use Rattle.cap_talks.specs.inner.table.TableView.{table_of}
 use Rattle.cap_talks.specs.inner.talks.Reporting.{TellsReport}
-use Rattle.cap_talks.proofs.Headline.{report-cuts}
+use Rattle.cap_talks.proofs.Headline.{report-left}
 use Rattle.cap_talks.proofs.talks.reports.report_merged.Goals as goal
 
 pub returns-clause-text : goal.returns-clause-text
@@ -18,11 +18,11 @@ returns-clause-text g c = λ t w.
       e.parts i,
     )) (c.report_table.ensures.text (subst (λ q. IsTrue (merged_feed q).told) (sym e.parts) t) w)
 
-pub returns-clause-cuts : goal.returns-clause-cuts
-returns-clause-cuts g c =
+pub returns-clause-left : goal.returns-clause-left
+returns-clause-left g c =
     let e = c.new-table.ensures in
-    report-cuts c.report_table.result (table_of c.new-table.result).parts (parts_of c.args.merged) _ _ e.parts e.files
-    c.report_table.ensures.cuts
+    report-left c.args.counts c.report_table.result (table_of c.new-table.result).parts (parts_of c.args.merged) _ _ e.parts e.files
+    c.report_table.ensures.left
 
 pub returns-clause-walks : goal.returns-clause-walks
 returns-clause-walks g c =

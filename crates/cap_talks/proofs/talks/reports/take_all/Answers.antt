@@ -10,7 +10,7 @@ loop-init g c = Reporting-begin (table_of c.args.table.now)
 pub returns-in_err-step-clause-takes : goal.returns-in_err-step-clause-takes
 returns-in_err-step-clause-takes g c =
     let p = err_from_is_err_and c.from_residual.result c.from_residual.ensures.1 in
-    rw (p.1, p.2) (TakesAll-fault _ _ _ c.in_err-step.field-0.0 c.loop.invariant c.in_err-step.ensures.step)
+    rw (p.1, p.2) (TakesAll-fault (Unit {0}) _ _ _ c.in_err-step.field-0.0 c.loop.invariant c.in_err-step.ensures.step)
 
 pub returns-in_err-step-clause-walks : goal.returns-in_err-step-clause-walks
 returns-in_err-step-clause-walks g c = grind arith

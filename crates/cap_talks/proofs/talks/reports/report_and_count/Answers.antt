@@ -1,8 +1,8 @@
 use Rattle.cap_merge.proofs.Unread.{Fails-merged}
 use Rattle.cap_merge.specs.inner.Readers.{reader_of}
 use Rattle.cap_merge.specs.inner.View.{parts_of}
-use Rattle.cap_talks.proofs.Headline.{cuts-files, tells-files}
-use Rattle.cap_talks.proofs.talks.reports.report_and_cuts.Goals as goal
+use Rattle.cap_talks.proofs.Headline.{cuts-files, networks-files, tells-files}
+use Rattle.cap_talks.proofs.talks.reports.report_and_count.Goals as goal
 
 pub returns-clause-text : goal.returns-clause-text
 returns-clause-text g c = λ t w.
@@ -22,4 +22,10 @@ pub returns-clause-cuts : goal.returns-clause-cuts
 returns-clause-cuts g c =
     let reader = reader_of g.R.Source.tells_coming g.R.Device.can_fail g.R.Source.coming in
     cuts-files reader c.args.tail c.args.sources.items (parts_of c.in_ok-merged.merged) c.in_ok-merged.ensures.unread
-    c.report_merged.result c.report_merged.ensures.cuts
+    c.args.counts c.report_merged.result c.report_merged.ensures.left
+
+pub returns-clause-networks : goal.returns-clause-networks
+returns-clause-networks g c =
+    let reader = reader_of g.R.Source.tells_coming g.R.Device.can_fail g.R.Source.coming in
+    networks-files reader c.args.tail c.args.sources.items (parts_of c.in_ok-merged.merged)
+    c.in_ok-merged.ensures.unread c.args.counts c.report_merged.result c.report_merged.ensures.left
