@@ -44,6 +44,6 @@ unfolding digits number version header_length service total_length identificatio
     transport_of completes joined_data piece_of joined_pieces step open_groups_after typed raw network_of counted
     rows_of
     units_of_code stamp_cmp stamp_in stamp_plus time_cmp time_at floor_of remainder_of classes group_class completed_of
-    body_text_in files_part_in classify events_of group_unit unit_at counted_units is_tag tag_ended payload carried announced
-    announced_in
+    body_text_in files_part_in classify events_of group_unit unit_at counted_units is_tag tag_ended payload carried
+    announced announced_in
 tagged = record { classes_are = refl; done = refl }

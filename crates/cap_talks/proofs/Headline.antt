@@ -117,7 +117,8 @@ pub walks-written : (old new : Feed) (result : Result (Unit {0}) Fault) → Walk
 walks-written old new result walks fault = grind (arith, Lasts-goes)
 
 -- nothing is written as packets are taken
-pub writer-same : (A : Type 0) (w : Writer) (old new : TableState) (fault : Fault) → TakesAll {A = A} old (Err fault) new
+pub writer-same : (A : Type 0) (w : Writer) (old new : TableState) (fault : Fault)
+    → TakesAll {A = A} old (Err fault) new
     → WriterKeeps w (is_write {A = A} (Err fault)) w
 writer-same A w old new fault takes = grind arith
 

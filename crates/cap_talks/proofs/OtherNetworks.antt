@@ -1,5 +1,6 @@
 -- How many packets there are of each network other than IPv4.
-use Rattle.std.proofs.Common.{◌≡◌, ◌≤◌, ℕ, ◌+◌, Bool, false, List, [], ◌∷◌, length, Option, Some, None, refl, sym, ap, ◌∙◌, arith}
+use Rattle.std.proofs.Common.{◌≡◌, ◌≤◌, ℕ, ◌+◌, Bool, false, List, [], ◌∷◌, length, Option, Some, None, refl}
+use Rattle.std.proofs.Common.{sym, ap, ◌∙◌, arith}
 use Rattle.std.specs.Prelude.{is_some, if◌then◌else◌}
 use Rattle.std.specs.List.{find}
 use Rattle.std.specs.Option.{option_map_or}
@@ -106,7 +107,8 @@ networks-few (x ∷ xs) =
 -- one packet more
 pub networks-more : (x : Taken) (xs : List Taken) (network : Option OtherNetwork) → network ≡ other_network_at x
     → with_network network (other_counts xs) ≡ other_counts (x ∷ xs)
-networks-more x xs network is = ap (λ n. with_network n (other_counts xs)) is ∙ by (other_network_at x) (other_counts xs)
+networks-more x xs network is =
+    ap (λ n. with_network n (other_counts xs)) is ∙ by (other_network_at x) (other_counts xs)
   where
     by : (network : Option OtherNetwork) (n : _) → with_network network n
         ≡ record {

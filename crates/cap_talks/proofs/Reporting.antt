@@ -66,7 +66,8 @@ refusal-refused : (xs : List Taken) (clock : Option Stamp) (r : Refusal)
 unfolding refusal_after
 refusal-refused xs clock r = refl
 
-unfoldable pub more : (old mid new : TableState) → Reporting old mid → StepKeeps mid new → TableTakes mid new → Reporting old new
+unfoldable pub more : (old mid new : TableState) → Reporting old mid → StepKeeps mid new → TableTakes mid new
+    → Reporting old new
 more old mid new p k t = record {
   taken = t.item ∷ p.taken;
   went = record {

@@ -1,5 +1,5 @@
--- The networks other than IPv4 of the packets of a run, and how many packets there are of each (RFC 2464, 3; RFC 8200, 3;
--- RFC 826). Lists have the latest first.
+-- The networks other than IPv4 of the packets of a run, and how many packets there are of each (RFC 2464, 3; RFC 826;
+-- RFC 8200, 3). Lists have the latest first.
 use Rattle.std.specs.Prelude.{◌≡◌, ℕ, ◌+◌, ◌==◌, List, [], ◌∷◌, Bool, true, false, Option, Some, None, if◌then◌else◌}
 use Rattle.cap_link.specs.Links.{other_network_of}
 use Rattle.cap_link.specs.declared.networks.OtherNetwork.{OtherNetwork}

@@ -23,7 +23,7 @@ pub const NO_OTHERS: OtherCounts = OtherCounts {
     other: 0,
 };
 
-/// The counts with one packet more, of that network; the same counts if it is of IPv4, or of a network that isn't known.
+/// The counts with one packet more, of that network; the same counts if it is IPv4, or its network isn't known.
 pub(crate) fn with_network(counts: OtherCounts, network: Option<OtherNetwork>) -> OtherCounts
     requires few { sum_of_networks counts + 1 < 2 ^ 64 }
     ensures { result ≡ with_network network counts }

@@ -169,8 +169,8 @@ impl<F: PacketFeed> Table<F> {
         self.tally.put_lines(form, writer)
     }
 
-    /// The rest of each file, by its place, that was cut and is dropped, once `step` has returned `Done`: none before. The
-    /// places that no file has are empty.
+    /// The rest of each file, by its place, that was cut and is dropped, once `step` has returned `Done`: none before.
+    /// The places that no file has are empty.
     pub(crate) fn cuts(&self) -> [Option<CutRest>; 32]
         ensures { result ≡ counted_cuts (ended_from (endings_so_far (table_of self.now)) 1
             (table_of self.now).totals.files) }

@@ -21,8 +21,8 @@ returns-clause-text g c = λ t w.
 pub returns-clause-left : goal.returns-clause-left
 returns-clause-left g c =
     let e = c.new-table.ensures in
-    report-left c.args.counts c.report_table.result (table_of c.new-table.result).parts (parts_of c.args.merged) _ _ e.parts e.files
-    c.report_table.ensures.left
+    report-left c.args.counts c.report_table.result (table_of c.new-table.result).parts (parts_of c.args.merged) _ _
+    e.parts e.files c.report_table.ensures.left
 
 pub returns-clause-walks : goal.returns-clause-walks
 returns-clause-walks g c =
