@@ -15,7 +15,8 @@ use Rattle.cap_talks.specs.inner.table.Stepping.{AnswersAgain, StepKeeps, TableE
 use Rattle.cap_talks.specs.inner.table.Stepping.{TableSteps, TableTakes, next_taken}
 use Rattle.cap_talks.specs.inner.talks.Reporting.{TakesAll, TookAll}
 use Rattle.cap_talks.specs.table.OtherNetworks.{other_counts, other_network_at, sum_of_networks}
-use Rattle.cap_talks.specs.talks.ReportText.{refusal_after, taken_after}
+use Rattle.cap_class.specs.Runs.{taken_after}
+use Rattle.cap_talks.specs.talks.ReportText.{refusal_after}
 use Rattle.cap_talks.specs.declared.table.others.OtherCounts.{OtherCounts}
 use Rattle.cap_talks.specs.declared.table.tables.Step.{Step}
 use Rattle.cap_talks.specs.declared.table.tables.Step.TheVariants as steps

@@ -19,8 +19,9 @@ use Rattle.cap_link.specs.declared.networks.OtherNetwork.{OtherNetwork}
 use Rattle.cap_link.specs.declared.networks.OtherNetwork.TheVariants.{Ipv6, Arp, Other}
 use Rattle.cap_class.specs.Taken.{Taken, classify, classify_at, classify_by, classify_in, stamped_of}
 use Rattle.cap_class.specs.declared.classes.Class.TheVariants as class
-use Rattle.cap_talks.specs.table.Classes.{class_by, class_in, class_of, classes, classes_in, group_class, groups_of}
-use Rattle.cap_talks.specs.table.Classes.{has_place, is_class, joined_transport, times}
+use Rattle.cap_class.specs.Classes.{class_by, class_in, class_of, classes, classes_in, group_class, groups_of}
+use Rattle.cap_class.specs.Counting.{is_class, times}
+use Rattle.cap_class.specs.Classes.{has_place, joined_transport}
 use Rattle.cap_talks.specs.table.OtherNetworks.{OtherNetworks, is_network, other_counts, other_network_at}
 use Rattle.cap_talks.specs.table.OtherNetworks.{packets_of_network, sum_of_networks}
 use Rattle.cap_talks.specs.inner.table.Others.{with_network}

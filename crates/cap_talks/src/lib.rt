@@ -6,8 +6,8 @@ mod table;
 mod talks;
 
 pub use crate::table::{
-    CountedUnit, Description, Endpoint, Held, NO_OTHERS, OtherCounts, Step, Table, TalkKey, TalkRow,
-    TimedFrame, describe, other_networks_law, put_description, talk_laws,
+    CountedUnit, Description, Endpoint, Held, NO_OTHERS, OtherCounts, Step, Table, TalkKey,
+    TalkRow, TimedFrame, describe, other_networks_law, put_description, talk_laws,
 };
 pub use crate::talks::{
     ReportLeft, file_lines, file_lines_and_cuts, file_lines_in, report, report_and_count, report_in,

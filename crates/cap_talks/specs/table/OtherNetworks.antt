@@ -5,7 +5,8 @@ use Rattle.cap_link.specs.Links.{other_network_of}
 use Rattle.cap_link.specs.declared.networks.OtherNetwork.{OtherNetwork}
 use Rattle.cap_link.specs.declared.networks.OtherNetwork.TheVariants.{Ipv6, Arp, Other}
 use Rattle.cap_class.specs.Taken.{Taken}
-use Rattle.cap_talks.specs.table.Classes.{classes, counts_of}
+use Rattle.cap_class.specs.Counting.{counts_of}
+use Rattle.cap_class.specs.Classes.{classes}
 use Rattle.cap_talks.specs.declared.table.others.OtherCounts.{OtherCounts}
 
 -- the network of a packet, if that is one other than IPv4
