@@ -472,6 +472,18 @@ counted 'a cut end, digested' 'cut: file 1 offset 24, 19 bytes dropped' digest -
 counted 'a cut end, listed' 'cut: file 1 offset 24, 19 bytes dropped' list --explain --allow-cut "$work/cut.pcap"
 counted 'a cut end, as an object' '{"type":"cut","file":1,"offset":24,"bytes":19,"path":"'"$work/cut.pcap"'"}' list --json --explain --allow-cut "$work/cut.pcap"
 counted 'a cut end that no one asks for' '' list --allow-cut "$work/cut.pcap"
+run info --explain --allow-cut "$work/cut.pcap"; check 'a cut end, counted' 0 '*' 'cut: file 1 offset 24, 19 bytes dropped'
+run report --explain --allow-cut "$one" "$work/cut.pcap"; check 'a cut end, reported' 0 '*' 'cut: file 2 offset 24, 19 bytes dropped'
+run info --json --explain --allow-cut "$work/cut.pcap"; check 'a cut end, counted, as an object' 0 '*' '{"type":"cut","file":1,"offset":24,"bytes":19,"path":"'"$work/cut.pcap"'"}'
+run report --allow-cut "$work/cut.pcap"; check 'a cut end of a report that no one asks for' 0 '*' ''
+# Ethernet frames of 14 bytes, of the types of IPv6, ARP and ARP again, and of a length
+printf '\xd4\xc3\xb2\xa1\x02\0\x04\0\0\0\0\0\0\0\0\0\0\0\x04\0\x01\0\0\0' > "$work/networks.pcap"
+for kind in '\x86\xdd' '\x08\x06' '\x08\x06' '\0\x26'; do
+    printf '\x01\0\0\0\0\0\0\0\x0e\0\0\0\x0e\0\0\0\x02\0\0\0\0\x02\x02\0\0\0\0\x01'"$kind" >> "$work/networks.pcap"
+done
+run report --explain "$work/networks.pcap"; check 'networks other than IPv4' 0 '*' 'not-ipv4: ipv6 1, arp 2, other 1'
+run report --json --explain "$work/networks.pcap"; check 'networks other than IPv4, as an object' 0 '*' '{"type":"not_ipv4","ipv6":1,"arp":2,"other":1}'
+run report "$work/networks.pcap"; check 'networks that no one asks for' 0 '*' ''
 run merge --explain -o - "$many"; check 'blocks, on standard output' 0 '*' 'not carried on: 1 block of secrets, 1 of names, 6 of other kinds'
 run merge --explain -o /dev/full "$many"; check 'blocks and a full disk' 1 '' 'fault: write
   /dev/full: No space left on device (os error 28)'

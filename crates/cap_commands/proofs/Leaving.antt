@@ -2,13 +2,15 @@
 use Rattle.std.proofs.Common.{◌≡◌, ◌+◌, ◌<◌, ℕ, zero, suc, List, [], map, length, Bool, IsTrue, Some, Result}
 use Rattle.std.proofs.Common.{◌-◌, ◌++◌, ◌∷◌, take, drop, slice_set, Option, None, take-append-drop}
 use Rattle.std.proofs.Common.{Ok, Err, OnOk, refl, sym, ap, ◌∙◌, subst, arith}
-use Rattle.std.specs.Prelude.{is_some, replicate}
+use Rattle.std.specs.Prelude.{IfOk, is_some, replicate}
 use Rattle.std.specs.List.{list_all, range_with_len}
 use Rattle.cap_bytes.specs.Printing.{Prints}
 use Rattle.cap_bytes.specs.declared.faults.Fault.{Fault}
 use Rattle.cap_bytes.specs.declared.faults.Tail.{Tail}
 use Rattle.cap_bytes.specs.declared.numbers.Order.{Order}
 use Rattle.cap_bytes.specs.declared.stops.CutRest.{CutRest}
+use Rattle.cap_line.specs.declared.jobs.Job.{Job}
+use Rattle.cap_line.specs.declared.jobs.Task.TheVariants as tasks
 use Rattle.cap_merge.proofs.Unread.{told-readers, bytes-readers}
 use Rattle.cap_merge.specs.Files.{clocked_run, endings_of_files}
 use Rattle.cap_merge.specs.Parts.{Part, merged_feed, run_of}
@@ -26,11 +28,18 @@ use Rattle.std.proofs.lemmas.List.FromFn.{length-range_with_len}
 use Rattle.cap_commands.specs.Converted.{convert_text, convert_refusal}
 use Rattle.cap_commands.specs.inner.FileText.{written_file_text, file_refusal}
 use Rattle.cap_class.specs.Runs.{taken_after}
+use Rattle.cap_talks.specs.declared.table.others.OtherCounts.{OtherCounts}
+use Rattle.cap_talks.specs.declared.talks.reports.ReportLeft.{ReportLeft}
 use Rattle.cap_write.specs.LeftOut.{CountsLeftOut}
 use Rattle.cap_write.specs.declared.left_out.LeftOut.{LeftOut}
-use Rattle.cap_commands.specs.Left.{left_of_file, sum_of_files, skipped_in, secret_blocks_in, name_blocks_in}
-use Rattle.cap_commands.specs.Left.{named_in, rests_in}
+use Rattle.cap_commands.specs.Left.{left_of_file, left_of_report, sum_of_files, skipped_in, secret_blocks_in}
+use Rattle.cap_commands.specs.Left.{name_blocks_in, named_in}
+use Rattle.cap_talks.specs.table.OtherNetworks.{counts_if}
+use Rattle.cap_talks.specs.talks.CutRests.{rests_by_place, rests_in}
+use Rattle.cap_commands.specs.JobLeft.{JobLeaves, LeavesTask}
+use Rattle.cap_commands.specs.Jobs.{reported_by, tail_of}
 use Rattle.cap_commands.specs.Left.{LeavesOut, LeavesPackets}
+use Rattle.cap_commands.specs.declared.jobs.Done.{Done}
 use Rattle.cap_commands.specs.declared.left.DroppedInfo.{DroppedInfo}
 
 -- a walk that is done has come to the end
@@ -88,6 +97,7 @@ Drops-same f g n m left is same d = record {
   named = d.named ∙ (ap (named_in f) is ∙ sum_in-same (λ end. end.named) f g m same);
   cuts = d.cuts ∙ (ap (λ k. rests_in f k ++ replicate (32 - k) None) is
       ∙ ap (λ l. l ++ replicate (32 - m) None) (rests_in-same f g m same));
+  networks = d.networks;
 }
 
 -- a file of that number is one of them
@@ -154,3 +164,32 @@ pub Prints-file : (format : Format) (order : Order) (tail : Tail) (bytes : List 
     → Prints (convert_text format order tail bytes) (convert_refusal format tail bytes) held result new
 Prints-file Pcap order tail bytes number first items held new result n f i p = rw (n, f, i) at p
 Prints-file Pcapng order tail bytes number first items held new result n f i p = rw (n, f, i) at p
+
+-- of a report
+pub report-leaves : (left : ReportLeft) (cuts : List (Option CutRest)) (others : Option OtherCounts) → left.cuts ≡ cuts
+    → left.not_ipv4 ≡ others → left_of_report left ≡ left_of_report (record { cuts = cuts; not_ipv4 = others })
+report-leaves left cuts others is are = λ i. left_of_report (record { cuts = is i; not_ipv4 = are i })
+
+report-done : (answer : Result ReportLeft Fault) (T : Type 0) (cuts : List (Option CutRest)) (others : Option OtherCounts)
+    → IfOk answer (λ left. T → left.cuts ≡ cuts) → IfOk answer (λ left. T → left.not_ipv4 ≡ others)
+    → IfOk (reported_by answer)
+    (λ done. T → done.left ≡ left_of_report (record { cuts = cuts; not_ipv4 = others }))
+report-done (Ok left) T cuts others c n = λ t. report-leaves left cuts others (c t) (n t)
+report-done (Err fault) T cuts others c n = tt
+
+-- of a job that is a report
+pub report-job : (job : Job) (tail : Tail) (files : List (List ℕ)) (counts : Bool) (T : Type 0)
+    (answer : Result ReportLeft Fault) (count : ℕ) (result : Result Done Fault)
+    → job.task ≡ tasks.Report → tail ≡ tail_of job.allow_cut → count ≡ length files → result ≡ reported_by answer
+    → IfOk answer (λ left. T → left.cuts ≡ rests_by_place (endings_of_files tail files) count)
+    → IfOk answer (λ left. T → left.not_ipv4 ≡ counts_if counts (taken_after [] (clocked_run tail files)))
+    → IfOk result (λ done. T → JobLeaves job files counts done.left)
+report-job job tail files counts T answer count result task is many by c n =
+    subst (λ r. IfOk r (λ done. T → JobLeaves job files counts done.left)) (sym by)
+    (subst (λ k. IfOk (reported_by answer)
+    (λ done. T → LeavesTask k job.ignored (tail_of job.allow_cut) files counts done.left)) (sym task)
+    (subst (λ l. IfOk (reported_by answer)
+    (λ done. T → LeavesTask tasks.Report job.ignored l files counts done.left)) is
+    (report-done answer T (rests_by_place (endings_of_files tail files) (length files))
+    (counts_if counts (taken_after [] (clocked_run tail files)))
+    (subst (λ m. IfOk answer (λ left. T → left.cuts ≡ rests_by_place (endings_of_files tail files) m)) many c) n)))

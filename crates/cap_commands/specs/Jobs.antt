@@ -31,7 +31,8 @@ use Rattle.cap_commands.specs.DiffText.{is_same}
 use Rattle.cap_commands.specs.JoinText.{join_refusal_in, join_text_in}
 use Rattle.cap_commands.specs.ListText.{list_refusal}
 use Rattle.cap_commands.specs.MergeText.{merge_refusal_in, merge_text_in}
-use Rattle.cap_commands.specs.Left.{both_cut, done_of, nothing_left, only_cut}
+use Rattle.cap_commands.specs.Left.{both_cut, done_of, left_of_report, nothing_left, only_cut, only_cuts}
+use Rattle.cap_talks.specs.declared.talks.reports.ReportLeft.{ReportLeft}
 use Rattle.cap_commands.specs.declared.diff.CutEnds.{CutEnds}
 use Rattle.cap_commands.specs.declared.diff.DiffEnd.{DiffEnd}
 use Rattle.cap_commands.specs.declared.diff.DiffOptions.{DiffOptions}
@@ -171,10 +172,15 @@ abbrev pub finding_in : Result Done Fault → Result Finding Fault
 finding_in (Ok done) = Ok done.finding
 finding_in (Err fault) = Err fault
 
--- what a job does that prints: it finds nothing, and leaves nothing out
-abbrev pub printed_by : Result Unit Fault → Result Done Fault
-printed_by (Ok done) = Ok (record { finding = Nothing; left = nothing_left })
+-- what a job does that prints files which ended in those rests, by their places, where they were cut
+abbrev pub printed_by : Result (List (Option CutRest)) Fault → Result Done Fault
+printed_by (Ok cuts) = Ok (record { finding = Nothing; left = only_cuts cuts })
 printed_by (Err fault) = Err fault
+
+-- what a job does that prints a report, and leaves that
+abbrev pub reported_by : Result ReportLeft Fault → Result Done Fault
+reported_by (Ok left) = Ok (record { finding = Nothing; left = left_of_report left })
+reported_by (Err fault) = Err fault
 
 -- what a job does that prints a file which ended in that rest, if it was cut
 abbrev pub listed_by : Result (Option CutRest) Fault → Result Done Fault

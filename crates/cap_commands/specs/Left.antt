@@ -1,5 +1,5 @@
 -- What a command that writes a capture leaves out, or leaves as it was.
-use Rattle.std.specs.Prelude.{◌≡◌, ℕ, zero, suc, ◌+◌, ◌-◌, List, [], ◌∷◌, ◌++◌, replicate, Option, None, Bool}
+use Rattle.std.specs.Prelude.{◌≡◌, ℕ, zero, suc, ◌+◌, List, [], ◌∷◌, replicate, Option, None, Bool}
 use Rattle.std.specs.Prelude.{is_some, Result, Ok, Err}
 use Rattle.cap_bytes.specs.declared.faults.Fault.{Fault}
 use Rattle.cap_bytes.specs.declared.stops.CutRest.{CutRest}
@@ -7,6 +7,8 @@ use Rattle.cap_merge.specs.Run.{Clocked}
 use Rattle.cap_source.specs.Feed.{Item}
 use Rattle.cap_source.specs.declared.feeds.FileEnd.{FileEnd}
 use Rattle.cap_class.specs.Runs.{taken_after}
+use Rattle.cap_talks.specs.talks.CutRests.{rests_by_place}
+use Rattle.cap_talks.specs.declared.talks.reports.ReportLeft.{ReportLeft}
 use Rattle.cap_write.specs.LeftOut.{CountsLeftOut}
 use Rattle.cap_commands.specs.declared.diff.CutEnds.{CutEnds}
 use Rattle.cap_commands.specs.declared.left.DroppedInfo.{DroppedInfo}
@@ -27,11 +29,20 @@ nothing_left =
       ran_back = 0;
       cuts = replicate 32 None;
       left_out = None;
+      not_ipv4 = None;
     }
+
+-- the rests of files that were cut, at 32 places
+abbrev pub only_cuts : List (Option CutRest) → DroppedInfo
+only_cuts cuts = record nothing_left { cuts = cuts }
 
 -- the rest of the only file, if it was cut
 abbrev pub only_cut : Option CutRest → DroppedInfo
-only_cut cut = record nothing_left { cuts = cut ∷ replicate 31 None }
+only_cut cut = only_cuts (cut ∷ replicate 31 None)
+
+-- what a report leaves
+abbrev pub left_of_report : ReportLeft → DroppedInfo
+left_of_report left = record (only_cuts left.cuts) { not_ipv4 = left.not_ipv4 }
 
 -- the rests of two files that are compared, if they were cut
 abbrev pub both_cut : CutEnds → DroppedInfo
@@ -67,19 +78,15 @@ name_blocks_in endings count = sum_of_files (λ end. end.kinds.names) endings co
 abbrev pub named_in : (ℕ → FileEnd) → ℕ → ℕ
 named_in endings count = sum_of_files (λ end. end.named) endings count
 
--- the rests of these that were cut, by their places
-abbrev pub rests_in : (ℕ → FileEnd) → ℕ → List (Option CutRest)
-rests_in endings zero = []
-rests_in endings (suc file) = rests_in endings file ++ (endings (suc file)).ending.cut ∷ []
-
 -- what isn't carried on of the first files, so many of them, by how each ends; the 32 places of cut rests that no file
--- has are empty
+-- has are empty, and packets of networks other than IPv4 aren't counted
 pub record LeavesOut (endings : ℕ → FileEnd) (count : ℕ) (left : DroppedInfo) : Type 0 where
   pub skipped : left.skipped ≡ skipped_in endings count
   pub secrets : left.secret_blocks ≡ secret_blocks_in endings count
   pub names : left.name_blocks ≡ name_blocks_in endings count
   pub named : left.named ≡ named_in endings count
-  pub cuts : left.cuts ≡ rests_in endings count ++ replicate (32 - count) None
+  pub cuts : left.cuts ≡ rests_by_place endings count
+  pub networks : left.not_ipv4 ≡ None
 
 -- the packets of a run that a join leaves out, by their class in a report of the run, if they are counted
 pub record LeavesPackets (counts : Bool) (run : List (Clocked Item)) (left : DroppedInfo) : Type 0 where

@@ -62,6 +62,7 @@ fn dropped_of<F: PacketFeed>(feed: &F, files: u32) -> DroppedInfo
         ran_back: 0,
         cuts,
         left_out: None,
+        not_ipv4: None,
     }
 }
 
@@ -83,6 +84,7 @@ fn left_of_merged<F: PacketFeed>(merged: &Merged<F>, left_out: Option<LeftOut>) 
         ran_back: u128::from(merged.backward()),
         cuts,
         left_out,
+        not_ipv4: None,
     }
 }
 

@@ -5,7 +5,7 @@ ghost use Rattle.std.specs.List.{list_all};
 ghost use Rattle.cap_line.specs.Jobs.{IsWholeJob};
 ghost use Rattle.cap_commands.specs.Jobs.{Does, Finds, compared_by, counts_line, finding_by, form_by, format_in, found_in};
 ghost use Rattle.cap_commands.specs.Jobs.{finding_in, found_by, line_by, listed_by, opened_files, printed_by, shown_by};
-ghost use Rattle.cap_commands.specs.Jobs.{tail_of, whole_by, whole_finding, written_by};
+ghost use Rattle.cap_commands.specs.Jobs.{reported_by, tail_of, whole_by, whole_finding, written_by};
 ghost use Rattle.cap_commands.specs.JobLeft.{JobLeaves};
 ghost use Rattle.cap_commands.specs.Left.{done_of};
 ghost use Rattle.cap_commands.specs.ListText.{list_refusal};
@@ -16,14 +16,14 @@ ghost use Rattle.cap_source.specs.ReadFaults.{FailsOf};
 use crate::blocks::blocks_in;
 use crate::counting::{convert_and_count, join_and_count, merge_and_count};
 use crate::diff::{DiffEnd, DiffOptions, diff_in};
-use crate::left::{DroppedInfo, NOTHING_LEFT, both_cut, only_cut};
+use crate::left::{DroppedInfo, NOTHING_LEFT, both_cut, left_of_report, only_cut, only_cuts};
 use crate::list::list_in;
 use cap_bytes::{CutRest, Fault, Sink, Source, Tail};
 use cap_check::{CheckLine, check_all_to};
 use cap_line::{Job, Task};
 use cap_print::Form;
 use cap_source::Format;
-use cap_talks::{file_lines_in, report_in};
+use cap_talks::{ReportLeft, file_lines_and_cuts, report_and_count};
 use std::alloc::Global;
 
 /// What a job that was done found, by which its run ends.
@@ -164,14 +164,27 @@ fn format_of(to: Option<Format>) -> Format
     to.unwrap_or(Format::Pcapng)
 }
 
-// What a job has done that prints, finds nothing and leaves nothing out.
-fn printed(answer: Result<(), Fault>) -> Result<Done, Fault>
+// What a job has done that printed files which ended in those rests, by their places, where they were cut.
+fn printed(answer: Result<[Option<CutRest>; 32], Fault>) -> Result<Done, Fault>
     ensures { result ≡ printed_by answer }
 {
     match answer {
-        Ok(()) => Ok(Done {
+        Ok(cuts) => Ok(Done {
             finding: Finding::Nothing,
-            left: NOTHING_LEFT,
+            left: only_cuts(cuts),
+        }),
+        Err(fault) => Err(fault),
+    }
+}
+
+// What a job has done that printed a report, and left that.
+fn reported(answer: Result<ReportLeft, Fault>) -> Result<Done, Fault>
+    ensures { result ≡ reported_by answer }
+{
+    match answer {
+        Ok(left) => Ok(Done {
+            finding: Finding::Nothing,
+            left: left_of_report(left),
         }),
         Err(fault) => Err(fault),
     }
@@ -233,8 +246,9 @@ fn written(answer: Result<DroppedInfo, Fault>) -> Result<Done, Fault>
 /// names as its output: each task is the command of its name, with the tail, the form, the order and the format that
 /// the job has. It returns what it found: `Difference` exactly if it is `diff` of captures that differ, `NotWhole`
 /// exactly if it is `digest` or `check` of files that aren't all whole. And it returns what it left out, as
-/// `convert_and_count`, `merge_and_count` and `join_and_count` say: nothing of other tasks. Packets that run backward
-/// are counted if `counts` says so, and those that `join` leaves out, by their class. `info`, `report` and `diff` write
+/// `convert_and_count`, `merge_and_count` and `join_and_count` say, and the rests of cut files that `list`, `blocks`,
+/// `info` and `report` drop: nothing of other tasks. Packets that run backward are counted if `counts` says so, and
+/// those that `join` leaves out, by their class. `info`, `report` and `diff` write
 /// all of their text, or nothing if they return `Refused`, `Read` or `Memory`; `digest` and `check` have a line for a
 /// file that is refused or of which a read fails, and return neither; the others write up to the first refusal, which
 /// they return, and a prefix of their text if they return another fault. It returns `Read` if a read fails, `Write` if
@@ -286,8 +300,11 @@ pub fn job_to<R: Source, W: Sink>(
             let which = counts_line(job.digests);
             found(check(alloc, sources, tail, which, form, writer))
         }
-        Task::Info => printed(file_lines_in(alloc, sources, tail, form, writer)),
-        Task::Report => printed(report_in(alloc, sources, tail, form, writer)),
+        Task::Info => printed(file_lines_and_cuts(alloc, sources, tail, form, writer)),
+        Task::Report => {
+            let answer = report_and_count(alloc, sources, tail, form, counts, writer);
+            reported(answer)
+        }
         Task::Convert => {
             let format = job.to.unwrap();
             written(convert_and_count(alloc, only(sources), tail, job.order, format, writer))

@@ -2,10 +2,11 @@
 ghost use Rattle.std.specs.Prelude.{◌≡◌};
 ghost use Rattle.std.specs.Prelude.{None, replicate};
 ghost use Rattle.cap_bytes.specs.Printing.{is_write};
-ghost use Rattle.cap_commands.specs.Left.{both_cut, done_of, nothing_left, only_cut};
+ghost use Rattle.cap_commands.specs.Left.{both_cut, done_of, left_of_report, nothing_left, only_cut, only_cuts};
 
 use crate::diff::CutEnds;
 use cap_bytes::{CutRest, Fault};
+use cap_talks::{OtherCounts, ReportLeft};
 use cap_write::LeftOut;
 
 /// What a command that writes a capture leaves out, or leaves as it was.
@@ -25,6 +26,8 @@ pub struct DroppedInfo {
     pub cuts: [Option<CutRest>; 32],
     /// How many packets `join` leaves out, by their class in a report of the files, if they were counted.
     pub left_out: Option<LeftOut>,
+    /// How many packets that `report` counts as `not-ipv4` there are of each network, if they were counted.
+    pub not_ipv4: Option<OtherCounts>,
 }
 
 /// Nothing was left out, and nothing ran back.
@@ -36,14 +39,13 @@ pub const NOTHING_LEFT: DroppedInfo = DroppedInfo {
     ran_back: 0,
     cuts: [None; 32],
     left_out: None,
+    not_ipv4: None,
 };
 
-/// What is left of the only file that is read, and that ended in that rest, if it was cut.
-pub(crate) fn only_cut(cut: Option<CutRest>) -> DroppedInfo
-    ensures { result ≡ only_cut cut }
+/// What is left of files that are read, and that ended in those rests, by their places, where they were cut.
+pub(crate) fn only_cuts(cuts: [Option<CutRest>; 32]) -> DroppedInfo
+    ensures { result ≡ only_cuts cuts }
 {
-    let mut cuts: [Option<CutRest>; 32] = [None; 32];
-    cuts[0] = cut;
     DroppedInfo {
         skipped: 0,
         secret_blocks: 0,
@@ -52,7 +54,34 @@ pub(crate) fn only_cut(cut: Option<CutRest>) -> DroppedInfo
         ran_back: 0,
         cuts,
         left_out: None,
+        not_ipv4: None,
     }
+}
+
+/// What a report leaves.
+pub(crate) fn left_of_report(left: ReportLeft) -> DroppedInfo
+    ensures { result ≡ left_of_report left }
+{
+    let cuts = left.cuts;
+    DroppedInfo {
+        skipped: 0,
+        secret_blocks: 0,
+        name_blocks: 0,
+        named: 0,
+        ran_back: 0,
+        cuts,
+        left_out: None,
+        not_ipv4: left.not_ipv4,
+    }
+}
+
+/// What is left of the only file that is read, and that ended in that rest, if it was cut.
+pub(crate) fn only_cut(cut: Option<CutRest>) -> DroppedInfo
+    ensures { result ≡ only_cut cut }
+{
+    let mut cuts: [Option<CutRest>; 32] = [None; 32];
+    cuts[0] = cut;
+    only_cuts(cuts)
 }
 
 /// What is left of the two files that are compared, and that ended in those rests, if they were cut.

@@ -4,7 +4,7 @@ use crate::frames::{
     CAPTURED_FRAME, COOKED_2_FRAME, COOKED_2_TAGGED_FRAME, COOKED_FRAME, FRAGMENT, IPV6_FRAME,
     LENGTH_FRAME, PACKET, TAG_FRAME, TAGGED_FRAME,
 };
-use cap_link::{Network, network, tags_law};
+use cap_link::{Network, OtherNetwork, network, other_network, tags_law};
 use std::process::Abort;
 
 // A link type, a frame, its original length, how many of its bytes come before the IPv4 packet, and the packet's
@@ -64,5 +64,44 @@ fn carries_ipv4_or_none(rt: HostRuntime) {
     }
     for &(link, frame, captured, original, class) in &REFUSED {
         carries_none(&rt, link, frame.get(..captured), original, class);
+    }
+}
+
+// An Ethernet header of the type of ARP, and the same behind a C-VLAN tag.
+const ARP_FRAME: [u8; 14] = [2, 0, 0, 0, 0, 2, 2, 0, 0, 0, 0, 1, 0x08, 0x06];
+
+const TAGGED_ARP_FRAME: [u8; 18] = [
+    2, 0, 0, 0, 0, 2, 2, 0, 0, 0, 0, 1, 0x81, 0, 0, 0x64, 0x08, 0x06,
+];
+
+// A LINUX_SLL header of the type of IPv6, and a LINUX_SLL2 header of that of ARP.
+const COOKED_IPV6_FRAME: [u8; 16] = [0, 0, 0, 1, 0, 6, 2, 0, 0, 0, 0, 1, 0, 0, 0x86, 0xdd];
+
+const COOKED_2_ARP_FRAME: [u8; 20] = [
+    0x08, 0x06, 0, 0, 0, 0, 0, 1, 0, 1, 0, 6, 2, 0, 0, 0, 0, 1, 0, 0,
+];
+
+// A link type, a frame, and its network if that is one other than IPv4 (RFC 2464, 3; RFC 826; RFC 8200, 3).
+const NETWORKS: [(u16, &[u8], Option<OtherNetwork>); 14] = [
+    (1, &IPV6_FRAME, Some(OtherNetwork::Ipv6)),
+    (1, &ARP_FRAME, Some(OtherNetwork::Arp)),
+    (1, &TAGGED_ARP_FRAME, Some(OtherNetwork::Arp)),
+    (1, &LENGTH_FRAME, Some(OtherNetwork::Other)),
+    (1, &TAGGED_FRAME, None),
+    (1, &TAG_FRAME, None),
+    (113, &COOKED_IPV6_FRAME, Some(OtherNetwork::Ipv6)),
+    (276, &COOKED_2_ARP_FRAME, Some(OtherNetwork::Arp)),
+    (101, &[0x60], Some(OtherNetwork::Ipv6)),
+    (101, &[0x50], Some(OtherNetwork::Other)),
+    (101, &PACKET, None),
+    (101, &[], None),
+    (228, &[0x60], None),
+    (147, &ARP_FRAME, None),
+];
+
+#[test]
+fn networks_other_than_ipv4(rt: HostRuntime) {
+    for &(link, frame, wanted) in &NETWORKS {
+        same!(&rt; other_network(link, frame), wanted, link);
     }
 }

@@ -22,7 +22,8 @@ short, if it ends in its link header; cut, if too little was captured; bad, if
 its headers are wrong; unjoined, a fragment whose datagram lacks another; or
 counted in a conversation. J datagrams were joined of fragments; G groups of
 fragments were given up, each the oldest of 1,024. A is the lesser of the two
-ends, and forward is from A to B.
+ends, and forward is from A to B. At a terminal, or with --explain, a line on
+standard error counts the IPv6, the ARP and the other packets of not-ipv4.
 
 Examples: capt report morning.pcap evening.pcapng
           set -o pipefail; zcat trace.pcap.gz | capt report -";
@@ -186,8 +187,9 @@ time offset of its interface. A pcap file has times in whole micro- or
 nanoseconds, by the first datagram's interface: the first datagram that it can't
 hold is refused. Not carried on: link headers, names, descriptions and filters
 of interfaces, comments and other options, secrets, name records, statistics. At
-a terminal, or with --explain, a line tells how many blocks aren't, and one how
-many packets ran back, as of merge.
+a terminal, or with --explain, a line tells how many blocks aren't, one how many
+packets ran back, as of merge, and one how many packets are in no datagram of
+OUT, by their class in the frames line of report.
 
 Example: capt join -o whole.pcapng morning.pcap evening.pcapng";
 

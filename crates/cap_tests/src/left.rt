@@ -8,7 +8,9 @@ use crate::hex_vectors::{
 use cap_bytes::{CutRest, Fault, Order, Pieces, Refusal, Rule, Sink, Source, Tail};
 use cap_commands::{DroppedInfo, convert_and_count, join_and_count, merge_and_count};
 use cap_merge::{Merged, merge_files};
+use cap_print::Form;
 use cap_source::{Capture, Format, PacketFeed};
+use cap_talks::{file_lines_and_cuts, report_and_count};
 use std::alloc::Global;
 use std::process::Abort;
 
@@ -80,6 +82,7 @@ fn wanted(row: &Row) -> Result<DroppedInfo, Fault> {
         ran_back,
         cuts: [None; 32],
         left_out: None,
+        not_ipv4: None,
     })
 }
 
@@ -144,6 +147,7 @@ fn converts(rt: &impl Abort, alloc: Global, file: File, format: Format, counts: 
         ran_back: 0,
         cuts: [None; 32],
         left_out: None,
+        not_ipv4: None,
     };
     same!(rt; answer, Ok(left_out), file);
 }
@@ -169,20 +173,53 @@ const RECORD_REST: CutRest = CutRest {
     size: 19,
 };
 
-// What is answered of these files.
-fn cut_files_left() -> Result<DroppedInfo, Fault> {
+// These rests, by the places of their files.
+fn cut_places() -> [Option<CutRest>; 32] {
     let mut cuts = [None; 32];
     cuts[0] = Some(LATE_REST);
     cuts[2] = Some(RECORD_REST);
+    cuts
+}
+
+// What is answered of these files.
+fn cut_files_left() -> Result<DroppedInfo, Fault> {
     Ok(DroppedInfo {
         skipped: 0,
         secret_blocks: 0,
         name_blocks: 0,
         named: 0,
         ran_back: 0,
-        cuts,
+        cuts: cut_places(),
         left_out: None,
+        not_ipv4: None,
     })
+}
+
+// What the lines of 1 to 32 files answer, or a report of them.
+fn prints<R: Source, W: Sink>(
+    rt: &impl Abort,
+    alloc: Global,
+    sources: Vec<R>,
+    reports: bool,
+    writer: &mut W,
+) -> Result<[Option<CutRest>; 32], Fault> {
+    holds!(rt; !sources.is_empty());
+    holds!(rt; sources.len() <= 32);
+    if reports {
+        Ok(report_and_count(alloc, sources, Tail::Accept, Form::Text, false, writer)?.cuts)
+    } else {
+        file_lines_and_cuts(alloc, sources, Tail::Accept, Form::Text, writer)
+    }
+}
+
+#[test]
+fn always_memory_rests_of_printed_files_are_left(rt: HostRuntime) {
+    for reports in [false, true] {
+        let mut writer = room_of(&rt, rt.alloc(), 1024);
+        let sources = sources_of(&rt, rt.alloc(), &CUT_FILES, 4096);
+        let answer = prints(&rt, rt.alloc(), sources, reports, &mut writer);
+        same!(&rt; answer, Ok(cut_places()));
+    }
 }
 
 #[test]
@@ -217,6 +254,7 @@ fn always_memory_the_rest_of_a_converted_file_is_left(rt: HostRuntime) {
         ran_back: 0,
         cuts,
         left_out: None,
+        not_ipv4: None,
     };
     same!(&rt; answer, Ok(left_out));
 }

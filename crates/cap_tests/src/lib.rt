@@ -27,6 +27,8 @@ mod left_out;
 #[cfg(test)]
 mod merge;
 #[cfg(test)]
+mod networks;
+#[cfg(test)]
 mod report;
 #[cfg(test)]
 mod steps;

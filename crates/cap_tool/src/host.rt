@@ -9,6 +9,7 @@ use crate::cuts::{put_cuts, put_rest};
 use crate::hints::{called, cause_line, hint, hint_object};
 use crate::left::{Told, left_lines};
 use crate::left_out::left_out_line;
+use crate::networks::network_line;
 use crate::objects::tell_in;
 use crate::openers::Opener;
 use crate::outcomes::{Outcome, RunStop, status_of, tell};
@@ -156,10 +157,25 @@ fn explain<R: Files<File = File> + AllocGlobal>(
     // a standard error that fails doesn't change how the run ends
     let _ = put_all(faults, lines.as_slice());
     let _ = put_all(faults, left_out_line(&stop.outcome, &told.left).as_slice());
+    tell_networks(job, &stop.outcome, &told.left, faults);
     tell_cuts(job, &told.left, faults);
     if let Some(line) = hint(rt, rt.alloc(), stop, job) {
         let is_object = matches!(job, Some(job) if job.json) && !is_of_line(&stop.outcome);
         tell_hint(rt.alloc(), line.as_str(), is_object, faults);
+    }
+}
+
+// Tells of which networks the packets are that a report counts as `not-ipv4`.
+fn tell_networks(
+    job: Option<&Job<'_>>,
+    outcome: &Outcome,
+    left: &DroppedInfo,
+    faults: &mut Tracked<Stderr>,
+) {
+    if let Some(job) = job {
+        let line = network_line(form_of(job.json), outcome, left);
+        // a standard error that fails doesn't change how the run ends
+        let _ = put_all(faults, line.as_slice());
     }
 }
 

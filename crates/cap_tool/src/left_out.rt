@@ -10,9 +10,9 @@ use cap_commands::DroppedInfo;
 use cap_print::Line;
 use cap_write::LeftOut;
 
-// Puts the name of a class and its count before what was put, unless the count is 0. The classes before it, which are
-// put after it, count so many.
-fn prepend_class(line: &mut Line, before: u128, name: &[u8], count: u64)
+/// Puts the name of a class and its count before what was put, unless the count is 0. The classes before it, which are
+/// put after it, count so many.
+pub(crate) fn prepend_class(line: &mut Line, before: u128, name: &[u8], count: u64)
     requires { length name.now + 22 ≤ room_in line.old }
     ensures text { text_in line.new ≡ class_text before name.now count ++ text_in line.old }
     ensures room { room_in line.old ≤ room_in line.new + length name.now + 22 }

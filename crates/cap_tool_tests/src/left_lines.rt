@@ -1,8 +1,11 @@
 //! The lines that tell what a command left out.
 use cap_bytes::{Fault, Refusal, Rule};
-use cap_line::LineFault;
 use cap_class::ClassCounts;
-use cap_tool::{DroppedInfo, Outcome, left_lines, left_out_line};
+use cap_commands::NOTHING_LEFT;
+use cap_line::LineFault;
+use cap_print::Form;
+use cap_talks::OtherCounts;
+use cap_tool::{DroppedInfo, Outcome, left_lines, left_out_line, network_line};
 use cap_write::LeftOut;
 use std::process::Abort;
 
@@ -91,6 +94,7 @@ fn tells(rt: &impl Abort, outcome: &Outcome, counts: [u128; 5], text: &str) {
         ran_back,
         cuts: [None; 32],
         left_out: None,
+        not_ipv4: None,
     };
     let line = left_lines(outcome, &left);
     assert_eq!(rt; line.as_slice(), text.as_bytes());
@@ -160,6 +164,7 @@ fn tells_packets(rt: &impl Abort, outcome: &Outcome, numbers: [u64; 8], text: &s
         ran_back: 0,
         cuts: [None; 32],
         left_out: Some(LeftOut { classes, truncated }),
+        not_ipv4: None,
     };
     let line = left_out_line(outcome, &left);
     assert_eq!(rt; line.as_slice(), text.as_bytes());
@@ -169,5 +174,53 @@ fn tells_packets(rt: &impl Abort, outcome: &Outcome, numbers: [u64; 8], text: &s
 fn packets_that_are_left_out_are_told(rt: HostRuntime) {
     for (outcome, numbers, text) in &TOLD_OF_PACKETS {
         tells_packets(&rt, outcome, *numbers, *text);
+    }
+}
+
+// How a run ended, how many packets there are of IPv6, of ARP and of other networks, and what is printed of these, in
+// text and in JSON.
+const TOLD_OF_NETWORKS: [(Outcome, [u64; 3], [&str; 2]); 5] = [
+    (Outcome::Done, [0, 0, 0], ["", ""]),
+    (
+        Outcome::Done,
+        [24745, 12, 3],
+        [
+            "not-ipv4: ipv6 24745, arp 12, other 3\n",
+            "{\"type\":\"not_ipv4\",\"ipv6\":24745,\"arp\":12,\"other\":3}\n",
+        ],
+    ),
+    (
+        Outcome::Done,
+        [0, 1, 0],
+        [
+            "not-ipv4: arp 1\n",
+            "{\"type\":\"not_ipv4\",\"ipv6\":0,\"arp\":1,\"other\":0}\n",
+        ],
+    ),
+    (
+        Outcome::Done,
+        [2, 0, 7],
+        [
+            "not-ipv4: ipv6 2, other 7\n",
+            "{\"type\":\"not_ipv4\",\"ipv6\":2,\"arp\":0,\"other\":7}\n",
+        ],
+    ),
+    (Outcome::Fault(CUT), [1, 1, 1], ["", ""]),
+];
+
+// What is printed of the packets of networks other than IPv4 in a form.
+fn tells_networks(rt: &impl Abort, form: Form, outcome: &Outcome, numbers: [u64; 3], text: &str) {
+    let [ipv6, arp, other] = numbers;
+    let mut left = NOTHING_LEFT;
+    left.not_ipv4 = Some(OtherCounts { ipv6, arp, other });
+    let line = network_line(form, outcome, &left);
+    assert_eq!(rt; line.as_slice(), text.as_bytes());
+}
+
+#[test]
+fn networks_other_than_ipv4_are_told(rt: HostRuntime) {
+    for (outcome, numbers, [text, object]) in &TOLD_OF_NETWORKS {
+        tells_networks(&rt, Form::Text, outcome, *numbers, *text);
+        tells_networks(&rt, Form::Json, outcome, *numbers, *object);
     }
 }

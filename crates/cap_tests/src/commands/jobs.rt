@@ -8,6 +8,7 @@ use cap_bytes::{CutRest, Fault, Order, Sink};
 use cap_commands::{Done, DroppedInfo, Finding, NOTHING_LEFT, job_to};
 use cap_line::{Job, NOTHING_IGNORED, Task, can_replace, is_whole};
 use cap_source::Format;
+use cap_talks::NO_OTHERS;
 use cap_write::NO_PACKETS_LEFT_OUT;
 use std::alloc::Global;
 use std::process::Abort;
@@ -325,6 +326,10 @@ fn leaves(rt: &impl Abort, alloc: Global, task: Task, skipped: u128) {
                 Task::Join => Some(NO_PACKETS_LEFT_OUT),
                 _ => None,
             },
+            not_ipv4: match task {
+                Task::Report => Some(NO_OTHERS),
+                _ => None,
+            },
         },
     };
     same!(rt; answer, Ok(wanted), task);
@@ -341,6 +346,9 @@ fn drops(rt: &impl Abort, alloc: Global, task: Task, capture: &str, rest: CutRes
     let answer = counts(rt, alloc, &job, &[capture], &mut writer);
     let mut left = NOTHING_LEFT;
     left.cuts[0] = Some(rest);
+    if let Task::Report = task {
+        left.not_ipv4 = Some(NO_OTHERS);
+    }
     let finding = Finding::Nothing;
     same!(rt; answer, Ok(Done { finding, left }), task);
 }
@@ -357,6 +365,8 @@ fn always_memory_a_job_says_what_was_cut(rt: HostRuntime) {
     };
     drops(&rt, rt.alloc(), Task::List, CUT_PCAP, record);
     drops(&rt, rt.alloc(), Task::Blocks, CUT_BLOCK, block);
+    drops(&rt, rt.alloc(), Task::Info, CUT_PCAP, record);
+    drops(&rt, rt.alloc(), Task::Report, CUT_PCAP, record);
 }
 
 // `diff` drops the end of both captures, of which none has a packet.

@@ -1,8 +1,9 @@
-use Rattle.std.proofs.Common.{◌≡◌, ◌-◌, ◌++◌, None, arith, ap, ◌∙◌}
+use Rattle.std.proofs.Common.{◌≡◌, ◌-◌, ◌++◌, None, arith, ap, refl, ◌∙◌}
 use Rattle.std.specs.Prelude.{replicate}
 use Rattle.std.proofs.lemmas.List.{length-set}
 use Rattle.cap_commands.proofs.Leaving.{is-file, places-more, rests-all, rests-more, sum-more}
-use Rattle.cap_commands.specs.Left.{named_in, name_blocks_in, rests_in, secret_blocks_in, skipped_in}
+use Rattle.cap_commands.specs.Left.{named_in, name_blocks_in, secret_blocks_in, skipped_in}
+use Rattle.cap_talks.specs.talks.CutRests.{rests_in}
 use Rattle.cap_commands.proofs.counting.dropped_of.Goals as goal
 
 pub ending-ending-requires-clause-file : goal.ending-ending-requires-clause-file
@@ -79,4 +80,5 @@ returns g c =
       named = i.named ∙ ap (named_in endings) done;
       cuts = rests-all endings c.loop-place.place c.loop-place.cuts i.cuts i.others
           ∙ ap (λ n. rests_in endings n ++ replicate (32 - n) None) done;
+      networks = refl;
     }

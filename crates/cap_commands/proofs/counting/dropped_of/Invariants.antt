@@ -1,6 +1,7 @@
 use Rattle.std.proofs.Common.{◌≡◌, ◌≤◌, ◌*◌, ◌-◌, ◌^◌, drop, length, take, None}
 use Rattle.std.specs.Prelude.{replicate}
-use Rattle.cap_commands.specs.Left.{named_in, name_blocks_in, rests_in, secret_blocks_in, skipped_in}
+use Rattle.cap_commands.specs.Left.{named_in, name_blocks_in, secret_blocks_in, skipped_in}
+use Rattle.cap_talks.specs.talks.CutRests.{rests_in}
 use Rattle.cap_commands.proofs.counting.dropped_of.Given as goal
 
 -- the blocks, also by kind, the names and the rests of the files so far

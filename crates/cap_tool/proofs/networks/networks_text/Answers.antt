@@ -1,0 +1,7 @@
+use Rattle.cap_tool.proofs.NetworkTexts.{line-put}
+use Rattle.cap_tool.proofs.networks.networks_text.Goals as goal
+
+pub returns : goal.returns
+returns c =
+    line-put c.args.counts _ _ _ _ c.new-line.ensures.text c.prepend_text.ensures.text
+    c.prepend_networks.ensures.text c.prepend_text-2.ensures.text
