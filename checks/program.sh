@@ -201,6 +201,39 @@ For more information, try '--help'."
 
 For more information, try '--help'."
 done
+# the lines of a list that digest printed, verified
+cp "$one" "$work/changed"; cp "$work/cut.pcap" "$work/refused"; cp "$one" "$work/"$'\ename'
+run digest --names "$work/changed" "$work/refused" "$work/"$'\ename' "$work/missing"; cp "$work/out" "$work/lines"
+verified="verify 1 same name $work/changed
+verify 2 same name $work/refused
+verify 3 same name $work/\\u{1b}name"
+run digest --verify "$work/lines"; check 'what digest printed, verified' 1 "$verified
+verify 4 missing name $work/missing" ''
+head -n 3 "$work/lines" > "$work/list"; run digest --verify "$work/list"; check 'lines that hold' 0 "$verified" ''
+input=$work/list; run digest --verify -; check 'lines from standard input' 0 "$verified" ''; input=
+head -c -1 "$work/list" > "$work/lines"; run digest --verify "$work/lines"; check 'a last line without an end' 0 "$verified" ''
+sed -n '3p;1p' "$work/list" > "$work/lines"; run digest --json --verify "$work/lines"
+check 'some lines in another order, as objects' 0 '{"type":"verify","file":3,"result":"same","path":"'"$work"'/\u001bname"}
+{"type":"verify","file":1,"result":"same","path":"'"$work/changed"'"}' ''
+cp "$work/cut.pcap" "$work/changed"; run digest --verify "$work/lines"; check 'a capture that changed' 3 "verify 3 same name $work/\\u{1b}name
+verify 1 differs name $work/changed" ''
+echo 'check 1 open name a' >> "$work/lines"; run digest --explain --verify "$work/lines"; check 'a line that is none' 2 '' "fault: line 3 of list
+  $work/lines: line 3 isn't a line of 'capt digest --names'"
+run digest --json --verify "$work/lines"; check 'such a line, as an object' 2 '' '{"type":"fault","fault":"list","line":3}'
+for line in '' 'digest 0 open name a' 'digest 01 open name a' 'digest 4294967296 open name a' 'digest 1 name a' $'digest 1 open name a\r' 'digest 1 open' ' digest 1 open name a' $'digest 1 open name \xff'; do
+    printf '%s\n' "$line" > "$work/lines"; run digest --verify "$work/lines"; check "the line '$line'" 2 '' 'fault: line 1 of list'
+done
+printf 'digest 1 open name -\ndigest 2 open name -\n' > "$work/lines"; run digest --verify "$work/lines"; check 'standard input twice in lines' 2 '' 'fault: input'
+: > "$work/lines"; run digest --verify "$work/lines"; check 'no lines' 0 '' ''
+run digest --explain --verify "$work/missing"; check 'lines of a list that is missing' 1 '' "fault: read list
+  $work/missing: No such file or directory (os error 2)"
+for words in "--files0-from <LIST>:--files0-from $work/list" '--names:--names' "[FILE]...:$one"; do
+    # shellcheck disable=SC2086
+    run digest --verify "$work/lines" ${words#*:}; check "lines beside ${words%%:*}" 2 '' "error: the argument '--verify <LIST>' cannot be used with '${words%%:*}'
+
+For more information, try '--help'."
+done
+
 # more names than a process can hold open
 for _ in $(seq 2000); do printf '%s\0' "$one"; done > "$work/list"
 run digest --files0-from "$work/list"; check 'a digest of 2,000 captures' 0 '*' ''

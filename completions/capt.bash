@@ -23,7 +23,7 @@ _capt() {
         convert | merge | join) options='--allow-cut --explain --order --output --to --whole -o --help' ;;
         list) options='--allow-cut --explain --class --json --data --help' ;;
         diff) options='--allow-cut --explain --ignore --json --data --help' ;;
-        digest) options='--allow-cut --explain --json --names --files0-from --help' ;;
+        digest) options='--allow-cut --explain --json --names --files0-from --verify --help' ;;
         check) options='--allow-cut --explain --digest --json --names --files0-from --help' ;;
         *) options='--allow-cut --explain --json --help' ;;
     esac

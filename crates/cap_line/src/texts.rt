@@ -208,9 +208,9 @@ pub(crate) const DIGESTS_HELP: &str = "Print the SHA-256 of each capture's packe
 pub(crate) const LIST_OF_FILES_HELP: &str = "Read the names of captures, each ended by a NUL,
 from the file LIST, or - for standard input";
 
-pub(crate) const VERIFY_HELP: &str = "Say for each line of the file LIST, or - for standard
-input, whether its file still has that line: lines
-that capt digest --names printed";
+pub(crate) const VERIFY_HELP: &str = "Say for each line of the file LIST, or - for
+standard input, whether its file still has that
+line: lines that capt digest --names printed";
 
 pub(crate) const DATA_HELP: &str = "With --json, show at most N bytes of a packet, from
 0 to 262144, default 16";

@@ -2,8 +2,9 @@
 use crate::checks::same;
 use cap_bytes::Order;
 use cap_line::{
-    Ignored, LineFault, Task, can_replace, can_show, check_files, check_inputs, data_of,
-    files_limit, format_of, ignored_of, is_surveying, is_whole, order_of, standard_inputs, task_of,
+    Ignored, LineFault, Task, can_replace, can_show, can_verify, check_files, check_inputs, data_of,
+    files_limit, format_of, ignored_of, is_surveying, is_whole, number_of, order_of,
+    standard_inputs, task_of, unescape,
 };
 use cap_source::Format;
 
@@ -124,6 +125,64 @@ const COUNTS: [(Option<&str>, Result<Option<u32>, LineFault>); 12] = [
 fn bytes_shown_are_a_number(rt: HostRuntime) {
     for (text, count) in &COUNTS {
         same!(&rt; data_of(*text), *count, *text);
+    }
+}
+
+// Texts, and the numbers that they are.
+const NUMBERS: [(&str, Option<u32>); 7] = [
+    ("7", Some(7)),
+    ("007", Some(7)),
+    ("4294967295", Some(4_294_967_295)),
+    ("4294967296", None),
+    ("", None),
+    ("+7", None),
+    ("7 ", None),
+];
+
+#[test]
+fn numbers_are_digits_alone(rt: HostRuntime) {
+    for (text, number) in &NUMBERS {
+        same!(&rt; number_of(text), *number, *text);
+    }
+}
+
+// Whether lines are verified, a list and names are asked for, and whether that can be.
+const VERIFIED: [(Option<&str>, Option<&str>, bool, bool); 6] = [
+    (None, None, false, true),
+    (None, Some("b"), true, true),
+    (Some("a"), None, false, true),
+    (Some("a"), None, true, false),
+    (Some("a"), Some("b"), false, false),
+    (Some("-"), Some("-"), true, false),
+];
+
+#[test]
+fn lines_are_verified_alone(rt: HostRuntime) {
+    for (verify, list, names, can) in &VERIFIED {
+        same!(&rt; can_verify(*verify, *list, *names), *can, *verify);
+    }
+}
+
+// Texts that a terminal shows, and the names of which they are shown. Only the code of a hidden character, as it is
+// shown, is read back.
+const NAMES: [(&str, &str); 8] = [
+    ("a name", "a name"),
+    ("\\u{1b}two", "\u{1b}two"),
+    ("a\\u{202e}\\u{0}b", "a\u{202e}\u{0}b"),
+    ("\\u{41}", "\\u{41}"),
+    ("\\u{1B}", "\\u{1B}"),
+    ("\\u{01b}", "\\u{01b}"),
+    ("\\u{1b", "\\u{1b"),
+    ("\\\\u{9f}\u{e4}", "\\\u{9f}\u{e4}"),
+];
+
+#[test]
+fn always_memory_names_are_read_back(rt: HostRuntime) {
+    for (text, name) in &NAMES {
+        match unescape(rt.alloc(), text) {
+            Ok(read) => same!(&rt; read.as_str(), *name),
+            Err(fault) => panic!(&rt; "{fault}"),
+        }
     }
 }
 

@@ -4,4 +4,7 @@ pub mod Paths
 mod LeftOutTexts
 mod NetworkTexts
 mod ListedNames
+mod LineParts
+mod LinesRead
+mod Judging
 mod Running

@@ -24,45 +24,46 @@ listed-other bytes other =
     ap (λ c. if c then bytes else utf8_lossy bytes ++ 0 ∷ [])
     (false-if (is_utf8 bytes) (λ is. other (IsUtf8-from_is_utf8 bytes is)))
 
--- a byte that is no NUL is put to the first piece behind it
-first : (b : ℕ) (bytes : List ℕ) → (b == 0) ≡ false → pieces (b ∷ bytes) ≡ put_to_first b (pieces bytes)
+-- a byte that ends no piece is put to the first behind it
+first : (end b : ℕ) (bytes : List ℕ) → (b == end) ≡ false
+    → pieces end (b ∷ bytes) ≡ put_to_first b (pieces end bytes)
 unfolding pieces
-first b bytes is = ap (λ c. if c then [] ∷ pieces bytes else put_to_first b (pieces bytes)) is
+first end b bytes is = ap (λ c. if c then [] ∷ pieces end bytes else put_to_first b (pieces end bytes)) is
 
--- the first NUL ends the first piece
-pub pieces-at : (list : List ℕ) (k : ℕ) → k < length list
-    → ((i : ℕ) → i < k → (slice_index list i == 0) ≡ false) → (slice_index list k == 0) ≡ true
-    → pieces list ≡ take k list ∷ pieces (drop (suc k) list)
+-- the first byte that ends one ends the first piece
+pub pieces-at : (end : ℕ) (list : List ℕ) (k : ℕ) → k < length list
+    → ((i : ℕ) → i < k → (slice_index list i == end) ≡ false) → (slice_index list k == end) ≡ true
+    → pieces end list ≡ take k list ∷ pieces end (drop (suc k) list)
 unfolding pieces
-pieces-at [] k below before at = absurd (none k below)
+pieces-at end [] k below before at = absurd (none k below)
   where
     none : (n : ℕ) → n < 0 → ⊥
     none n under = omega (arith, under)
-pieces-at (b ∷ bytes) zero below before at =
-    ap (λ c. if c then [] ∷ pieces bytes else put_to_first b (pieces bytes)) at
-pieces-at (b ∷ bytes) (suc k) below before at =
-    first b bytes (before 0 (omega arith))
-    ∙ ap (put_to_first b) (pieces-at bytes k (omega (arith, below)) (λ i under. before (suc i) (omega (arith, under)))
-    at)
+pieces-at end (b ∷ bytes) zero below before at =
+    ap (λ c. if c then [] ∷ pieces end bytes else put_to_first b (pieces end bytes)) at
+pieces-at end (b ∷ bytes) (suc k) below before at =
+    first end b bytes (before 0 (omega arith))
+    ∙ ap (put_to_first b)
+    (pieces-at end bytes k (omega (arith, below)) (λ i under. before (suc i) (omega (arith, under))) at)
 
--- some bytes without a NUL are one piece
-pub pieces-one : (b : ℕ) (bytes : List ℕ)
-    → ((i : ℕ) → i < length (b ∷ bytes) → (slice_index (b ∷ bytes) i == 0) ≡ false)
-    → pieces (b ∷ bytes) ≡ (b ∷ bytes) ∷ []
+-- some bytes without one are one piece
+pub pieces-one : (end b : ℕ) (bytes : List ℕ)
+    → ((i : ℕ) → i < length (b ∷ bytes) → (slice_index (b ∷ bytes) i == end) ≡ false)
+    → pieces end (b ∷ bytes) ≡ (b ∷ bytes) ∷ []
 unfolding pieces
-pieces-one b [] none = first b [] (none 0 (omega arith))
-pieces-one b (c ∷ bytes) none =
-    first b (c ∷ bytes) (none 0 (omega arith))
-    ∙ ap (put_to_first b) (pieces-one c bytes (λ i under. none (suc i) (omega (arith, under))))
+pieces-one end b [] none = first end b [] (none 0 (omega arith))
+pieces-one end b (c ∷ bytes) none =
+    first end b (c ∷ bytes) (none 0 (omega arith))
+    ∙ ap (put_to_first b) (pieces-one end c bytes (λ i under. none (suc i) (omega (arith, under))))
 
-pub pieces-all : (list : List ℕ) → (list ≡ [] → ⊥)
-    → ((i : ℕ) → i < length list → (slice_index list i == 0) ≡ false) → pieces list ≡ list ∷ []
-pieces-all [] some none = absurd (some refl)
-pieces-all (b ∷ bytes) some none = pieces-one b bytes none
+pub pieces-all : (end : ℕ) (list : List ℕ) → (list ≡ [] → ⊥)
+    → ((i : ℕ) → i < length list → (slice_index list i == end) ≡ false) → pieces end list ≡ list ∷ []
+pieces-all end [] some none = absurd (some refl)
+pieces-all end (b ∷ bytes) some none = pieces-one end b bytes none
 
 -- one name more of a list is found, of which a piece is at the front
 pub listed-more : (found all : List (List ℕ)) (rest piece behind name : List ℕ)
-    → found ++ listed_names rest ≡ all → pieces rest ≡ piece ∷ pieces behind → name ≡ listed_name piece
+    → found ++ listed_names rest ≡ all → pieces 0 rest ≡ piece ∷ pieces 0 behind → name ≡ listed_name piece
     → (found ++ name ∷ []) ++ listed_names behind ≡ all
 listed-more found all rest piece behind name so_far split is =
     append_assoc found (name ∷ []) (listed_names behind)
@@ -91,7 +92,7 @@ names-before [] last = refl
 names-before (name ∷ names) last = ap (λ l. name ∷ l) (names-before names last)
 
 -- the names of a list are those of some texts but the last, which is its own name
-front-names : (texts : List (Bor (List ℕ))) (names : List (List ℕ)) (last : List ℕ)
+pub front-names : (texts : List (Bor (List ℕ))) (names : List (List ℕ)) (last : List ℕ)
     → map (λ t. t.now) texts ≡ names ++ last ∷ []
     → map (λ t. t.now) (take (length texts - 1) texts) ≡ names
 front-names texts names last is =

@@ -33,6 +33,7 @@ is_of_file (outcomes.Line fault) = is_of_names fault
 is_of_file (outcomes.Fault fault) = is_of_files fault
 is_of_file (outcomes.Open n) = true
 is_of_file outcomes.List = true
+is_of_file (outcomes.ListLine line) = true
 is_of_file outcomes.Create = true
 
 -- A line that a terminal shows beside a fault: two spaces, and a text of which each character is shown.

@@ -18,19 +18,19 @@ abbrev pub put_to_first : ℕ → List (List ℕ) → List (List ℕ)
 put_to_first b [] = (b ∷ []) ∷ []
 put_to_first b (piece ∷ pieces) = (b ∷ piece) ∷ pieces
 
--- the pieces of some bytes of which a NUL ends each, and the last may also be ended by the end
-unfoldable pub pieces : List ℕ → List (List ℕ)
-pieces [] = []
-pieces (b ∷ bytes) = if b == 0 then [] ∷ pieces bytes else put_to_first b (pieces bytes)
+-- the pieces of some bytes of which a byte `end` ends each, and the last may also be ended by the end
+unfoldable pub pieces : ℕ → List ℕ → List (List ℕ)
+pieces end [] = []
+pieces end (b ∷ bytes) = if b == end then [] ∷ pieces end bytes else put_to_first b (pieces end bytes)
 
 -- A name that some bytes give: their text; if they aren't UTF-8, what of them is, and behind it a NUL, which no file's
 -- name has, so that no file of that name can be opened.
 abbrev pub listed_name : List ℕ → List ℕ
 listed_name bytes = if is_utf8 bytes then bytes else utf8_lossy bytes ++ 0 ∷ []
 
--- the names that a list has
+-- the names that a list has, of which a NUL ends each
 abbrev pub listed_names : List ℕ → List (List ℕ)
-listed_names bytes = map listed_name (pieces bytes)
+listed_names bytes = map listed_name (pieces 0 bytes)
 
 -- what names are refused by that a list of that name has: more than the task takes; standard input twice, which the
 -- list may be

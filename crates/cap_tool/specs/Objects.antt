@@ -50,6 +50,10 @@ read_fields file offset =
 abbrev pub open_fields : ℕ → List ℕ
 open_fields file = codes "\"type\":\"fault\",\"fault\":\"open\",\"file\":" ++ decimal file
 
+-- a line of a list that is none, as an object
+abbrev pub list_line_json : ℕ → List ℕ
+list_line_json line = codes "{\"type\":\"fault\",\"fault\":\"list\",\"line\":" ++ decimal line ++ codes "}\n"
+
 -- a fault as an object
 abbrev pub fault_json : Fault → List (List ℕ) → List ℕ
 fault_json (Refused refusal) paths = object_json (refused_fields refusal) (path_of paths refusal.file)
@@ -67,6 +71,7 @@ outcome_json (outcomes.Line fault) paths = line_fault_text fault
 outcome_json (outcomes.Fault fault) paths = fault_json fault paths
 outcome_json (outcomes.Open file) paths = object_json (open_fields file) (path_of paths file)
 outcome_json outcomes.List paths = codes "{\"type\":\"fault\",\"fault\":\"list\"}\n"
+outcome_json (outcomes.ListLine line) paths = list_line_json line
 outcome_json outcomes.Create paths = codes "{\"type\":\"fault\",\"fault\":\"create\"}\n"
 
 -- what is printed of an outcome as an object, if that is said of words that give no job
@@ -78,6 +83,7 @@ told_json said (outcomes.Line fault) paths = told_line said fault
 told_json said (outcomes.Fault fault) paths = outcome_json (outcomes.Fault fault) paths
 told_json said (outcomes.Open file) paths = outcome_json (outcomes.Open file) paths
 told_json said outcomes.List paths = outcome_json outcomes.List paths
+told_json said (outcomes.ListLine line) paths = outcome_json (outcomes.ListLine line) paths
 told_json said outcomes.Create paths = outcome_json outcomes.Create paths
 
 -- what is printed of an outcome in a form

@@ -37,6 +37,7 @@ status_after (outcomes.Line fault) = status_after_line fault
 status_after (outcomes.Fault fault) = 1
 status_after (outcomes.Open file) = 1
 status_after outcomes.List = 1
+status_after (outcomes.ListLine line) = 2
 status_after outcomes.Create = 1
 
 -- the file of that number could not be opened
@@ -52,6 +53,10 @@ line_fault_text lines.Input = codes "fault: input\n"
 line_fault_text lines.Output = codes "fault: output\n"
 line_fault_text lines.Memory = codes "fault: memory\n"
 
+-- the line that is printed of a line of a list that is none
+abbrev pub list_line_text : ℕ → List ℕ
+list_line_text line = codes "fault: line " ++ decimal line ++ codes " of list\n"
+
 -- what is printed of an outcome
 abbrev pub outcome_text : Outcome → List ℕ
 outcome_text outcomes.Done = []
@@ -61,6 +66,7 @@ outcome_text (outcomes.Line fault) = line_fault_text fault
 outcome_text (outcomes.Fault fault) = fault_text fault
 outcome_text (outcomes.Open file) = open_text file
 outcome_text outcomes.List = codes "fault: read list\n"
+outcome_text (outcomes.ListLine line) = list_line_text line
 outcome_text outcomes.Create = codes "fault: create output\n"
 
 -- help was asked for
@@ -80,6 +86,7 @@ is_help (outcomes.Line fault) = is_help_line fault
 is_help (outcomes.Fault fault) = false
 is_help (outcomes.Open file) = false
 is_help outcomes.List = false
+is_help (outcomes.ListLine line) = false
 is_help outcomes.Create = false
 
 -- what is printed of an outcome if that is said of words that give no job
@@ -99,6 +106,7 @@ told_text said (outcomes.Line fault) = told_line said fault
 told_text said (outcomes.Fault fault) = outcome_text (outcomes.Fault fault)
 told_text said (outcomes.Open file) = outcome_text (outcomes.Open file)
 told_text said outcomes.List = outcome_text outcomes.List
+told_text said (outcomes.ListLine line) = outcome_text (outcomes.ListLine line)
 told_text said outcomes.Create = outcome_text outcomes.Create
 
 -- how a run ends that was asked for help: help is written, or the writer failed and a prefix of it is
@@ -110,4 +118,5 @@ HelpEnds said old new (outcomes.Line fault) = (fault ≡ lines.Help) × (new ≡
 HelpEnds said old new (outcomes.Fault fault) = (fault ≡ Write) × PrintsFront said old new
 HelpEnds said old new (outcomes.Open file) = ⊥
 HelpEnds said old new outcomes.List = ⊥
+HelpEnds said old new (outcomes.ListLine line) = ⊥
 HelpEnds said old new outcomes.Create = ⊥

@@ -8,12 +8,16 @@ use Rattle.cap_check.specs.Checking.{Opened}
 use Rattle.cap_line.specs.Jobs.{is_surveying}
 use Rattle.cap_line.specs.declared.jobs.Job.{Job}
 use Rattle.cap_tool.specs.CheckedNames.{AreGiven, ChecksNames}
-use Rattle.cap_tool.specs.ListedNames.{ReadsList, StopsAtList, listed_fault, listed_names}
+use Rattle.cap_tool.specs.ListedNames.{ReadsList, StopsAtList, StopsReading, listed_fault, listed_names}
 use Rattle.cap_commands.specs.Jobs.{Does, Finds, form_by, found_in, line_by, tail_of}
 use Rattle.cap_commands.specs.Left.{done_of}
 use Rattle.cap_tool.specs.Outcomes.{ends_by}
 use Rattle.cap_tool.specs.Outlets.{Outgoing}
 use Rattle.cap_tool.specs.Streams.{StopsAtDash, StopsOpening}
+use Rattle.cap_tool.specs.DigestLines.{Entry, IsFirstOther, entries_in}
+use Rattle.cap_tool.specs.Verdicts.{Verifies}
+use Rattle.cap_line.specs.declared.faults.LineFault.{LineFault}
+use Rattle.cap_line.specs.declared.jobs.Task.{Task}
 use Rattle.cap_commands.specs.declared.jobs.Finding.{Finding}
 use Rattle.cap_commands.specs.declared.left.DroppedInfo.{DroppedInfo}
 use Rattle.cap_tool.specs.declared.outcomes.Outcome.{Outcome}
@@ -148,10 +152,71 @@ RunsBy (Some list) gives known makes sent commits lacks_input job result =
     ((stop : RunStop) × (result ≡ Err stop) × StopsAtList gives known job.task list stop)
     ⊎ RunsListed gives known makes sent commits job list result
 
--- a job was run, by its list of captures, if it has one
+-- Lines that `digest --names` printed were verified: the output was created; if that tells its bytes, what is said of
+-- the lines was written, and the run ended by what was found; and the output was committed by how that ended.
+pub record RunsVerify {R W N : Type 0} (gives : List ℕ → Option R → Type 0) (known : R → Opened)
+    (makes : List (Option FileId) → Result (W × N) RunStop → Type 0) (sent : W → Outgoing)
+    (commits : N → Result DroppedInfo RunStop → Result DroppedInfo RunStop → Type 0) (job : Job)
+    (entries : List Entry) (result : Result DroppedInfo RunStop) : Type 0 where
+  pub writer : W
+  pub name : N
+  pub written : W
+  pub answer : Result Finding Fault
+  pub ended : Result DroppedInfo RunStop
+  pub made : makes [] (Ok (writer, name))
+  pub verifies : IsTrue (sent writer).told
+      → Verifies gives (option_map known) (tail_of job.allow_cut) (form_by job.json) entries (sent writer).held answer
+      (sent written).held
+  pub ends : IsTrue (sent writer).told → EndsBy answer (sent written).waiting ended
+  pub committed : commits name ended result
+
+-- A run stopped at the list of lines of that name: it could not be read, one of its lines is none, or the names that
+-- they have are refused.
+abbrev pub StopsAtLines : {R : Type 0} → (List ℕ → Option R → Type 0) → (R → Opened) → Task → List ℕ → RunStop → Type 0
+StopsAtLines gives known task list stop =
+    StopsReading gives known list stop
+    ⊎ ((bytes : List ℕ) × (line : ℕ) × ReadsList gives known list bytes × IsFirstOther bytes line
+    × (stop.outcome ≡ outcomes.ListLine line))
+    ⊎ ((bytes : List ℕ) × (entries : List Entry) × (fault : LineFault) × ReadsList gives known list bytes
+    × (map Some entries ≡ entries_in bytes)
+    × (listed_fault task list (map (λ e. e.name) entries) ≡ Err fault) × (stop.outcome ≡ outcomes.Line fault))
+
+-- The list of lines of that name was read, and its lines were verified, unless the output could not be created.
+pub record RunsLines {R W N : Type 0} (gives : List ℕ → Option R → Type 0) (known : R → Opened)
+    (makes : List (Option FileId) → Result (W × N) RunStop → Type 0) (sent : W → Outgoing)
+    (commits : N → Result DroppedInfo RunStop → Result DroppedInfo RunStop → Type 0) (job : Job) (list : List ℕ)
+    (result : Result DroppedInfo RunStop) : Type 0 where
+  pub bytes : List ℕ
+  pub entries : List Entry
+  pub reads : ReadsList gives known list bytes
+  pub lines : map Some entries ≡ entries_in bytes
+  pub taken : listed_fault job.task list (map (λ e. e.name) entries) ≡ Ok tt
+  pub runs : StopsMaking makes result ⊎ RunsVerify gives known makes sent commits job entries result
+
+-- the lines of the list of that name were verified, or the run stopped at the list
+abbrev pub RunsVerified : {R W N : Type 0} → (List ℕ → Option R → Type 0) → (R → Opened)
+    → (List (Option FileId) → Result (W × N) RunStop → Type 0) → (W → Outgoing)
+    → (N → Result DroppedInfo RunStop → Result DroppedInfo RunStop → Type 0) → Job → List ℕ
+    → Result DroppedInfo RunStop → Type 0
+RunsVerified gives known makes sent commits job list result =
+    ((stop : RunStop) × (result ≡ Err stop) × StopsAtLines gives known job.task list stop)
+    ⊎ RunsLines gives known makes sent commits job list result
+
+-- A job was run, whose list of lines to be verified is that, if it has one; without, by its list of captures, if it has
+-- one.
+abbrev pub RunsOver : {R W N : Type 0} → Option (List ℕ) → (List ℕ → Option R → Type 0) → (R → Opened)
+    → (List (Option FileId) → Result (W × N) RunStop → Type 0) → (W → Outgoing)
+    → (N → Result DroppedInfo RunStop → Result DroppedInfo RunStop → Type 0) → Bool → Job → Result DroppedInfo RunStop
+    → Type 0
+RunsOver None gives known makes sent commits lacks_input job result =
+    RunsBy (option_map (λ l. l.now) job.list) gives known makes sent commits lacks_input job result
+RunsOver (Some list) gives known makes sent commits lacks_input job result =
+    RunsVerified gives known makes sent commits job list result
+
+-- a job was run, by its list of lines or of captures, if it has one
 abbrev pub RunsAll : {R W N : Type 0} → (List ℕ → Option R → Type 0) → (R → Opened)
     → (List (Option FileId) → Result (W × N) RunStop → Type 0) → (W → Outgoing)
     → (N → Result DroppedInfo RunStop → Result DroppedInfo RunStop → Type 0) → Bool → Job → Result DroppedInfo RunStop
     → Type 0
 RunsAll gives known makes sent commits lacks_input job result =
-    RunsBy (option_map (λ l. l.now) job.list) gives known makes sent commits lacks_input job result
+    RunsOver (option_map (λ v. v.now) job.verify) gives known makes sent commits lacks_input job result

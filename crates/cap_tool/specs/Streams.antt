@@ -43,6 +43,7 @@ StopsAtDash names (outcomes.Line fault) = ⊥
 StopsAtDash names (outcomes.Fault fault) = ⊥
 StopsAtDash names (outcomes.Open n) = (1 ≤ n) × (n ≤ length names) × IsTrue (is_dash (get_or names (n - 1) []))
 StopsAtDash names outcomes.List = ⊥
+StopsAtDash names (outcomes.ListLine line) = ⊥
 StopsAtDash names outcomes.Create = ⊥
 
 -- the file of one of those names could not be opened, by what its opener gives, or there was no memory
@@ -54,4 +55,5 @@ StopsOpening gives names (outcomes.Line fault) = ⊥
 StopsOpening gives names (outcomes.Fault fault) = fault ≡ faults.Memory
 StopsOpening gives names (outcomes.Open n) = (1 ≤ n) × (n ≤ length names) × gives (get_or names (n - 1) []) None
 StopsOpening gives names outcomes.List = ⊥
+StopsOpening gives names (outcomes.ListLine line) = ⊥
 StopsOpening gives names outcomes.Create = ⊥

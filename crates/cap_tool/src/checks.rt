@@ -17,8 +17,8 @@ use cap_commands::{Finding, form_of, line_of, tail_of, whole_finding};
 use cap_line::Job;
 use std::alloc::Global;
 
-// What a file is read from, if an opener could open it.
-fn reader_of<R, K: Drop>(opened: Result<(R, K), Cause>) -> Option<R>
+/// What a file is read from, if an opener could open it.
+pub(crate) fn reader_of<R, K: Drop>(opened: Result<(R, K), Cause>) -> Option<R>
     ensures { result ≡ reader_of opened }
 {
     match opened {
@@ -27,8 +27,8 @@ fn reader_of<R, K: Drop>(opened: Result<(R, K), Cause>) -> Option<R>
     }
 }
 
-// Tells why a file can't be opened, or that it is a folder.
-fn tell_opened<O: Opener>(
+/// Tells why a file can't be opened, or that it is a folder.
+pub(crate) fn tell_opened<O: Opener>(
     opener: &O,
     job: &Job<'_>,
     name: &str,

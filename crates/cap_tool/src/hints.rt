@@ -168,9 +168,9 @@ fn input_name<'a>(job: &Job<'a>, file: u32) -> Option<&'a str> {
     Some(called(name_of(job, file)?))
 }
 
-// What a job's list of captures is called.
+// What a job's list of captures, or of printed lines, is called.
 fn list_name<'a>(job: &Job<'a>) -> Option<&'a str> {
-    Some(called(job.list?))
+    Some(called(job.verify.or(job.list)?))
 }
 
 // What a job's output is called.
@@ -200,6 +200,14 @@ fn list_line(alloc: Global, name: &str, cause: &Cause) -> Option<String>
         Cause::Unknown => line(alloc, name, &"it can't be read"),
         _ => cause_line(alloc, name, cause),
     }
+}
+
+// Which line of a list isn't one that `capt digest --names` prints.
+fn other_line(alloc: Global, name: &str, number: u64) -> Option<String>
+    ensures { IfSome result (λ line. IsHintLine (string_bytes line)) }
+{
+    let why = format!(in alloc; "line {number} isn't a line of 'capt digest --names'").ok()?;
+    line(alloc, name, &why.as_str())
 }
 
 // What is wrong with a file that is read or written, if a fault is of one.
@@ -258,6 +266,7 @@ pub fn hint<R: Files<File = File>>(
         Outcome::Fault(fault) => fault_line(files, alloc, job, fault, &stop.cause),
         Outcome::Open(file) => cause_line(alloc, input_name(job, file)?, &stop.cause),
         Outcome::List => list_line(alloc, list_name(job)?, &stop.cause),
+        Outcome::ListLine(number) => other_line(alloc, list_name(job)?, number),
         Outcome::Create => cause_line(alloc, output_name(job), &stop.cause),
         _ => None,
     }

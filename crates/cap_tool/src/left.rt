@@ -169,6 +169,7 @@ pub fn left_lines(outcome: &Outcome, left: &DroppedInfo) -> Line
         | Outcome::Fault(_)
         | Outcome::Open(_)
         | Outcome::List
+        | Outcome::ListLine(_)
         | Outcome::Create => Line::new(),
     }
 }

@@ -107,6 +107,7 @@ pub fn left_out_line(outcome: &Outcome, left: &DroppedInfo) -> Line
         | Outcome::Fault(_)
         | Outcome::Open(_)
         | Outcome::List
+        | Outcome::ListLine(_)
         | Outcome::Create => Line::new(),
     }
 }

@@ -6,7 +6,9 @@ mod causes;
 mod checks;
 mod created;
 mod cuts;
+mod digest_lines;
 mod errno_writers;
+mod growing;
 mod hints;
 mod host;
 mod kinds;
@@ -27,13 +29,16 @@ mod runs;
 mod shared;
 mod streams;
 mod systems;
+mod verify;
 mod whole;
 
 pub use crate::causes::Cause;
 pub use crate::checks::check_named;
 pub use crate::created::create_for;
 pub use crate::cuts::put_cuts;
+pub use crate::digest_lines::{DigestLine, line_names, lines_in};
 pub use crate::errno_writers::ErrnoWriter;
+pub use crate::growing::Growing;
 pub use crate::hints::{hint, hint_object};
 pub use crate::host::{StandardStreams, run};
 pub use crate::kinds::{Kind, kind_at, kind_of};
@@ -55,6 +60,7 @@ pub use crate::streams::{
     Input, Inputs, Output, check_output, check_terminal, create_output, open_all,
 };
 pub use crate::systems::System;
+pub use crate::verify::{Verdict, verify_lines};
 pub use crate::whole::{AtomicOutput, create_beside};
 pub use cap_commands::{
     DEFAULT_OPTIONS, DiffOptions, Differences, Done, DroppedInfo, Finding, blocks_json_to,

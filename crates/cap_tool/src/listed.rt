@@ -102,15 +102,15 @@ pub fn read_list<O: Opener>(opener: &O, alloc: Global, name: &str) -> Result<Vec
     }
 }
 
-// The bytes before the first NUL, and those behind it: all, and none, if there is no NUL.
-fn split_piece(list: &[u8]) -> (&[u8], &[u8])
+/// The bytes before the first that is `end`, and those behind it: all, and none, if no byte is.
+pub(crate) fn split_piece(end: u8, list: &[u8]) -> (&[u8], &[u8])
     requires { list.now ≢ [] }
-    ensures pieces { pieces list.now ≡ result.0.now ∷ pieces result.1.now }
+    ensures pieces { pieces end list.now ≡ result.0.now ∷ pieces end result.1.now }
     ensures less { length result.1.now < length list.now }
 {
-    match memchr(0, list) {
-        Some(end) => {
-            let (piece, rest) = list.split_at(end);
+    match memchr(end, list) {
+        Some(place) => {
+            let (piece, rest) = list.split_at(place);
             (piece, rest.split_at(1).1)
         }
         None => (list, NONE),
@@ -137,7 +137,7 @@ pub fn names_in(alloc: Global, list: &[u8]) -> Result<Vec<String>, AllocError>
     let mut names = Vec::new(alloc);
     let mut rest = list;
     while !rest.is_empty() {
-        let (piece, behind) = split_piece(rest);
+        let (piece, behind) = split_piece(0, rest);
         names.push(name_of(alloc, piece)?)?;
         rest = behind;
     }

@@ -5,7 +5,7 @@ ghost use Rattle.cap_bytes.specs.Device.{Puts, WriterKeeps, writer_of};
 ghost use Rattle.cap_bytes.specs.Printing.{PrintsFront};
 ghost use Rattle.cap_print.specs.Lines.{text_in};
 ghost use Rattle.cap_tool.specs.Objects.{escaped_character, open_fields, outcome_json, path_json, path_of};
-ghost use Rattle.cap_tool.specs.Objects.{read_fields, refused_fields, told_in, told_json};
+ghost use Rattle.cap_tool.specs.Objects.{list_line_json, read_fields, refused_fields, told_in, told_json};
 ghost use Rattle.cap_tool.specs.Outcomes.{HelpEnds, is_help};
 
 use crate::outcomes::{Outcome, outcome_line, tell};
@@ -124,6 +124,19 @@ fn put_end<W: Sink>(path: Option<&str>, writer: &mut W) -> Result<(), Fault>
     }
 }
 
+// `{"type":"fault","fault":"list","line":3}`
+fn list_line_object(line_number: u64) -> Line
+    ensures { text_in result ≡ list_line_json line_number }
+{
+    let mut line = Line::new();
+    line.prepend_text(b"}\n");
+    line.prepend_field(
+        b"{\"type\":\"fault\",\"fault\":\"list\",\"line\":",
+        line_number,
+    );
+    line
+}
+
 /// Writes an object: `fields` is what stands before the word that named its file.
 pub(crate) fn put_object<W: Sink>(
     fields: &[u8],
@@ -173,6 +186,7 @@ pub fn outcome_object<W: Sink>(
             put_all(writer, b"{\"type\":\"fault\",\"fault\":\"memory\"}\n")
         }
         Outcome::List => put_all(writer, b"{\"type\":\"fault\",\"fault\":\"list\"}\n"),
+        Outcome::ListLine(line) => put_all(writer, list_line_object(*line).as_slice()),
         Outcome::Create => put_all(writer, b"{\"type\":\"fault\",\"fault\":\"create\"}\n"),
         Outcome::Done | Outcome::Differ | Outcome::NotWhole | Outcome::Line(_) => outcome_line(
             outcome, writer,

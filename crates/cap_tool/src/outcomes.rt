@@ -3,7 +3,7 @@ ghost use Rattle.std.specs.Prelude.{◌≡◌, ◌++◌, is_err, IsTrue, IsFalse
 ghost use Rattle.cap_bytes.specs.Device.{Puts, WriterKeeps, writer_of};
 ghost use Rattle.cap_print.specs.Lines.{text_in};
 ghost use Rattle.cap_tool.specs.Outcomes.{ends_by, status_after, line_fault_text, outcome_text, open_text, told_text};
-ghost use Rattle.cap_tool.specs.Outcomes.{is_help, HelpEnds};
+ghost use Rattle.cap_tool.specs.Outcomes.{is_help, HelpEnds, list_line_text};
 ghost use Rattle.cap_bytes.specs.Printing.{PrintsFront};
 
 use crate::causes::Cause;
@@ -18,9 +18,9 @@ use std::io;
 pub enum Outcome {
     /// All was done.
     Done,
-    /// All was done, and two captures that were compared differ.
+    /// All was done, and captures that were compared or verified differ.
     Differ,
-    /// All was done, and a file that was checked isn't whole.
+    /// All was done, and a file that was checked isn't whole, or one that was verified is missing.
     NotWhole,
     /// The command line was not run.
     Line(LineFault),
@@ -30,6 +30,8 @@ pub enum Outcome {
     Open(u32),
     /// The list of the captures could not be opened or read.
     List,
+    /// That line, from 1, of a list isn't one that `capt digest --names` prints.
+    ListLine(u64),
     /// The output could not be created, or is one of the files that are read.
     Create,
 }
@@ -77,6 +79,16 @@ impl RunStop {
         }
     }
 
+    /// A run of which that line, from 1, of its list isn't one that `capt digest --names` prints.
+    pub fn list_line(line: u64) -> RunStop
+        ensures { result ≡ record { outcome = Outcome.ListLine line; cause = Cause.Unknown } }
+    {
+        RunStop {
+            outcome: Outcome::ListLine(line),
+            cause: Cause::Unknown,
+        }
+    }
+
     /// A run in which memory was refused.
     pub fn memory() -> RunStop
         ensures { result ≡ record { outcome = Outcome.Fault Fault.Memory; cause = Cause.Memory } }
@@ -114,7 +126,7 @@ pub fn end_of(answer: Result<Finding, Fault>, flushed: io::Result<()>) -> Result
 
 /// The status that the process ends with: 0 for a run that is done and for help, 1 if an input is refused, if a file
 /// that is checked isn't whole, or if a device, an opening, a list, a creation or memory fails, 2 for an invalid
-/// command line, 3 for captures that differ.
+/// command line or line of a list, 3 for captures that differ.
 pub fn status_of(outcome: &Outcome) -> u8
     ensures { result ≡ status_after outcome.now }
 {
@@ -126,7 +138,8 @@ pub fn status_of(outcome: &Outcome) -> u8
         | Outcome::List
         | Outcome::Create
         | Outcome::Line(LineFault::Memory) => 1,
-        Outcome::Line(LineFault::Line)
+        Outcome::ListLine(_)
+        | Outcome::Line(LineFault::Line)
         | Outcome::Line(LineFault::Files)
         | Outcome::Line(LineFault::Input)
         | Outcome::Line(LineFault::Output) => 2,
@@ -141,6 +154,16 @@ fn open_line(file: u32) -> Line
     let mut line = Line::new();
     line.prepend_text(b"\n");
     line.prepend_field(b"fault: open file ", u64::from(file));
+    line
+}
+
+// `fault: line 3 of list`
+fn list_line(line_number: u64) -> Line
+    ensures { text_in result ≡ list_line_text line_number }
+{
+    let mut line = Line::new();
+    line.prepend_text(b" of list\n");
+    line.prepend_field(b"fault: line ", line_number);
     line
 }
 
@@ -172,6 +195,7 @@ pub fn outcome_line<W: Sink>(outcome: &Outcome, writer: &mut W) -> Result<(), Fa
         Outcome::Fault(fault) => put_all(writer, fault_line(*fault).as_slice()),
         Outcome::Open(file) => put_all(writer, open_line(*file).as_slice()),
         Outcome::List => put_all(writer, b"fault: read list\n"),
+        Outcome::ListLine(line) => put_all(writer, list_line(*line).as_slice()),
         Outcome::Create => put_all(writer, b"fault: create output\n"),
     }
 }

@@ -11,13 +11,16 @@ ghost use Rattle.cap_bytes.specs.Device.{WriterKeeps, writer_of};
 ghost use Rattle.cap_bytes.specs.Printing.{is_write};
 ghost use Rattle.cap_commands.specs.JobLeft.{JobLeaves};
 ghost use Rattle.cap_commands.specs.Jobs.{finding_in};
+ghost use Rattle.cap_tool.specs.DigestLines.{entry_of};
 ghost use Rattle.cap_tool.specs.Outcomes.{is_help};
-ghost use Rattle.cap_tool.specs.Runs.{EndsBy, Runs, RunsAll, RunsBy, RunsChecks, RunsFiles, RunsJob};
+ghost use Rattle.cap_tool.specs.Runs.{EndsBy, Runs, RunsAll, RunsBy, RunsChecks, RunsFiles, RunsJob, RunsVerified};
+ghost use Rattle.cap_tool.specs.Runs.{RunsVerify};
 ghost use Rattle.cap_tool.specs.Runs.{StopsFirst, StopsMaking, ended_as, names_of, outcome_after};
 ghost use Rattle.cap_tool.specs.declared.outcomes.RunStop.{RunStop};
 
 use crate::causes::Cause;
 use crate::checks::check_named;
+use crate::digest_lines::{DigestLine, line_names, lines_in};
 use crate::left::Told;
 use crate::listed::{check_listed, names_and_list, read_list, texts_of};
 use crate::outcomes::{Outcome, RunStop, end_of};
@@ -25,6 +28,7 @@ use crate::outlets::Outlet;
 use crate::reserved_stdio::check_input;
 use crate::streams::{Inputs, open_all};
 use crate::systems::System;
+use crate::verify::verify_lines;
 use cap_bytes::{Fault, Source};
 use cap_commands::{Done, DroppedInfo, Finding, NOTHING_LEFT, job_to};
 use cap_line::{Job, LineFault, NOT_UTF_8, USAGE, is_surveying, message, parse};
@@ -257,7 +261,90 @@ fn run_listed<S: System>(
     run_checks(system, alloc, job, listed, read.as_slice())
 }
 
+// Says of lines whether they still hold, once the output is created. `read` has the names of all that is read: of the
+// list too.
+fn run_lines<'n, S: System>(
+    system: &S,
+    alloc: Global,
+    job: &Job<'_>,
+    lines: &[DigestLine],
+    read: &[&'n str],
+) -> Result<DroppedInfo, RunStop>
+    ensures runs { StopsMaking (S.makes system.now job.now) result
+        ⊎ RunsVerify (S.gives system.now) (λ s. record {
+          told = S.Reader.tells_coming s;
+          bytes = S.Reader.coming s;
+          can_fail = S.Reader.can_fail s;
+        }) (S.makes system.now job.now) (λ w. record {
+          told = S.Writer.tells_held w;
+          held = S.Writer.held w;
+          waiting = S.Writer.waiting w;
+        }) (S.commits system.now) job.now (map entry_of lines.now) result }
+    ensures help { IsFalse (is_help (outcome_after result)) }
+{
+    let (mut writer, name) = system.create(job, read, &[], None)?;
+    let found = verify_lines(system, alloc, job, lines, &mut writer);
+    let ended = end_in(found, NOTHING_LEFT, &mut writer);
+    system.commit(name, ended)
+}
+
+// Says of each line of the list of that name, which `digest --names` printed, whether it still holds.
+fn run_verified<S: System>(
+    system: &S,
+    alloc: Global,
+    job: &Job<'_>,
+    list: &str,
+) -> Result<DroppedInfo, RunStop>
+    ensures runs { RunsVerified (S.gives system.now) (λ s. record {
+      told = S.Reader.tells_coming s;
+      bytes = S.Reader.coming s;
+      can_fail = S.Reader.can_fail s;
+    }) (S.makes system.now job.now) (λ w. record {
+      told = S.Writer.tells_held w;
+      held = S.Writer.held w;
+      waiting = S.Writer.waiting w;
+    }) (S.commits system.now) job.now list.now result }
+    ensures help { IsFalse (is_help (outcome_after result)) }
+{
+    let bytes = read_list(system, alloc, list)?;
+    let lines = lines_in(alloc, bytes.as_slice())?;
+    let Ok(read) = line_names(alloc, lines.as_slice(), list) else {
+        return Err(RunStop::memory());
+    };
+    let named = without_last(read.as_slice());
+    if let Err(fault) = check_listed(job.task, list, named) {
+        return Err(RunStop::from(Outcome::Line(fault)));
+    }
+    run_lines(system, alloc, job, lines.as_slice(), read.as_slice())
+}
+
 // Does a job over its files, or over the captures that its list has.
+fn run_named<S: System>(
+    system: &S,
+    alloc: Global,
+    job: &Job<'_>,
+    counts: bool,
+) -> Result<DroppedInfo, RunStop>
+    requires { IsWholeJob job.now }
+    ensures runs { RunsBy (option_map (λ l. l.now) job.now.list) (S.gives system.now) (λ s. record {
+      told = S.Reader.tells_coming s;
+      bytes = S.Reader.coming s;
+      can_fail = S.Reader.can_fail s;
+    }) (S.makes system.now job.now) (λ w. record {
+      told = S.Writer.tells_held w;
+      held = S.Writer.held w;
+      waiting = S.Writer.waiting w;
+    })
+        (S.commits system.now) (S.lacks_input system.now) job.now result }
+    ensures help { IsFalse (is_help (outcome_after result)) }
+{
+    match job.list {
+        Some(list) => run_listed(system, alloc, job, list),
+        None => run_task(system, alloc, job, counts),
+    }
+}
+
+// Verifies lines, or does a job over its files or its list.
 fn run_all<S: System>(
     system: &S,
     alloc: Global,
@@ -277,9 +364,9 @@ fn run_all<S: System>(
         (S.commits system.now) (S.lacks_input system.now) job.now result }
     ensures help { IsFalse (is_help (outcome_after result)) }
 {
-    match job.list {
-        Some(list) => run_listed(system, alloc, job, list),
-        None => run_task(system, alloc, job, counts),
+    match job.verify {
+        Some(list) => run_verified(system, alloc, job, list),
+        None => run_named(system, alloc, job, counts),
     }
 }
 

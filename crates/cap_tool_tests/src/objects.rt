@@ -58,6 +58,10 @@ const OBJECTS: [(Outcome, &str); 12] = [
     ),
     (Outcome::List, "{\"type\":\"fault\",\"fault\":\"list\"}\n"),
     (
+        Outcome::ListLine(3),
+        "{\"type\":\"fault\",\"fault\":\"list\",\"line\":3}\n",
+    ),
+    (
         Outcome::Create,
         "{\"type\":\"fault\",\"fault\":\"create\"}\n",
     ),

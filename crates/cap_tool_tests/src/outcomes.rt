@@ -37,6 +37,7 @@ const TOLD: [(Outcome, &str, u8); 14] = [
     (Outcome::Fault(Fault::Memory), "fault: memory\n", 1),
     (Outcome::Open(1), "fault: open file 1\n", 1),
     (Outcome::List, "fault: read list\n", 1),
+    (Outcome::ListLine(3), "fault: line 3 of list\n", 2),
     (Outcome::Create, "fault: create output\n", 1),
     (Outcome::Line(LineFault::Files), "fault: files\n", 2),
     (Outcome::Line(LineFault::Input), "fault: input\n", 2),
@@ -58,7 +59,7 @@ fn displayed(alloc: Global, outcome: &Outcome) -> Option<String> {
         Outcome::Fault(fault) => format!(in alloc; "{fault}\n").ok(),
         Outcome::Line(fault) => format!(in alloc; "{fault}\n").ok(),
         Outcome::Done | Outcome::Differ | Outcome::NotWhole => None,
-        Outcome::Open(_) | Outcome::List | Outcome::Create => None,
+        Outcome::Open(_) | Outcome::List | Outcome::ListLine(_) | Outcome::Create => None,
     }
 }
 

@@ -180,13 +180,25 @@ impl<'a> System for Desk<'a> {
 
 // How a run of some words ends over a shelf, and what it writes.
 fn runs(rt: &impl Abort, alloc: Global, words: &[&str], ending: Outcome, text: &str) {
+    runs_over(rt, alloc, LIST, words, ending, text);
+}
+
+// The same over a shelf with that list.
+fn runs_over(
+    rt: &impl Abort,
+    alloc: Global,
+    list: &[u8],
+    words: &[&str],
+    ending: Outcome,
+    text: &str,
+) {
     let one = hex::decode(alloc, ONE).expect(rt, "bytes in hex");
     let written = RefCell::new(Vec::new(alloc));
     let desk = Desk {
         alloc,
         shelf: Shelf {
             one: one.as_slice(),
-            list: LIST,
+            list,
         },
         written: &written,
     };
@@ -290,4 +302,59 @@ fn always_memory_digests_are_run(rt: HostRuntime) {
     for (words, text) in &DIGEST_RUNS {
         runs(&rt, rt.alloc(), *words, Outcome::NotWhole, *text);
     }
+}
+
+// Lists of lines, how a run ends that verifies them, and what it says: of what `digest --names` printed; of a line of
+// another number, of one whose packets are others, and of one whose name is shown by a code; and of no lines.
+const VERIFIED: [(&[u8], Outcome, &str); 7] = [
+    (
+        b"digest 1 sha256 ae7312267c797be18247384507fd1956f2af9397397bd84f72a62298f1352b4e packets 1 name one\n",
+        Outcome::Done,
+        "verify 1 same name one\n",
+    ),
+    (
+        b"digest 7 sha256 ae7312267c797be18247384507fd1956f2af9397397bd84f72a62298f1352b4e packets 1 name one",
+        Outcome::Done,
+        "verify 7 same name one\n",
+    ),
+    (
+        b"digest 1 sha256 ae7312267c797be18247384507fd1956f2af9397397bd84f72a62298f1352b4e packets 2 name one\n",
+        Outcome::Differ,
+        "verify 1 differs name one\n",
+    ),
+    (
+        b"digest 1 open name one\ndigest 2 open name \\u{1b}two\n",
+        Outcome::NotWhole,
+        "verify 1 differs name one\nverify 2 missing name \\u{1b}two\n",
+    ),
+    (b"", Outcome::Done, ""),
+    (
+        b"digest 1 open name one\ncheck 2 open name two\n",
+        Outcome::ListLine(2),
+        "",
+    ),
+    (b"digest 01 open name one\n", Outcome::ListLine(1), ""),
+];
+
+#[test]
+fn always_memory_lines_are_verified(rt: HostRuntime) {
+    let words = ["capt", "digest", "--verify", "list"];
+    for (list, ending, text) in &VERIFIED {
+        runs_over(&rt, rt.alloc(), *list, words.as_slice(), *ending, *text);
+    }
+}
+
+// The same as objects, and lists that can't be read or stand beside what they can't.
+#[test]
+fn always_memory_lines_are_verified_alone(rt: HostRuntime) {
+    let list = b"digest 1 open name one\n";
+    let json = ["capt", "digest", "--json", "--verify", "list"];
+    let object =
+        "{\"type\":\"verify\",\"file\":1,\"result\":\"differs\",\"path\":\"one\"}\n";
+    runs_over(&rt, rt.alloc(), list, json.as_slice(), Outcome::Differ, object);
+    let unread = ["capt", "digest", "--verify", "two"];
+    runs_over(&rt, rt.alloc(), list, unread.as_slice(), Outcome::List, "");
+    let beside = ["capt", "digest", "--verify", "list", "one"];
+    let line = Outcome::Line(LineFault::Line);
+    runs_over(&rt, rt.alloc(), list, beside.as_slice(), line, "");
 }

@@ -128,6 +128,7 @@ fn does<W: Sink>(
     holds!(rt; !job.files.is_empty());
     holds!(rt; job.files.len() <= 32);
     holds!(rt; job.list.is_none());
+    holds!(rt; job.verify.is_none());
     holds!(rt; is_whole(job.task, job.files.len(), job.to, job.out));
     holds!(rt; can_replace(job.whole, job.out));
     let done = job_to(alloc, job, sources, false, writer)?;
@@ -147,6 +148,7 @@ fn counts<W: Sink>(
     holds!(rt; !job.files.is_empty());
     holds!(rt; job.files.len() <= 32);
     holds!(rt; job.list.is_none());
+    holds!(rt; job.verify.is_none());
     holds!(rt; is_whole(job.task, job.files.len(), job.to, job.out));
     holds!(rt; can_replace(job.whole, job.out));
     job_to(alloc, job, sources, true, writer)
@@ -169,6 +171,7 @@ fn printing(rt: &impl Abort, alloc: Global, task: Task, allow_cut: bool) -> Job<
         data: None,
         ignored: NOTHING_IGNORED,
         list: None,
+        verify: None,
         class: false,
         digests: false,
         names: false,
@@ -282,6 +285,7 @@ fn writes(rt: &impl Abort, alloc: Global, row: &Written) {
         data: None,
         ignored: NOTHING_IGNORED,
         list: None,
+        verify: None,
         class: false,
         digests: false,
         names: false,
