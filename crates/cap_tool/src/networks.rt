@@ -92,6 +92,7 @@ pub fn network_line(form: Form, outcome: &Outcome, left: &DroppedInfo) -> Line
         | Outcome::Fault(_)
         | Outcome::Open(_)
         | Outcome::List
+        | Outcome::ListLine(_)
         | Outcome::Create => Line::new(),
     }
 }
