@@ -42,7 +42,7 @@ pub record SectionProgress : Type 0 where
   pub first : Option Interface
 
 -- The types of the skipped blocks that are counted by themselves: Name Resolution Blocks
--- (draft-ietf-opsawg-pcapng, 4.5) and Decryption Secrets Blocks (4.7).
+-- (draft-ietf-opsawg-pcapng, 4.5) and Decryption Secrets Blocks (4.8).
 abbrev pub names_kind : ℕ
 names_kind = 4
 

@@ -31,7 +31,7 @@ pub struct Ending {
 /// How many blocks of a file were skipped of the types that are counted by themselves; none in a pcap file.
 #[derive(Clone, Copy, Debug, PartialEq, Eq)]
 pub struct SkippedKinds {
-    /// Decryption Secrets Blocks, of type 10. draft-ietf-opsawg-pcapng, 4.7.
+    /// Decryption Secrets Blocks, of type 10. draft-ietf-opsawg-pcapng, 4.8.
     pub secrets: u64,
     /// Name Resolution Blocks, of type 4. draft-ietf-opsawg-pcapng, 4.5.
     pub names: u64,

@@ -33,7 +33,7 @@ is_other b = not (is_known_kind b.0.kind)
 abbrev pub told : Standing → Interface
 told b = interface_at b.0.order b.1 (options_of b.0.order (drop 8 b.1))
 
--- a block of secrets, and one of names, both of which are skipped. draft-ietf-opsawg-pcapng, 4.7 and 4.5.
+-- a block of secrets, and one of names, both of which are skipped. draft-ietf-opsawg-pcapng, 4.8 and 4.5.
 abbrev pub is_secrets : Standing → Bool
 is_secrets b = b.0.kind == secrets_kind
 
