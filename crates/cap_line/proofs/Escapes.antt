@@ -119,7 +119,8 @@ pub shown_chars : (keeps : Bool) (text : List ℕ) → IsUtf8 text
     → chars (shown_text keeps text) ≡ flat_map (shown_char keeps) (chars text)
 shown_chars keeps text utf8 =
     chars-encodes (flat_map (shown_char keeps) (chars text))
-    (good-scalars keeps (flat_map (shown_char keeps) (chars text)) (all-good keeps (chars text) (scalars-chars text utf8)))
+    (good-scalars keeps (flat_map (shown_char keeps) (chars text))
+    (all-good keeps (chars text) (scalars-chars text utf8)))
 
 same-chars : (keeps : Bool) (cs : List ℕ) → All (λ c. IsFalse (is_escaped keeps c)) cs
     → flat_map (shown_char keeps) cs ≡ cs

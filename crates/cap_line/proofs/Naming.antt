@@ -1,5 +1,6 @@
 -- The files that a task is given, by their own names or by a file that has these.
-use Rattle.std.proofs.Common.{◌≡◌, ◌⊎◌, ◌≤◌, ℕ, List, Option, Some, None, Result, Ok, Err, length, arith, IsTrue, IsSome}
+use Rattle.std.proofs.Common.{◌≡◌, ◌⊎◌, ◌≤◌, ℕ, List, Option, Some}
+use Rattle.std.proofs.Common.{None, Result, Ok, Err, length, arith, IsTrue, IsSome}
 use Rattle.clap.specs.Words.{Row, Text}
 use Rattle.cap_line.specs.CommandLine.{CannotVerify, IsJobBy, files_in, names_file_in, out_in}
 use Rattle.cap_line.specs.Jobs.{inputs_fault, is_surveying, least_files, most_files, task_by}

@@ -7,9 +7,11 @@ use Rattle.std.specs.Char.Escape.{escape_unicode}
 use Rattle.std.specs.List.{starts_with, take_while}
 use Rattle.std.specs.Str.Parse.{digits_value_after}
 use Rattle.std.proofs.lemmas.List.{append-nil, append_assoc, nil_from_length}
-use Rattle.std.proofs.lemmas.Str.{chars-append, chars-encodes, chars-nil, chars_past_char, encodes-append, encodes-chars, length-encode}
+use Rattle.std.proofs.lemmas.Str.{chars-append, chars-encodes, chars-nil}
+use Rattle.std.proofs.lemmas.Str.{chars_past_char, encodes-append, encodes-chars, length-encode}
 use Rattle.std.proofs.lemmas.Str.{len_utf8_bounds}
-use Rattle.cap_line.proofs.ShownNames.{escaped-front, escaped-of, hex-more, hidden-small, hex-over, opened, starts-front, unshown-hidden}
+use Rattle.cap_line.proofs.ShownNames.{escaped-front, escaped-of, hex-more, hidden-small}
+use Rattle.cap_line.proofs.ShownNames.{hex-over, opened, starts-front, unshown-hidden}
 use Rattle.cap_line.proofs.ShownNames.{unshown-plain}
 use Rattle.cap_line.specs.Shown.{escaped_first, hex_code, is_hex_digit, is_hidden, unshown_past}
 

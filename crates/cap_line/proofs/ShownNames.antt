@@ -1,5 +1,6 @@
 -- The characters of a name, from those that a terminal shows of it.
-use Rattle.std.proofs.Common.{◌≡◌, ◌&&◌, ◌||◌, ◌==◌, ◌+◌, ◌*◌, ◌-◌, ◌/◌, ◌%◌, ◌<◌, ◌≤◌, ℕ, zero, suc, nat_lt, Bool, true, false}
+use Rattle.std.proofs.Common.{◌≡◌, ◌&&◌, ◌||◌, ◌==◌, ◌+◌, ◌*◌, ◌-◌, ◌/◌, ◌%◌}
+use Rattle.std.proofs.Common.{◌<◌, ◌≤◌, ℕ, zero, suc, nat_lt, Bool, true, false}
 use Rattle.std.proofs.Common.{not, List, [], ◌∷◌, ◌++◌, take, drop, length, Option, Some, None, cond, if◌then◌else◌}
 use Rattle.std.proofs.Common.{refl, sym, ap, subst, ◌∙◌, arith, flat_map, append_assoc, append-nil, is_some}
 use Rattle.std.specs.Char.{digit_char, digit_value}
@@ -11,7 +12,8 @@ use Rattle.std.proofs.lemmas.Bool.Decides.{Decides-eqb}
 use Rattle.std.proofs.lemmas.Slice.Eq.{starts_is}
 use Rattle.std.proofs.lemmas.Str.{chars-nil, digit_value-digit_char, encodes-chars}
 use Rattle.cap_line.proofs.Escapes.{shown_chars}
-use Rattle.cap_line.specs.Shown.{escaped_first, hex_code, is_escaped, is_hex_digit, is_hidden, shown_char, spells_hidden}
+use Rattle.cap_line.specs.Shown.{escaped_first, hex_code, is_escaped}
+use Rattle.cap_line.specs.Shown.{is_hex_digit, is_hidden, shown_char, spells_hidden}
 use Rattle.cap_line.specs.Shown.{shown_text, unshown_past, unshown_text}
 
 -- a list begins with another

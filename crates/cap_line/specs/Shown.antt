@@ -1,6 +1,7 @@
 -- What a terminal shows of a text that someone else chose.
 use Rattle.std.specs.Prelude.{◌&&◌, ◌||◌, ◌==◌, ℕ, Bool, true, false, not, nat_le, if◌then◌else◌, List, [], ◌∷◌, chars}
-use Rattle.std.specs.Prelude.{◌-◌, suc, zero, nat_lt, drop, take, length, encode_utf8_all, flat_map, IsFalse, Option, Some}
+use Rattle.std.specs.Prelude.{◌-◌, suc, zero, nat_lt, drop, take}
+use Rattle.std.specs.Prelude.{length, encode_utf8_all, flat_map, IsFalse, Option, Some}
 use Rattle.std.specs.Prelude.{None, is_some}
 use Rattle.std.specs.Char.{digit_value}
 use Rattle.std.specs.Char.Escape.{escape_unicode}

@@ -73,8 +73,8 @@ pub struct Job<'a> {
     /// The file that lists the captures in place of `files`, for `Digest` and `Check`: a NUL ends the name of each. `-`
     /// is standard input.
     pub list: Option<&'a str>,
-    /// The file whose lines `Digest` verifies, in place of `files` and `list`: lines that `capt digest --names` printed.
-    /// `-` is standard input.
+    /// The file whose lines `Digest` verifies, in place of `files` and `list`: lines that `capt digest --names`
+    /// printed. `-` is standard input.
     pub verify: Option<&'a str>,
     /// Whether a cut end of a file is dropped, and not refused.
     pub allow_cut: bool,

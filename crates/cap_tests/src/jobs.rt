@@ -2,8 +2,8 @@
 use crate::checks::same;
 use cap_bytes::Order;
 use cap_line::{
-    Ignored, LineFault, Task, can_replace, can_show, can_verify, check_files, check_inputs, data_of,
-    files_limit, format_of, ignored_of, is_surveying, is_whole, number_of, order_of,
+    Ignored, LineFault, Task, can_replace, can_show, can_verify, check_files, check_inputs,
+    data_of, files_limit, format_of, ignored_of, is_surveying, is_whole, number_of, order_of,
     standard_inputs, task_of, unescape,
 };
 use cap_source::Format;

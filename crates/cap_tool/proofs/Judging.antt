@@ -1,5 +1,6 @@
 -- What is said of lines, one by one.
-use Rattle.std.proofs.Common.{◌≡◌, ◌∙◌, ◌<◌, ◌+◌, ℕ, suc, zero, Bool, true, false, List, [], ◌∷◌, ◌++◌, map, length, Option}
+use Rattle.std.proofs.Common.{◌≡◌, ◌∙◌, ◌<◌, ◌+◌, ℕ, suc, zero, Bool}
+use Rattle.std.proofs.Common.{true, false, List, [], ◌∷◌, ◌++◌, map, length, Option}
 use Rattle.std.proofs.Math.Seq.{take-append-add}
 use Rattle.std.proofs.Common.{Result, Ok, Err, get_or, take, refl, sym, ap, subst, arith, append_assoc, append-nil}
 use Rattle.std.specs.Prelude.{◌||◌}
@@ -16,7 +17,8 @@ use Rattle.cap_print.specs.declared.forms.Form.{Form}
 use Rattle.cap_tool.proofs.CheckedFiles.{AreGiven-more}
 use Rattle.cap_tool.specs.CheckedNames.{AreGiven}
 use Rattle.cap_tool.specs.DigestLines.{Entry}
-use Rattle.cap_tool.specs.Verdicts.{AreVerdicts, IsVerdict, JudgesLine, Verifies, finding_after, is_differing, is_missing}
+use Rattle.cap_tool.specs.Verdicts.{AreVerdicts, IsVerdict, JudgesLine}
+use Rattle.cap_tool.specs.Verdicts.{Verifies, finding_after, is_differing, is_missing}
 use Rattle.cap_tool.specs.Verdicts.{verdict_line, verdict_lines, worst_of}
 use Rattle.cap_tool.specs.declared.verify.Verdict.{Verdict}
 use Rattle.cap_tool.specs.declared.verify.Verdict.TheVariants.{Same, Differs, Missing}
@@ -176,7 +178,8 @@ judged-fault gives known tail form entries entry none place found faults.Write o
           (verdicts-more tail entries (map known a.readers) a.verdicts entry none (known next.0) next.1 a.judged below
           here next.3);
       written = rw all
-          (behind old mid new (verdict_lines form entries a.verdicts) (verdict_line form entry next.1) a.written next.4);
+          (behind old mid new (verdict_lines form entries a.verdicts) (verdict_line form entry next.1) a.written
+          next.4);
     }
 
 -- all are

@@ -13,7 +13,8 @@ use Rattle.std.proofs.lemmas.Str.{IsUtf8-from_is_utf8, is_utf8-from_IsUtf8}
 use Rattle.std.specs.Str.{IsUtf8, bytes_eq, is_utf8}
 use Rattle.cap_tool.proofs.ListedNames.{false-if}
 use Rattle.cap_line.specs.Shown.{shown_text, unshown_text}
-use Rattle.cap_tool.specs.DigestLines.{Entry, entry_by, entry_in, fields_of, named_by, number_before, number_by, split_first}
+use Rattle.cap_tool.specs.DigestLines.{Entry, entry_by, entry_in, fields_of}
+use Rattle.cap_tool.specs.DigestLines.{named_by, number_before, number_by, split_first}
 
 -- a list begins with another
 starts-not : (xs front : List ℕ) → ((rest : List ℕ) → xs ≡ front ++ rest → ⊥) → starts_with ◌==◌ xs front ≡ false
@@ -66,7 +67,8 @@ split-lost part (b ∷ bytes) some lacks =
     rw (starts-not (b ∷ bytes) part (λ rest e. lacks 0 (omega arith) rest e), rest) refl
 
 -- what stands before a name
-pub before-other : (front : List ℕ) → ((rest : List ℕ) → front ≡ codes "digest " ++ rest → ⊥) → number_before front ≡ None
+pub before-other : (front : List ℕ) → ((rest : List ℕ) → front ≡ codes "digest " ++ rest → ⊥)
+    → number_before front ≡ None
 before-other front other = rw (starts-not front (codes "digest ") other) refl
 
 pub before-is : (front rest : List ℕ) (found : Option (List ℕ × List ℕ)) → front ≡ codes "digest " ++ rest

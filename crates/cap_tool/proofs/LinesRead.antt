@@ -1,5 +1,6 @@
 -- The lines of a list, read one by one.
-use Rattle.std.proofs.Common.{◌≡◌, ◌<◌, ◌+◌, ℕ, suc, List, [], ◌∷◌, ◌++◌, Option, Some, None, map, length, refl, sym, ap}
+use Rattle.std.proofs.Common.{◌≡◌, ◌<◌, ◌+◌, ℕ, suc, List, [], ◌∷◌}
+use Rattle.std.proofs.Common.{◌++◌, Option, Some, None, map, length, refl, sym, ap}
 use Rattle.std.proofs.Common.{◌∙◌, arith, append-nil, append_assoc, true, false}
 use Rattle.std.specs.List.{position, position_or_len}
 use Rattle.std.specs.Prelude.{is_none, string_bytes, cond, nat_lt}

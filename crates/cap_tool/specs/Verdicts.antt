@@ -26,8 +26,8 @@ use Rattle.cap_tool.specs.declared.verify.Verdict.TheVariants.{Same, Differs, Mi
 abbrev pub digest_line : ℕ → List ℕ → Check → List ℕ
 digest_line file name check = check_line_in lines.Digest Text file (name_field Text true name) check
 
--- What is said of a line: its file is missing if it can't be opened; it is the same if `digest --names` prints that very
--- line of it, with the number and the name that the line has; or it differs.
+-- What is said of a line: its file is missing if it can't be opened; it is the same if `digest --names` prints that
+-- very line of it, with the number and the name that the line has; or it differs.
 abbrev pub verdict_by : Entry → Check → Verdict
 verdict_by entry check = if bytes_eq (digest_line entry.number entry.name check) entry.text then Same else Differs
 

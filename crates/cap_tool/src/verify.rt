@@ -173,10 +173,10 @@ fn worst_of(found: Finding, verdict: Verdict) -> Finding
 }
 
 /// Says of each line that `capt digest --names` printed, in their order, whether its file is missing, as it can't be
-/// opened, or `capt digest --names` prints that very line of it, with the line's number, or it differs: in a form, `verify
-/// N same name NAME`. It opens one file after another, and closes it before the next. It returns `NotWhole` if a file
-/// is missing, else `Difference` if one differs. It returns `Memory` if a growth is refused, after what it says of the
-/// lines before, and `Write` if a write fails, after a prefix.
+/// opened, or `capt digest --names` prints that very line of it, with the line's number, or it differs: in a form,
+/// `verify N same name NAME`. It opens one file after another, and closes it before the next. It returns `NotWhole` if
+/// a file is missing, else `Difference` if one differs. It returns `Memory` if a growth is refused, after what it says
+/// of the lines before, and `Write` if a write fails, after a prefix.
 pub fn verify_lines<O: Opener, W: Sink>(
     opener: &O,
     alloc: Global,

@@ -349,9 +349,15 @@ fn always_memory_lines_are_verified(rt: HostRuntime) {
 fn always_memory_lines_are_verified_alone(rt: HostRuntime) {
     let list = b"digest 1 open name one\n";
     let json = ["capt", "digest", "--json", "--verify", "list"];
-    let object =
-        "{\"type\":\"verify\",\"file\":1,\"result\":\"differs\",\"path\":\"one\"}\n";
-    runs_over(&rt, rt.alloc(), list, json.as_slice(), Outcome::Differ, object);
+    let object = "{\"type\":\"verify\",\"file\":1,\"result\":\"differs\",\"path\":\"one\"}\n";
+    runs_over(
+        &rt,
+        rt.alloc(),
+        list,
+        json.as_slice(),
+        Outcome::Differ,
+        object,
+    );
     let unread = ["capt", "digest", "--verify", "two"];
     runs_over(&rt, rt.alloc(), list, unread.as_slice(), Outcome::List, "");
     let beside = ["capt", "digest", "--verify", "list", "one"];

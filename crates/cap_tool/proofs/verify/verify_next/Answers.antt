@@ -25,7 +25,8 @@ returns-in_err-put_all-clause-text g c = λ w.
     let judged = rw c.tail_of.ensures at c.in_ok-verdict.ensures.verdict in
     let text = rw c.form_of.ensures at (c.as_slice.ensures.value ∙ c.in_ok-text.ensures) in
     rw (p.1, p.2)
-    (judges-write (g.O.Opener.gives c.args.opener.now) _ _ _ (entry_of c.args.line.now) _ _ _ c.in_err-put_all.field-0.0 _
+    (judges-write (g.O.Opener.gives c.args.opener.now) _ _ _ (entry_of c.args.line.now) _ _ _
+    c.in_err-put_all.field-0.0 _
     c.in_ok-verdict.verdict c.in_err-put_all.ensures.fault given judged text (c.in_err-put_all.ensures.bytes w))
 
 pub returns-clause-text : goal.returns-clause-text
@@ -34,5 +35,6 @@ returns-clause-text g c = λ w.
     c.open-opened.ensures c.as_str-name.ensures.value c.reader_of.ensures in
     let judged = rw c.tail_of.ensures at c.in_ok-verdict.ensures.verdict in
     let text = rw c.form_of.ensures at (c.as_slice.ensures.value ∙ c.in_ok-text.ensures) in
-    judges-line (g.O.Opener.gives c.args.opener.now) _ _ _ (entry_of c.args.line.now) _ _ _ _ c.in_ok-verdict.verdict given judged text
+    judges-line (g.O.Opener.gives c.args.opener.now) _ _ _ (entry_of c.args.line.now) _ _ _ _ c.in_ok-verdict.verdict
+    given judged text
     (c.in_ok-put_all.ensures.bytes w)
