@@ -138,11 +138,11 @@ pub fn status_of(outcome: &Outcome) -> u8
         | Outcome::List
         | Outcome::Create
         | Outcome::Line(LineFault::Memory) => 1,
-        Outcome::ListLine(_)
-        | Outcome::Line(LineFault::Line)
+        Outcome::Line(LineFault::Line)
         | Outcome::Line(LineFault::Files)
         | Outcome::Line(LineFault::Input)
-        | Outcome::Line(LineFault::Output) => 2,
+        | Outcome::Line(LineFault::Output)
+        | Outcome::ListLine(_) => 2,
         Outcome::Differ => 3,
     }
 }
