@@ -1,5 +1,5 @@
-//! What a captured frame is by itself: a whole IPv4 datagram, a fragment of one, or none of both, and of which class; the
-//! class of a packet in a report, and how many packets of each class there are.
+//! What a captured frame is by itself: a whole IPv4 datagram, a fragment of one, or none of both, and of which class;
+//! the class of a packet in a report, and how many packets of each class there are.
 #![tactic(auto)]
 
 mod classes;

@@ -170,7 +170,8 @@ pub report-leaves : (left : ReportLeft) (cuts : List (Option CutRest)) (others :
     → left.not_ipv4 ≡ others → left_of_report left ≡ left_of_report (record { cuts = cuts; not_ipv4 = others })
 report-leaves left cuts others is are = λ i. left_of_report (record { cuts = is i; not_ipv4 = are i })
 
-report-done : (answer : Result ReportLeft Fault) (T : Type 0) (cuts : List (Option CutRest)) (others : Option OtherCounts)
+report-done : (answer : Result ReportLeft Fault) (T : Type 0) (cuts : List (Option CutRest))
+    (others : Option OtherCounts)
     → IfOk answer (λ left. T → left.cuts ≡ cuts) → IfOk answer (λ left. T → left.not_ipv4 ≡ others)
     → IfOk (reported_by answer)
     (λ done. T → done.left ≡ left_of_report (record { cuts = cuts; not_ipv4 = others }))

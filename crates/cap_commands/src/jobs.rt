@@ -3,7 +3,8 @@ ghost use Rattle.std.specs.Prelude.{◌≡◌, ◌≤◌, ◌∷◌, [], Bool, I
 ghost use Rattle.cap_check.specs.CheckText.{WritesChecks, no_names};
 ghost use Rattle.std.specs.List.{list_all};
 ghost use Rattle.cap_line.specs.Jobs.{IsWholeJob};
-ghost use Rattle.cap_commands.specs.Jobs.{Does, Finds, compared_by, counts_line, finding_by, form_by, format_in, found_in};
+ghost use Rattle.cap_commands.specs.Jobs.{Does, Finds, compared_by, counts_line, finding_by, form_by, format_in};
+ghost use Rattle.cap_commands.specs.Jobs.{found_in};
 ghost use Rattle.cap_commands.specs.Jobs.{finding_in, found_by, line_by, listed_by, opened_files, printed_by, shown_by};
 ghost use Rattle.cap_commands.specs.Jobs.{reported_by, tail_of, whole_by, whole_finding, written_by};
 ghost use Rattle.cap_commands.specs.JobLeft.{JobLeaves};

@@ -3,7 +3,8 @@ ghost use Rattle.std.specs.Prelude.{◌≡◌, ◌+◌, ◌*◌, ◌^◌, ◌≤
 ghost use Rattle.cap_print.specs.Lines.{room_in, text_in};
 ghost use Rattle.cap_print.specs.declared.forms.Form.{Form};
 ghost use Rattle.cap_talks.specs.table.OtherNetworks.{sum_of_networks};
-ghost use Rattle.cap_tool.specs.NetworkLine.{networks_in, networks_line, networks_line_if, networks_text, networks_told};
+ghost use Rattle.cap_tool.specs.NetworkLine.{networks_in, networks_line, networks_line_if, networks_text};
+ghost use Rattle.cap_tool.specs.NetworkLine.{networks_told};
 
 use crate::left_out::prepend_class;
 use crate::outcomes::Outcome;
@@ -77,9 +78,9 @@ fn counted_line(form: Form, counts: Option<OtherCounts>) -> Line
     }
 }
 
-/// The line that tells after a run that is done of which networks the packets are that `report` counts as `not-ipv4`: in
-/// text `not-ipv4: ipv6 24745, arp 12, other 3`, without the networks that no packet is of, and in JSON an object of all
-/// three (RFC 8259), `{"type":"not_ipv4","ipv6":24745,"arp":12,"other":3}`. There is no line if there is no such
+/// The line that tells after a run that is done of which networks the packets are that `report` counts as `not-ipv4`:
+/// in text `not-ipv4: ipv6 24745, arp 12, other 3`, without the networks that no packet is of, and in JSON an object of
+/// all three (RFC 8259), `{"type":"not_ipv4","ipv6":24745,"arp":12,"other":3}`. There is no line if there is no such
 /// packet, nor after any other run.
 pub fn network_line(form: Form, outcome: &Outcome, left: &DroppedInfo) -> Line
     ensures { text_in result ≡ networks_told form outcome.now left.now }
