@@ -546,8 +546,8 @@ fn put_divergence<F: PacketFeed, W: Sink>(
 /// line or object has at most `most` bytes of its packet. If the captured bytes differ, the place of the first byte
 /// that differs is printed, and these are the bytes from the row of 16 bytes on in which that byte is. It returns the
 /// cut ends too that were dropped, of the files that have ended. If a file is refused before that, the refusal is
-/// returned. It returns `Read` if a read fails and `Memory` if a growth is refused; after these and a refusal nothing is
-/// printed. It returns `Write` if a write fails, after a prefix.
+/// returned. It returns `Read` if a read fails and `Memory` if a growth is refused; after these and a refusal nothing
+/// is printed. It returns `Write` if a write fails, after a prefix.
 pub fn diff_in<R: Source, W: Sink>(
     alloc: Global,
     first: R,
