@@ -23,7 +23,7 @@ const SECOND_FILE: Refusal = Refusal {
 };
 
 // What is printed of each outcome.
-const OBJECTS: [(Outcome, &str); 12] = [
+const OBJECTS: [(Outcome, &str); 13] = [
     (Outcome::Done, ""),
     (Outcome::Differ, ""),
     (Outcome::NotWhole, ""),

@@ -16,7 +16,7 @@ const SECOND_FILE: Refusal = Refusal {
 };
 
 // What is printed of each outcome but the usage, and the status.
-const TOLD: [(Outcome, &str, u8); 14] = [
+const TOLD: [(Outcome, &str, u8); 15] = [
     (Outcome::Done, "", 0),
     (Outcome::Differ, "", 3),
     (Outcome::NotWhole, "", 1),
