@@ -220,8 +220,8 @@ verify 1 differs name $work/changed" ''
 echo 'check 1 open name a' >> "$work/lines"; run digest --explain --verify "$work/lines"; check 'a line that is none' 2 '' "fault: line 3 of list
   $work/lines: line 3 isn't a line of 'capt digest --names'"
 run digest --json --verify "$work/lines"; check 'such a line, as an object' 2 '' '{"type":"fault","fault":"list","line":3}'
-for line in '' 'digest 0 open name a' 'digest 01 open name a' 'digest 4294967296 open name a' 'digest 1 name a' $'digest 1 open name a\r' 'digest 1 open' ' digest 1 open name a' $'digest 1 open name \xff'; do
-    printf '%s\n' "$line" > "$work/lines"; run digest --verify "$work/lines"; check "the line '$line'" 2 '' 'fault: line 1 of list'
+for entry in '' 'digest 0 open name a' 'digest 01 open name a' 'digest 4294967296 open name a' 'digest 1 name a' $'digest 1 open name a\r' 'digest 1 open' ' digest 1 open name a' $'digest 1 open name \xff'; do
+    printf '%s\n' "$entry" > "$work/lines"; run digest --verify "$work/lines"; check "the line '$entry'" 2 '' 'fault: line 1 of list'
 done
 printf 'digest 1 open name -\ndigest 2 open name -\n' > "$work/lines"; run digest --verify "$work/lines"; check 'standard input twice in lines' 2 '' 'fault: input'
 : > "$work/lines"; run digest --verify "$work/lines"; check 'no lines' 0 '' ''
