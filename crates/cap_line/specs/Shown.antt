@@ -64,7 +64,7 @@ unshown_past past [] = []
 unshown_past (suc past) (c ∷ cs) = unshown_past past cs
 unshown_past zero (c ∷ cs) = with_first (escaped_first (c ∷ cs)) c (λ past. unshown_past past cs)
 
--- the name of which that text is shown in one line
+-- the name that is shown in one line as that text
 abbrev pub unshown_text : List ℕ → List ℕ
 unshown_text text = encode_utf8_all (unshown_past 0 (chars text))
 

@@ -1,4 +1,4 @@
-//! The name of which a terminal shows a text.
+//! The name that a terminal shows as a text.
 ghost use Rattle.std.specs.Prelude.{◌≡◌, ◌++◌, ◌∷◌, ◌<◌, [], IfOk, IsFalse, MatchOption, None, Some, chars, false};
 ghost use Rattle.std.specs.Prelude.{List, length, string_bytes, ℕ};
 ghost use Rattle.std.specs.Char.Escape.{escape_unicode};

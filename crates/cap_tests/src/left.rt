@@ -21,7 +21,7 @@ const CUT: Fault = Fault::Refused(Refusal {
 });
 
 // Files, how a merge or a join of them ends, how many blocks they hold that are skipped, how many of these have secrets
-// and how many names, how many interfaces have a name, and how many packets run back.
+// and how many names, how many interfaces have a name, and how many packets go backward.
 type Row = (&'static [File], Result<(), Fault>, [u128; 5]);
 
 const LEFT: [Row; 6] = [

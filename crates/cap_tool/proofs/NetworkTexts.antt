@@ -1,4 +1,4 @@
--- The line that tells of which networks packets are, as it is put.
+-- The line that tells the networks of packets, as it is put.
 use Rattle.std.proofs.Common.{◌≡◌, ℕ, ◌+◌, List, [], ◌++◌, ap, ◌∙◌, append_assoc}
 use Rattle.std.specs.Prelude.{codes}
 use Rattle.cap_print.specs.declared.forms.Form.TheVariants.{Text}

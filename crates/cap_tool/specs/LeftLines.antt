@@ -27,14 +27,13 @@ no_blocks left = no_kinds left && (other_blocks left == 0)
 abbrev pub drops_nothing : DroppedInfo → Bool
 drops_nothing left = no_blocks left && (left.named == 0)
 
--- The parts of the line of what isn't carried on, each of which is its first part or follows another: the blocks of
--- names,
+-- The parts of the line of what isn't carried on. Each begins the line or follows another. The blocks of names:
 abbrev pub name_blocks_text : Bool → ℕ → List ℕ
 name_blocks_text is_first count =
     if is_first then count_text (codes "not carried on: ") count (codes " block of names") (codes " blocks of names")
     else count_text (codes ", ") count (codes " of names") (codes " of names")
 
--- the blocks of other kinds,
+-- the blocks of other kinds:
 abbrev pub other_blocks_text : Bool → ℕ → List ℕ
 other_blocks_text is_first count =
     if is_first then count_text (codes "not carried on: ") count (codes " block") (codes " blocks")

@@ -28,7 +28,7 @@ pieces end (b ∷ bytes) = if b == end then [] ∷ pieces end bytes else put_to_
 abbrev pub listed_name : List ℕ → List ℕ
 listed_name bytes = if is_utf8 bytes then bytes else utf8_lossy bytes ++ 0 ∷ []
 
--- the names that a list has, of which a NUL ends each
+-- the names that a list has: a NUL ends each
 abbrev pub listed_names : List ℕ → List (List ℕ)
 listed_names bytes = map listed_name (pieces 0 bytes)
 

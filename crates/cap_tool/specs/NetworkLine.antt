@@ -1,4 +1,4 @@
--- The line that tells of which networks the packets are that a report counts as `not-ipv4`.
+-- The line that tells the networks of the packets that a report counts as `not-ipv4`.
 use Rattle.std.specs.Prelude.{◌+◌, ◌==◌, ℕ, List, [], ◌++◌, codes, decimal, Option, Some, None, if◌then◌else◌}
 use Rattle.cap_commands.specs.declared.left.DroppedInfo.{DroppedInfo}
 use Rattle.cap_print.specs.declared.forms.Form.{Form}

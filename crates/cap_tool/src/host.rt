@@ -165,7 +165,7 @@ fn explain<R: Files<File = File> + AllocGlobal>(
     }
 }
 
-// Tells of which networks the packets are that a report counts as `not-ipv4`.
+// Tells the networks of the packets that a report counts as `not-ipv4`.
 fn tell_networks(
     job: Option<&Job<'_>>,
     outcome: &Outcome,

@@ -1,4 +1,4 @@
-//! The line that tells of which networks the packets are that a report counts as `not-ipv4`.
+//! The line that tells the networks of the packets that a report counts as `not-ipv4`.
 ghost use Rattle.std.specs.Prelude.{◌≡◌, ◌+◌, ◌*◌, ◌^◌, ◌≤◌, ◌++◌};
 ghost use Rattle.cap_print.specs.Lines.{room_in, text_in};
 ghost use Rattle.cap_print.specs.declared.forms.Form.{Form};

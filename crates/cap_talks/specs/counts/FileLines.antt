@@ -46,7 +46,7 @@ abbrev pub cut_of : Option Ending → Option CutRest
 cut_of None = None
 cut_of (Some ending) = ending.cut
 
--- the rests of files that were counted, at 32 places, of which those that no file has are empty
+-- the rests of files that were counted, at 32 places; a place that no file has is empty
 abbrev pub counted_cuts : List Counted → List (Option CutRest)
 counted_cuts counted = map (λ it. cut_of it.ending) counted ++ replicate (32 - length counted) None
 

@@ -8,6 +8,6 @@ abbrev pub rests_in : (ℕ → FileEnd) → ℕ → List (Option CutRest)
 rests_in endings zero = []
 rests_in endings (suc file) = rests_in endings file ++ (endings (suc file)).ending.cut ∷ []
 
--- the same at 32 places, of which those that no file has are empty
+-- the same at 32 places; a place that no file has is empty
 abbrev pub rests_by_place : (ℕ → FileEnd) → ℕ → List (Option CutRest)
 rests_by_place endings count = rests_in endings count ++ replicate (32 - count) None

@@ -203,7 +203,7 @@ const OBJECTS: [(File, File, u32, &str, bool); 8] = [
     ),
 ];
 
-// How two files end of which none was cut.
+// How two files end that were not cut.
 fn uncut(is_same: bool) -> DiffEnd {
     DiffEnd {
         is_same,

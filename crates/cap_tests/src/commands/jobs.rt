@@ -373,7 +373,7 @@ fn always_memory_a_job_says_what_was_cut(rt: HostRuntime) {
     drops(&rt, rt.alloc(), Task::Report, CUT_PCAP, record);
 }
 
-// `diff` drops the end of both captures, of which none has a packet.
+// `diff` drops the end of both captures; neither has a packet.
 #[test]
 fn always_memory_a_job_says_what_was_cut_of_two(rt: HostRuntime) {
     let mut job = printing(&rt, rt.alloc(), Task::Diff, true);
