@@ -500,6 +500,8 @@ counted 'a cut end, converted' 'cut: file 1 offset 24, 19 bytes dropped' convert
 counted 'a cut end, joined' 'cut: file 1 offset 24, 19 bytes dropped' join --explain --allow-cut -o "$work/new" "$work/cut.pcap"
 run diff --explain --allow-cut "$work/cut.pcap" <(head -c 25 "$one"); check 'cut ends, compared' 0 '*' 'cut: file 1 offset 24, 19 bytes dropped
 cut: file 2 offset 24, 1 byte dropped'
+run diff --explain --allow-cut "$one" "$work/cut.pcap"; check 'a cut end that makes a difference' 3 '*' 'cut: file 2 offset 24, 19 bytes dropped'
+run diff --explain --json --allow-cut "$work/cut.pcap" "$one"; check 'a cut end that makes a difference, as an object' 3 '*' '{"type":"cut","file":1,"offset":24,"bytes":19,"path":"'"$work/cut.pcap"'"}'
 run check --explain --allow-cut "$one" "$work/cut.pcap"; check 'a cut end, checked' 0 '*' 'cut: file 2 offset 24, 19 bytes dropped'
 run digest --explain --allow-cut "$work/cut.pcap" "$one"; check 'a cut end, digested' 0 '*' 'cut: file 1 offset 24, 19 bytes dropped'
 counted 'a cut end, listed' 'cut: file 1 offset 24, 19 bytes dropped' list --explain --allow-cut "$work/cut.pcap"

@@ -158,7 +158,7 @@ fn explain<R: Files<File = File> + AllocGlobal>(
     let _ = put_all(faults, lines.as_slice());
     let _ = put_all(faults, left_out_line(&stop.outcome, &told.left).as_slice());
     tell_networks(job, &stop.outcome, &told.left, faults);
-    tell_cuts(job, &told.left, faults);
+    tell_cuts(job, &stop.outcome, &told.left, faults);
     if let Some(line) = hint(rt, rt.alloc(), stop, job) {
         let is_object = matches!(job, Some(job) if job.json) && !is_of_line(&stop.outcome);
         tell_hint(rt.alloc(), line.as_str(), is_object, faults);
@@ -179,12 +179,20 @@ fn tell_networks(
     }
 }
 
-// Tells which rests of a job's files were cut and dropped.
-fn tell_cuts(job: Option<&Job<'_>>, left: &DroppedInfo, faults: &mut Tracked<Stderr>) {
-    if let Some(job) = job {
-        let form = form_of(job.json);
-        // a standard error that fails doesn't change how the run ends
-        let _ = put_cuts(&left.cuts, form, job.files.as_slice(), faults);
+// Tells which rests of a job's files were cut and dropped, after a run that is done, or that found a difference.
+fn tell_cuts(
+    job: Option<&Job<'_>>,
+    outcome: &Outcome,
+    left: &DroppedInfo,
+    faults: &mut Tracked<Stderr>,
+) {
+    match job {
+        Some(job) if matches!(outcome, Outcome::Done | Outcome::Differ) => {
+            let form = form_of(job.json);
+            // a standard error that fails doesn't change how the run ends
+            let _ = put_cuts(&left.cuts, form, job.files.as_slice(), faults);
+        }
+        _ => {}
     }
 }
 
@@ -287,10 +295,7 @@ impl<'a, R: Files<File = File> + Clock + AllocGlobal> System for Host<'a, R> {
         let mut output = Tracked::new(self.streams.output);
         let outcome = tell_job(stop.outcome, said, job, &mut output, &mut faults);
         if told.counts {
-            let stop = RunStop {
-                outcome,
-                cause: stop.cause,
-            };
+            let stop = RunStop::because(outcome, stop.cause);
             explain(self.rt, job, &stop, told, &mut faults);
         }
         outcome

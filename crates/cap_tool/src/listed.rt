@@ -69,10 +69,7 @@ fn stop_at(stop: RunStop, file_type: FileType) -> RunStop
     ensures { result.outcome ≡ stop.outcome }
 {
     match file_type {
-        FileType::Folder => RunStop {
-            outcome: stop.outcome,
-            cause: Cause::Folder,
-        },
+        FileType::Folder => RunStop::because(stop.outcome, Cause::Folder),
         _ => stop,
     }
 }

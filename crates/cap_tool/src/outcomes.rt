@@ -5,10 +5,11 @@ ghost use Rattle.cap_print.specs.Lines.{text_in};
 ghost use Rattle.cap_tool.specs.Outcomes.{ends_by, status_after, line_fault_text, outcome_text, open_text, told_text};
 ghost use Rattle.cap_tool.specs.Outcomes.{is_help, HelpEnds, list_line_text};
 ghost use Rattle.cap_bytes.specs.Printing.{PrintsFront};
+ghost use Rattle.cap_commands.specs.Left.{nothing_left};
 
 use crate::causes::Cause;
 use cap_bytes::{Fault, Sink, put_all};
-use cap_commands::{Finding, fault_line};
+use cap_commands::{DroppedInfo, Finding, NOTHING_LEFT, fault_line};
 use cap_line::{LineFault, USAGE};
 use cap_print::Line;
 use std::io;
@@ -43,60 +44,58 @@ pub struct RunStop {
     pub outcome: Outcome,
     /// Why it ended so.
     pub cause: Cause,
+    /// What it left out, if it found a difference.
+    pub left: DroppedInfo,
 }
 
 impl From<Outcome> for RunStop {
     ghost use Rattle.cap_tool.specs.declared.causes.Cause.TheVariants.{Unknown};
 
-    ghost from_gives = { λ outcome stop. stop ≡ record { outcome = outcome; cause = Unknown } };
+    ghost from_gives = { λ outcome stop. stop ≡ record { outcome = outcome; cause = Unknown; left = nothing_left } };
 
     fn from(outcome: Outcome) -> RunStop {
-        RunStop {
-            outcome,
-            cause: Cause::Unknown,
-        }
+        RunStop::because(outcome, Cause::Unknown)
     }
 }
 
 impl RunStop {
-    /// A run whose output can't be created.
-    pub fn create(cause: Cause) -> RunStop
-        ensures { result ≡ record { outcome = Outcome.Create; cause = cause } }
+    /// A run that ended like this for that reason, and found no difference.
+    pub fn because(outcome: Outcome, cause: Cause) -> RunStop
+        ensures { result ≡ record { outcome = outcome; cause = cause; left = nothing_left } }
     {
         RunStop {
-            outcome: Outcome::Create,
+            outcome,
             cause,
+            left: NOTHING_LEFT,
         }
+    }
+
+    /// A run whose output can't be created.
+    pub fn create(cause: Cause) -> RunStop
+        ensures { result ≡ record { outcome = Outcome.Create; cause = cause; left = nothing_left } }
+    {
+        RunStop::because(Outcome::Create, cause)
     }
 
     /// A run whose list of captures can't be opened or read.
     pub fn list(cause: Cause) -> RunStop
-        ensures { result ≡ record { outcome = Outcome.List; cause = cause } }
+        ensures { result ≡ record { outcome = Outcome.List; cause = cause; left = nothing_left } }
     {
-        RunStop {
-            outcome: Outcome::List,
-            cause,
-        }
+        RunStop::because(Outcome::List, cause)
     }
 
     /// A run of which that line, from 1, of its list isn't one that `capt digest --names` prints.
     pub fn list_line(line: u64) -> RunStop
-        ensures { result ≡ record { outcome = Outcome.ListLine line; cause = Cause.Unknown } }
+        ensures { result ≡ record { outcome = Outcome.ListLine line; cause = Cause.Unknown; left = nothing_left } }
     {
-        RunStop {
-            outcome: Outcome::ListLine(line),
-            cause: Cause::Unknown,
-        }
+        RunStop::because(Outcome::ListLine(line), Cause::Unknown)
     }
 
     /// A run in which memory was refused.
     pub fn memory() -> RunStop
-        ensures { result ≡ record { outcome = Outcome.Fault Fault.Memory; cause = Cause.Memory } }
+        ensures { result ≡ record { outcome = Outcome.Fault Fault.Memory; cause = Cause.Memory; left = nothing_left } }
     {
-        RunStop {
-            outcome: Outcome::Fault(Fault::Memory),
-            cause: Cause::Memory,
-        }
+        RunStop::because(Outcome::Fault(Fault::Memory), Cause::Memory)
     }
 }
 

@@ -87,10 +87,7 @@ pub fn check_input(has_no_input: bool, names: &[&str]) -> Result<(), RunStop>
     }
     for (place, name) in names.iter().enumerate() {
         if *name == "-" {
-            return Err(RunStop {
-                outcome: Outcome::Open(place as u32 + 1),
-                cause: Cause::Closed,
-            });
+            return Err(RunStop::because(Outcome::Open(place as u32 + 1), Cause::Closed));
         }
     }
     Ok(())

@@ -1,5 +1,5 @@
 //! A run: what the words of a command line ask for, done over a system, and how that ended.
-ghost use Rattle.std.specs.Prelude.{◌≡◌, ◌⊎◌, IfErr, IfOk, IsFalse, IsTrue, MatchResult, OnOk, Result, Some, map};
+ghost use Rattle.std.specs.Prelude.{◌≡◌, ◌⊎◌, IfErr, IfOk, IsFalse, IsOk, IsTrue, MatchResult, OnOk, Result, Some, map};
 ghost use Rattle.std.specs.Prelude.{◌≤◌, ◌-◌, length, option_map, take, vec_len};
 ghost use Rattle.std.specs.List.{list_all};
 ghost use Rattle.cap_line.specs.CommandLine.{Parses};
@@ -45,13 +45,15 @@ fn end_in<W: Outlet>(
     ensures held { IsTrue (W.tells_held writer.old) → W.held writer.new ≡ W.held writer.old }
     ensures help { IsFalse (is_help (outcome_after result)) }
     ensures done { OnOk result (answer ≡ Ok Finding.Nothing) }
-    ensures left { IfOk result (λ l. l ≡ left) }
+    ensures differs { IfErr result (λ stop. stop.outcome ≡ Outcome.Differ → IsOk answer) }
+    ensures left { MatchResult result (λ l. l ≡ left) (λ stop. stop.left ≡ left) }
 {
     match end_of(answer, writer.flush()) {
         Ok(()) => Ok(left),
         Err(outcome) => Err(RunStop {
             outcome,
             cause: Cause::of_error(writer.error()),
+            left,
         }),
     }
 }
@@ -69,7 +71,8 @@ fn split(answer: Result<Done, Fault>) -> (Result<Finding, Fault>, DroppedInfo)
 
 /// Does a job over the files that it names, of which `sources` gives the bytes in their order, and writes what waits in
 /// the writer's buffer then: the run ends by what `job_to` returns, or by `Fault::Write` if that could not be written.
-/// A run that is done says what it left out; packets that run backward are counted if that is asked for.
+/// A run that is done, or that found a difference, says what it left out; packets that run backward are counted if
+/// that is asked for.
 pub fn run_job<R: Source, W: Outlet>(
     alloc: Global,
     job: &Job<'_>,
@@ -85,6 +88,9 @@ pub fn run_job<R: Source, W: Outlet>(
     ensures help { IsFalse (is_help (outcome_after result)) }
     ensures left { IfOk result (λ left. IsTrue (list_all R.tells_coming sources.items)
         → JobLeaves job.now (map R.coming sources.items) counts left) }
+    ensures differs { IfErr result (λ stop. stop.outcome ≡ Outcome.Differ
+        → IsTrue (list_all R.tells_coming sources.items)
+        → JobLeaves job.now (map R.coming sources.items) counts stop.left) }
 {
     let answer = job_to(alloc, job, sources, counts, writer);
     let (answer, left) = split(answer);
@@ -124,14 +130,14 @@ fn with_read_cause(
 ) -> Result<DroppedInfo, RunStop>
     ensures ended { ended_as result ≡ ended_as ended }
     ensures left { IfOk ended (λ left. result ≡ Ok left) }
+    ensures differs { IfErr ended (λ stop. stop.outcome ≡ Outcome.Differ → result ≡ Err stop) }
 {
     match ended {
         Ok(left) => Ok(left),
         Err(stop) => match stop.outcome {
-            Outcome::Fault(Fault::Read { file, .. }) if is_folder(folders, file) => Err(RunStop {
-                outcome: stop.outcome,
-                cause: Cause::Folder,
-            }),
+            Outcome::Fault(Fault::Read { file, .. }) if is_folder(folders, file) => {
+                Err(RunStop::because(stop.outcome, Cause::Folder))
+            }
             _ => Err(stop),
         },
     }
@@ -370,14 +376,17 @@ fn run_all<S: System>(
     }
 }
 
-// How a run ended, and what it left out: nothing if it isn't done.
+// How a run ended, and what it left out.
 fn end_of_run(answer: Result<DroppedInfo, RunStop>) -> (RunStop, DroppedInfo)
     ensures outcome { result.0.outcome ≡ outcome_after answer }
-    ensures left { IfOk answer (λ left. result.1 ≡ left) }
+    ensures left { MatchResult answer (λ left. result.1 ≡ left) (λ stop. result.1 ≡ stop.left) }
 {
     match answer {
         Ok(left) => (RunStop::from(Outcome::Done), left),
-        Err(stop) => (stop, NOTHING_LEFT),
+        Err(stop) => {
+            let left = stop.left;
+            (stop, left)
+        }
     }
 }
 

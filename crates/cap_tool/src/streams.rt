@@ -272,10 +272,7 @@ pub fn open_all<O: Opener>(
     for (place, name) in names.iter().enumerate() {
         let (input, file_type) = match opener.open(name) {
             Ok(opened) => opened,
-            Err(cause) => return Err(RunStop {
-                outcome: Outcome::Open(place as u32 + 1),
-                cause,
-            }),
+            Err(cause) => return Err(RunStop::because(Outcome::Open(place as u32 + 1), cause)),
         };
         if inputs.add(input, file_type).is_err() {
             return Err(RunStop::memory());

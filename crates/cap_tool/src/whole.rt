@@ -183,10 +183,7 @@ impl AtomicOutput {
         let stop = match answer {
             Ok(left) => match self.rename(files) {
                 Ok(()) => return Ok(left),
-                Err(error) => RunStop {
-                    outcome: Outcome::Fault(Fault::Write),
-                    cause: Cause::from(error),
-                },
+                Err(error) => { RunStop::because(Outcome::Fault(Fault::Write), Cause::from(error)) }
             },
             Err(stop) => stop,
         };
