@@ -22,7 +22,7 @@ import sys
 
 sys.dont_write_bytecode = True
 
-import os, re, shutil, signal, subprocess, tempfile, threading, time
+import collections, os, re, shutil, signal, subprocess, tempfile, threading, time
 from concurrent.futures import FIRST_COMPLETED, ThreadPoolExecutor, wait
 from dataclasses import dataclass, field
 
@@ -109,12 +109,27 @@ def checked(group, room, rlibs):
     words += ["--antt-project", f"{kit()}/rattle/logic/antt-project.json", "--logic-built", f"{kit()}/logic_built"]
     for function in sorted(group.functions):
         words += ["--only", function]
-    how = {"cwd": copy, "stdin": subprocess.DEVNULL, "stdout": subprocess.PIPE, "stderr": subprocess.STDOUT}
     for is_last in (False, True):
-        ran = subprocess.run(words, text=True, errors="replace", **how)
+        status, said = run(words, copy, crate.name)
         # (most likely for memory)
-        if ran.returncode != -signal.SIGKILL or is_last:
-            return ran.stdout
+        if status != -signal.SIGKILL or is_last:
+            return said
+
+
+# how many checks each crate had, and their processor seconds
+costs, counting = collections.defaultdict(lambda: [0, 0.0]), threading.Lock()
+
+
+def run(words, folder, crate):
+    """Runs a check in a folder: its status and what it says. What it cost is the crate's."""
+    how = {"cwd": folder, "stdin": subprocess.DEVNULL, "stdout": subprocess.PIPE, "stderr": subprocess.STDOUT}
+    with subprocess.Popen(words, text=True, errors="replace", **how) as child:
+        said = child.stdout.read()
+        status, used = os.wait4(child.pid, 0)[1:]
+        child.returncode = os.waitstatus_to_exitcode(status)
+    with counting:
+        costs[crate] = [costs[crate][0] + 1, costs[crate][1] + used.ru_utime + used.ru_stime]
+    return child.returncode, said
 
 
 def failures(crate, said):
@@ -272,6 +287,9 @@ def main(words):
             print(*(f"{edit.label}: refused at {goal[:250]}" for goal in goals), sep="\n")
     for it in wrong:
         print(f"edits.py: {it}")
+    for crate, (checks, seconds) in sorted(costs.items(), key=lambda it: -it[1][1]):
+        tried_here = sum(edit.crate.name == crate for group in groups for edit in group.edits)
+        print(f"{crate}: {tried_here} edits in {checks} checks, {seconds:.0f} processor seconds")
     laws = sum(edit.is_of_statements for edit in refused)
     print(f"of the edits that are refused {laws} change a statement or a definition, and no code")
     print(f"{len(refused)} passed, {len(wrong)} failed")
