@@ -1,6 +1,6 @@
 -- What a block adds to what was read of a pcapng file.
-use Rattle.std.proofs.Common.{◌≡◌, ◌≤◌, ◌<◌, ◌+◌, ◌%◌, ℕ, Bool, true, false, List, [], ◌∷◌, length, slice_get, Option}
-use Rattle.std.proofs.Common.{Some, None, is_some, IsSome, IfSome, IsTrue, ◌↔◌, unwrap_or, Result, Ok, Err, refl, sym}
+use Rattle.std.proofs.Common.{◌≡◌, ◌≤◌, ◌<◌, ◌+◌, ◌%◌, ℕ, Bool, true, List, [], ◌∷◌, length, slice_get, Option}
+use Rattle.std.proofs.Common.{Some, None, is_some, IsSome, IfSome, IsTrue, unwrap_or, Result, Ok, Err, refl, sym}
 use Rattle.std.proofs.Common.{ap, ◌∙◌, subst, arith, nat_lt, ◌==◌, cond, length-append}
 use Rattle.std.proofs.lemmas.Bool.Decides.{nat_tests}
 use Rattle.cap_bytes.specs.declared.faults.Refusal.{Refusal}
@@ -19,6 +19,8 @@ use Rattle.cap_bytes.specs.declared.stops.CutRest.{CutRest}
 use Rattle.cap_bytes.specs.declared.stops.Stop.{Stop}
 use Rattle.cap_bytes.specs.declared.stops.Stop.TheVariants as stops
 use Rattle.cap_bytes.proofs.Parsing.{from_none}
+use Rattle.cap_source.proofs.Bodies.{other}
+use Rattle.cap_source.proofs.Commenting.{commented-same, counted-more, first-counted, items-counted}
 use Rattle.cap_source.proofs.Pcaps.{none_stops}
 use Rattle.cap_bytes.specs.Number.{number}
 use Rattle.cap_bytes.specs.declared.faults.Rule.TheVariants as rules
@@ -26,7 +28,7 @@ use Rattle.cap_source.specs.TimeBases.{interface_in}
 use Rattle.cap_source.specs.Contents.{fitting, of_interface, timed_in, simple_in, of_body, described, content_in}
 use Rattle.cap_source.specs.Feed as feeds
 use Rattle.cap_source.specs.Items.{SectionProgress, behind, frame_in, items_at_block, items_of_blocks, ending_with}
-use Rattle.cap_source.specs.Items.{ending_in}
+use Rattle.cap_source.specs.Items.{commented, counted_behind, ending_in}
 use Rattle.cap_source.specs.Items.{unless_faulty, first_in, unless_item}
 use Rattle.cap_source.specs.inner.FileState.{FileState, pcapng_state, lent_length, part_of, FileLearns, FileKeeps}
 use Rattle.cap_source.specs.inner.FileState.{GoesOn}
@@ -101,11 +103,6 @@ content_fit interfaces kind order body =
     (if_fit few body (kind == obsolete_kind) _ _ (timed_fit few interfaces (number order 2 body) order body)
     (if_fit few body (kind == simple_kind) _ _ (simple_fit few interfaces order body) tt))))
 
-pub other : (interfaces : List Interface) (kind : ℕ) (order : Order) (body : List ℕ) → is_known_kind kind ≡ false
-    → content_in interfaces kind order body ≡ Ok (contents.Other kind)
-unfolding content_in
-other interfaces kind order body unknown = grind (arith, nat_tests)
-
 pub padded_body : (kind total size : ℕ) → IsTrue (is_total kind total) → size + 12 ≡ total → size % 4 ≡ 0
 unfolding is_total
 padded_body kind total size allowed is = grind (arith, nat_tests)
@@ -137,19 +134,34 @@ pub items_behind : (f g : ℕ) (p : SectionProgress) (block : Block) (body : Lis
 unfolding items_of_blocks
 items_behind f g p block body content old new fg is e = rw (is, ← e, fg) refl
 
-pub ending_behind : (p : SectionProgress) (block : Block) (body : List ℕ) (content : Result BlockContent Rule)
-    (old new : List (PieceItem Block)) → old ≡ given block body ∷ new
+-- the same with the comments of the block counted in a body that may not be lent
+pub items_counted : (f g : ℕ) (p : SectionProgress) (block : Block) (bytes body : List ℕ)
+    (content : Result BlockContent Rule)
+    (old new : List (PieceItem Block)) → f ≡ g → old ≡ given block body ∷ new
     → content_in p.interfaces block.kind block.order body ≡ content
-    → unless_faulty content (ending_with p None) (ending_in (behind p content) new) ≡ ending_in p old
-unfolding ending_in
-ending_behind p block body content old new is e = rw (is, ← e) refl
+    → items_at_block f p block body content (items_of_blocks f (counted_behind p block bytes content) new)
+    ≡ items_of_blocks g p old
+items_counted f g p block bytes body content old new fg is e =
+    ap (items_at_block f p block body content) (items-counted f p block bytes content new)
+    ∙ items_behind f g p block body content old new fg is e
 
-first_behind : (p : SectionProgress) (block : Block) (body : List ℕ) (content : Result BlockContent Rule)
+pub ending_behind : (p : SectionProgress) (block : Block) (bytes body : List ℕ) (content : Result BlockContent Rule)
     (old new : List (PieceItem Block)) → old ≡ given block body ∷ new
     → content_in p.interfaces block.kind block.order body ≡ content
-    → unless_item content p.first (first_in (behind p content) new) ≡ first_in p old
+    → commented p block bytes content ≡ commented p block body content
+    → unless_faulty content (ending_with p None) (ending_in (counted_behind p block bytes content) new)
+    ≡ ending_in p old
+unfolding ending_in
+ending_behind p block bytes body content old new is e same =
+    ap (λ q. unless_faulty content (ending_with p None) (ending_in (behind q content) new)) same ∙ rw (is, ← e) refl
+
+first_behind : (p : SectionProgress) (block : Block) (bytes body : List ℕ) (content : Result BlockContent Rule)
+    (old new : List (PieceItem Block)) → old ≡ given block body ∷ new
+    → content_in p.interfaces block.kind block.order body ≡ content
+    → unless_item content p.first (first_in (counted_behind p block bytes content) new) ≡ first_in p old
 unfolding first_in
-first_behind p block body content old new is e = rw (is, ← e) refl
+first_behind p block bytes body content old new is e =
+    ap (unless_item content p.first) (first-counted p block bytes content new) ∙ rw (is, ← e) refl
 
 -- After a block the file goes on, or a packet or a refusal comes next.
 pub block_steps : (file : ℕ) (old new : ReaderState Order) (p : SectionProgress) (block : Block)
@@ -157,17 +169,19 @@ pub block_steps : (file : ℕ) (old new : ReaderState Order) (p : SectionProgres
     → file ≡ old.file → GivesBlock old block new → ReaderKeeps old new
     → (IsTrue old.told → blocks_to_come old ≡ given block (body_in block.total old.coming) ∷ blocks_to_come new)
     → content ≡ content_in p.interfaces block.kind block.order (unwrap_or new.lent [])
-    → StepsTo (pcapng_state old p) (next_at file p block content) (pcapng_state new (behind p content))
+    → StepsTo (pcapng_state old p) (next_at file p block content)
+    (pcapng_state new (counted_behind p block (unwrap_or new.lent []) content))
 block_steps file old new p block content named g k taken is =
     by content is
     (subst (IsFit (length p.interfaces) (unwrap_or new.lent [])) (sym is)
     (content_fit p.interfaces block.kind block.order (unwrap_or new.lent [])))
-    (λ t. items_behind new.file old.file p block (body_in block.total old.coming) content (blocks_to_come old)
-    (blocks_to_come new) k.file (taken t) (says t))
-    (λ t. ending_behind p block (body_in block.total old.coming) content (blocks_to_come old) (blocks_to_come new)
-    (taken t) (says t))
-    (λ t. first_behind p block (body_in block.total old.coming) content (blocks_to_come old) (blocks_to_come new)
-    (taken t) (says t))
+    (λ t. items_counted new.file old.file p block (unwrap_or new.lent []) (body_in block.total old.coming) content
+    (blocks_to_come old) (blocks_to_come new) k.file (taken t) (says t))
+    (λ t. ending_behind p block (unwrap_or new.lent []) (body_in block.total old.coming) content (blocks_to_come old)
+    (blocks_to_come new) (taken t) (says t)
+    (commented-same p block new.lent (body_in block.total old.coming) content g.known (g.body_is t) is))
+    (λ t. first_behind p block (unwrap_or new.lent []) (body_in block.total old.coming) content (blocks_to_come old)
+    (blocks_to_come new) (taken t) (says t))
   where
     says : IsTrue old.told → content_in p.interfaces block.kind block.order (body_in block.total old.coming) ≡ content
     says t = content_same p.interfaces block.kind block.order new.lent (body_in block.total old.coming) g.known
@@ -184,12 +198,16 @@ block_steps file old new p block content named g k taken is =
     by : (c : Result BlockContent Rule) → c ≡ content_in p.interfaces block.kind block.order (unwrap_or new.lent [])
         → IsFit (length p.interfaces) (unwrap_or new.lent []) c
         → (IsTrue old.told → items_at_block new.file p block (body_in block.total old.coming) c
-        (items_of_blocks new.file (behind p c) (blocks_to_come new)) ≡ items_of_blocks old.file p (blocks_to_come old))
-        → (IsTrue old.told → unless_faulty c (ending_with p None) (ending_in (behind p c) (blocks_to_come new))
+        (items_of_blocks new.file (counted_behind p block (unwrap_or new.lent []) c) (blocks_to_come new))
+        ≡ items_of_blocks old.file p (blocks_to_come old))
+        → (IsTrue old.told → unless_faulty c (ending_with p None)
+        (ending_in (counted_behind p block (unwrap_or new.lent []) c) (blocks_to_come new))
         ≡ ending_in p (blocks_to_come old))
         → (IsTrue old.told
-        → unless_item c p.first (first_in (behind p c) (blocks_to_come new)) ≡ first_in p (blocks_to_come old))
-        → StepsTo (pcapng_state old p) (next_at file p block c) (pcapng_state new (behind p c))
+        → unless_item c p.first (first_in (counted_behind p block (unwrap_or new.lent []) c) (blocks_to_come new))
+        ≡ first_in p (blocks_to_come old))
+        → StepsTo (pcapng_state old p) (next_at file p block c)
+        (pcapng_state new (counted_behind p block (unwrap_or new.lent []) c))
     by c same fit items ending first = grind (arith, packet_lent, lent_size, none_stops, items_of_blocks, frame_same)
 
 -- What a block leaves of the counts.
@@ -197,8 +215,9 @@ pub block_keeps : (old new : ReaderState Order) (p : SectionProgress) (block : B
     (content : Result BlockContent Rule)
     → GivesBlock old block new → ReaderKeeps old new
     → content ≡ content_in p.interfaces block.kind block.order (unwrap_or new.lent [])
-    → FileKeeps (pcapng_state old p) (pcapng_state new (behind p content))
-block_keeps old new p block content g k is = grind (arith, unwrap_or, content_fit, counted_blocks, length-append)
+    → FileKeeps (pcapng_state old p) (pcapng_state new (counted_behind p block (unwrap_or new.lent []) content))
+block_keeps old new p block content g k is =
+    grind (arith, unwrap_or, content_fit, counted_blocks, length-append, counted-more)
 
 stopped_again : (new : ReaderState Order) (stop : Stop) → new.stop ≡ Some stop → blocks_to_come new ≡ stopped stop ∷ []
 stopped_again new stop is = rw is refl
@@ -272,7 +291,7 @@ refusal_learned refusal old new p free g k same =
 pub block_stepped : (file : ℕ) (old new : ReaderState Order) (p q : SectionProgress) (block : Block)
     (content : Result BlockContent Rule)
     (next : Option Peeked)
-    → next ≡ next_at file p block content → q ≡ behind p content
+    → next ≡ next_at file p block content → q ≡ counted_behind p block (unwrap_or new.lent []) content
     → file ≡ old.file → GivesBlock old block new → ReaderKeeps old new
     → (IsTrue old.told → blocks_to_come old ≡ given block (body_in block.total old.coming) ∷ blocks_to_come new)
     → content ≡ content_in p.interfaces block.kind block.order (unwrap_or new.lent [])
@@ -290,7 +309,7 @@ packet_shown old new file p block (Err rule) None is steps = cc
 
 pub block_kept : (old new : ReaderState Order) (p q : SectionProgress) (block : Block)
     (content : Result BlockContent Rule)
-    → q ≡ behind p content → GivesBlock old block new → ReaderKeeps old new
+    → q ≡ counted_behind p block (unwrap_or new.lent []) content → GivesBlock old block new → ReaderKeeps old new
     → content ≡ content_in p.interfaces block.kind block.order (unwrap_or new.lent [])
     → FileKeeps (pcapng_state old p) (pcapng_state new q)
 block_kept old new p q block content is_q g k is = grind (arith, block_keeps)
@@ -305,11 +324,6 @@ refusal_kept refusal ending old new p is_ending free g k same =
     subst (λ (e : FileEnd). FileLearns (pcapng_state old p) (peeks.Refused refusal e) (pcapng_state new p))
     (sym is_ending)
     (refusal_learned refusal old new p free g k same)
-
--- a packet, or a refusal of one, leaves what was read of the file
-pub behind-packet : (p : SectionProgress) (said : Result BlockPacket Rule) → p ≡ behind p (of_body contents.Packet said)
-behind-packet p (Ok packet) = refl
-behind-packet p (Err rule) = refl
 
 -- what was said of the body that is lent
 pub content_lent : (said : Result BlockContent Rule) (these those : List Interface) (kind : ℕ) (order : Order)

@@ -1,6 +1,17 @@
--- How long the bodies of the known kinds of blocks are.
-use Rattle.std.proofs.Common.{◌≡◌, ◌≤◌, ◌+◌, ℕ, subst, arith}
-use Rattle.cap_blocks.specs.Grammar.{least_total}
+-- How long the bodies of the known kinds of blocks are, and that no other body is read.
+use Rattle.std.proofs.Common.{◌≡◌, ◌≤◌, ◌+◌, ℕ, false, List, Ok, subst, arith}
+use Rattle.std.proofs.lemmas.Bool.Decides.{nat_tests}
+use Rattle.cap_blocks.specs.Grammar.{is_known_kind, least_total}
+use Rattle.cap_bytes.specs.declared.numbers.Order.{Order}
+use Rattle.cap_source.specs.Contents.{content_in}
+use Rattle.cap_source.specs.declared.contents.BlockContent.TheVariants as contents
+use Rattle.cap_time.specs.declared.resolutions.Interface.{Interface}
+
+-- a block of another kind says that kind
+pub other : (interfaces : List Interface) (kind : ℕ) (order : Order) (body : List ℕ) → is_known_kind kind ≡ false
+    → content_in interfaces kind order body ≡ Ok (contents.Other kind)
+unfolding content_in
+other interfaces kind order body unknown = grind (arith, nat_tests)
 
 pub interface_room : (kind size : ℕ) → kind ≡ 1 → least_total kind ≤ 12 + size → 8 ≤ size
 interface_room kind size is h = let few : 20 ≤ 12 + size =

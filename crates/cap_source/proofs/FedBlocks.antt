@@ -29,7 +29,7 @@ use Rattle.cap_bytes.specs.declared.faults.Rule.TheVariants.{BlockTrailer, Cut}
 use Rattle.cap_bytes.specs.declared.faults.Tail.{Tail}
 use Rattle.cap_bytes.specs.declared.numbers.Order.{Order}
 use Rattle.cap_bytes.specs.declared.stops.Stop.{Stop}
-use Rattle.cap_source.proofs.Blocks.{other}
+use Rattle.cap_source.proofs.Bodies.{other}
 use Rattle.cap_source.specs.Contents.{content_in}
 use Rattle.cap_source.specs.Fed.{skipped_items}
 use Rattle.cap_source.specs.Feed.{Item, refused}

@@ -17,10 +17,11 @@ use Rattle.cap_blocks.specs.inner.Reader.{GivesBlock, GivesNextBlock}
 use Rattle.cap_blocks.specs.declared.blocks.Block.{Block}
 use Rattle.cap_blocks.proofs.Items.{items_from-none}
 use Rattle.cap_source.proofs.BlockFronts as blocks
-use Rattle.cap_source.proofs.Blocks.{content_same, ending_behind, frame_same, items_behind, packet_lent}
+use Rattle.cap_source.proofs.Blocks.{content_same, ending_behind, frame_same, items_counted, packet_lent}
+use Rattle.cap_source.proofs.Commenting.{commented-same}
 use Rattle.cap_source.specs.Contents.{content_in}
-use Rattle.cap_source.specs.Items.{SectionProgress, behind, ending_in, ending_with, items_at_block, items_of_blocks}
-use Rattle.cap_source.specs.Items.{meta_in, unless_faulty}
+use Rattle.cap_source.specs.Items.{SectionProgress, counted_behind, ending_in, ending_with, items_at_block}
+use Rattle.cap_source.specs.Items.{items_of_blocks, meta_in, unless_faulty}
 use Rattle.cap_source.specs.Feed as feeds
 use Rattle.cap_source.specs.declared.contents.BlockContent.{BlockContent}
 use Rattle.cap_source.specs.declared.contents.BlockContent.TheVariants as contents
@@ -139,11 +140,13 @@ module _ (file : ℕ) (old new : ReaderState Order) (p : SectionProgress) (block
       (unwrap_or new.lent [])
       → ((end : ℕ) → new.offset ≤ end → items_of_blocks old.file p (blocks_before old end)
       ≡ items_at_block new.file p block (body_in block.total old.coming) c
-      (items_of_blocks new.file (behind p c) (blocks_before new end)))
+      (items_of_blocks new.file (counted_behind p block (unwrap_or new.lent []) c) (blocks_before new end)))
       → ((end : ℕ) → new.offset ≤ end → ending_in p (blocks_before old end)
-      ≡ unless_faulty c (ending_with p None) (ending_in (behind p c) (blocks_before new end)))
+      ≡ unless_faulty c (ending_with p None)
+      (ending_in (counted_behind p block (unwrap_or new.lent []) c) (blocks_before new end)))
       → IfTaken (next_at file p block c)
-      (FrontsPass (pcapng_fronts old p) (next_at file p block c) (pcapng_fronts new (behind p c)))
+      (FrontsPass (pcapng_fronts old p) (next_at file p block c)
+      (pcapng_fronts new (counted_behind p block (unwrap_or new.lent []) c)))
   by-content (Ok contents.Section) is items ending = block-pass None _ items ending
   by-content (Ok (contents.Interface described)) is items ending = block-pass None _ items ending
   by-content (Ok (contents.Other kind)) is items ending = block-pass None _ items ending
@@ -151,25 +154,28 @@ module _ (file : ℕ) (old new : ReaderState Order) (p : SectionProgress) (block
       let there = packet_lent p.interfaces block.kind block.order new.lent said g.known is in
       let frame = frame_same new.lent (body_in block.total old.coming) said there (g.body_is t) in
       let which : new.file ≡ file = k.file ∙ sym named in
-      block-pass (Some (peeks.Packet (meta_in file p block said) said.place)) p
+      let q = counted_behind p block (unwrap_or new.lent []) (Ok (contents.Packet said)) in
+      block-pass (Some (peeks.Packet (meta_in file p block said) said.place)) q
       (λ end within. items end within
       ∙ (λ i. feeds.packet (meta_in (which i) p block said) (sym frame i)
-      ∷ items_of_blocks new.file p (blocks_before new end))) ending
+      ∷ items_of_blocks new.file q (blocks_before new end))) ending
   by-content (Err rule) is items ending = tt
 
   -- after a block the file goes on, or a packet comes next
   pub block-passed : (content : Result BlockContent Rule) (next : Option Peeked) (q : SectionProgress)
       → content ≡ content_in p.interfaces block.kind block.order (unwrap_or new.lent [])
-      → next ≡ next_at file p block content → q ≡ behind p content
+      → next ≡ next_at file p block content → q ≡ counted_behind p block (unwrap_or new.lent []) content
       → IfTaken next (FrontsPass (pcapng_fronts old p) next (pcapng_fronts new q))
   block-passed content next q is is_next is_q =
       let says = content_same p.interfaces block.kind block.order new.lent (body_in block.total old.coming) g.known
       (g.body_is t) ∙ sym is in
       rw (is_next, is_q) (by-content content is
-      (λ end within. sym (items_behind new.file old.file p block (body_in block.total old.coming) content
-      (blocks_before old end) (blocks_before new end) k.file (block-split end within) says))
-      (λ end within. sym (ending_behind p block (body_in block.total old.coming) content (blocks_before old end)
-      (blocks_before new end) (block-split end within) says)))
+      (λ end within. sym (items_counted new.file old.file p block (unwrap_or new.lent [])
+      (body_in block.total old.coming) content (blocks_before old end) (blocks_before new end) k.file
+      (block-split end within) says))
+      (λ end within. sym (ending_behind p block (unwrap_or new.lent []) (body_in block.total old.coming) content
+      (blocks_before old end) (blocks_before new end) (block-split end within) says
+      (commented-same p block new.lent (body_in block.total old.coming) content g.known (g.body_is t) is))))
 
 -- no bytes stand before the place where they begin
 pub none-before : (offset : ℕ) (bytes : List ℕ) → bytes_before offset offset bytes ≡ []

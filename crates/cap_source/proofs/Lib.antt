@@ -4,6 +4,8 @@ pub mod Onward
 pub mod Walking
 pub mod Blocks
 pub mod Bodies
+pub mod Commenting
+pub mod OptionCounts
 pub mod Fields
 pub mod Firsts
 pub mod Frames

@@ -16,8 +16,8 @@ use Rattle.cap_blocks.specs.Grammar.{obsolete_kind, simple_kind, enhanced_kind}
 use Rattle.cap_blocks.specs.OptionList.{options_of}
 use Rattle.cap_blocks.specs.declared.blocks.Block.{Block}
 use Rattle.cap_source.specs.Contents.{of_body, timed_in, simple_in, described, content_in}
-use Rattle.cap_source.specs.Items.{SectionProgress, fresh, first_or, after, behind, items_at_block, items_of_blocks}
-use Rattle.cap_source.specs.Items.{ending_with, ending_in, names_kind, secrets_kind}
+use Rattle.cap_source.specs.Items.{SectionProgress, fresh, first_or, after, behind, commented, items_at_block}
+use Rattle.cap_source.specs.Items.{ending_with, ending_in, items_of_blocks, names_kind, secrets_kind}
 use Rattle.cap_source.specs.Items.{unless_faulty, unless_item, first_in}
 use Rattle.cap_source.specs.inner.Places.{Standing, is_header, is_interface, is_other, is_named_interface, told}
 use Rattle.cap_source.specs.inner.Places.{interfaces_of, known_behind, items_behind, ending_behind, first_behind}
@@ -197,16 +197,17 @@ counted-none n m b is none = let e : n ≡ m + 0 = subst (λ b. n ≡ m + cond b
 counted-one : (n m : ℕ) (b : Bool) → n ≡ m + cond b 1 0 → b ≡ true → m + 1 ≡ n
 counted-one n m b is one = sym (subst (λ b. n ≡ m + cond b 1 0) one is)
 
--- two are the same if each of the six is
+-- two are the same if each of the seven is
 same : {p q : SectionProgress} → p.interfaces ≡ q.interfaces → p.base ≡ q.base → p.skipped ≡ q.skipped
-    → p.kinds ≡ q.kinds → p.named ≡ q.named → p.first ≡ q.first → p ≡ q
-same a b c k d e = λ i. record {
+    → p.kinds ≡ q.kinds → p.named ≡ q.named → p.first ≡ q.first → p.comments ≡ q.comments → p ≡ q
+same a b c k d e f = λ i. record {
   interfaces = a i;
   base = b i;
   skipped = c i;
   kinds = k i;
   named = d i;
   first = e i;
+  comments = f i;
 }
 
 -- so are two numbers of skipped blocks, if both are
@@ -239,6 +240,7 @@ step : (before : List Standing) (b : Standing) (content : BlockContent) → Tell
 unfolding known_behind
 step before b content t =
     same (here content t) (base content t) (skipped content t) (kinds content t) (named content t) (first content t)
+    (comments content)
   where
     here : (content : BlockContent) → TellsOf b content
         → (after (known_behind before) content).interfaces ≡ interfaces_of (after_last is_header (before ++ b ∷ []))
@@ -284,6 +286,12 @@ step before b content t =
     named (contents.Packet p) t = counted-none _ _ _ (count-more is_named_interface before b) (unnamed b t.1)
     named (contents.Other k) t = counted-none _ _ _ (count-more is_named_interface before b) (unnamed b t.1)
 
+    comments : (content : BlockContent) → (after (known_behind before) content).comments ≡ None
+    comments contents.Section = refl
+    comments (contents.Interface d) = refl
+    comments (contents.Packet p) = refl
+    comments (contents.Other k) = refl
+
     first : (content : BlockContent) → TellsOf b content
         → (after (known_behind before) content).first ≡ slice_get (interfaces_of (before ++ b ∷ [])) 0
     first contents.Section t = rw (interfaces-more before b, t.1) refl
@@ -319,15 +327,24 @@ items-from file before (pieces.given block body ∷ rest) =
     (items_behind file (before ++ (block, body) ∷ []) rest)
     (content-tells (known_behind before).interfaces (block, body)) (items-from file (before ++ (block, body) ∷ []) rest)
 
+-- no comments are counted
+uncounted : (before : List Standing) (block : Block) (body : List ℕ) (content : Result BlockContent Rule)
+    → commented (known_behind before) block body content ≡ known_behind before
+unfolding known_behind
+uncounted before block body (Ok content) = refl
+uncounted before block body (Err rule) = refl
+
 ending-from : (before : List Standing) (items : List (pieces.PieceItem Block))
     → ending_in (known_behind before) items ≡ ending_behind before items
 unfolding ending_in ending_behind
 ending-from before [] = refl
 ending-from before (pieces.stopped stop ∷ rest) = refl
 ending-from before (pieces.given block body ∷ rest) =
-    one (λ p content later. unless_faulty content (ending_with p None) later) (λ p rule x y. refl) before (block, body)
-    (content_in (known_behind before).interfaces block.kind block.order body) (λ p. ending_in p rest)
-    (ending_behind (before ++ (block, body) ∷ []) rest)
+    let content = content_in (known_behind before).interfaces block.kind block.order body in
+    ap (λ q. unless_faulty content (ending_with (known_behind before) None) (ending_in (behind q content) rest))
+    (uncounted before block body content)
+    ∙ one (λ p content later. unless_faulty content (ending_with p None) later) (λ p rule x y. refl) before (block, body)
+    content (λ p. ending_in p rest) (ending_behind (before ++ (block, body) ∷ []) rest)
     (content-tells (known_behind before).interfaces (block, body)) (ending-from (before ++ (block, body) ∷ []) rest)
 
 first-from : (before : List Standing) (items : List (pieces.PieceItem Block))

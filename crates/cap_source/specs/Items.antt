@@ -19,6 +19,7 @@ use Rattle.cap_bytes.specs.declared.stops.Stop.TheVariants as stops
 use Rattle.cap_blocks.specs.Split as blocks
 use Rattle.cap_blocks.specs.Split.{is_section}
 use Rattle.cap_blocks.specs.declared.blocks.Block.{Block}
+use Rattle.cap_source.specs.Comments.{comments_in}
 use Rattle.cap_source.specs.Contents.{content_in}
 use Rattle.cap_source.specs.Feed.{Item, packet, refused}
 use Rattle.cap_source.specs.declared.contents.BlockContent.{BlockContent}
@@ -31,8 +32,8 @@ use Rattle.cap_source.specs.declared.packets.Meta.{Meta}
 
 -- How far a pcapng file was read: the interfaces of the section that is being read, in order; how many
 -- interface blocks of the file stand before the section; how many of its blocks were skipped, and how many of
--- these have secrets or names; how many of its interfaces have a name; and its interface of instance 0, once that
--- was read.
+-- these have secrets or names; how many of its interfaces have a name; its interface of instance 0, once that was
+-- read; and how many comments its blocks have, if they are counted.
 pub record SectionProgress : Type 0 where
   pub interfaces : List Interface
   pub base : ℕ
@@ -40,6 +41,7 @@ pub record SectionProgress : Type 0 where
   pub kinds : SkippedKinds
   pub named : ℕ
   pub first : Option Interface
+  pub comments : Option ℕ
 
 -- The types of the skipped blocks that are counted by themselves: Name Resolution Blocks
 -- (draft-ietf-opsawg-pcapng, 4.5) and Decryption Secrets Blocks (4.8).
@@ -63,7 +65,24 @@ with_kind kinds kind =
 
 -- nothing was read yet
 abbrev pub fresh : SectionProgress
-fresh = record { interfaces = []; base = 0; skipped = 0; kinds = no_kinds; named = 0; first = None }
+fresh =
+    record {
+      interfaces = [];
+      base = 0;
+      skipped = 0;
+      kinds = no_kinds;
+      named = 0;
+      first = None;
+      comments = None;
+    }
+
+-- what is known so far, with another number of comments
+abbrev pub with_comments : SectionProgress → Option ℕ → SectionProgress
+with_comments progress comments = record progress { comments = comments }
+
+-- nothing was read yet of a file whose comments are counted, or aren't
+abbrev pub beginning : Bool → SectionProgress
+beginning comments = with_comments fresh (if comments then Some 0 else None)
 
 abbrev pub first_or : Option Interface → Interface → Interface
 first_or None interface = interface
@@ -79,6 +98,7 @@ after progress contents.Section =
       kinds = progress.kinds;
       named = progress.named;
       first = progress.first;
+      comments = progress.comments;
     }
 after progress (contents.Interface described) =
     record {
@@ -88,6 +108,7 @@ after progress (contents.Interface described) =
       kinds = progress.kinds;
       named = progress.named + (if described.is_named then 1 else 0);
       first = Some (first_or progress.first described.interface);
+      comments = progress.comments;
     }
 after progress (contents.Packet p) = progress
 after progress (contents.Other kind) =
@@ -98,6 +119,7 @@ after progress (contents.Other kind) =
       kinds = with_kind progress.kinds kind;
       named = progress.named;
       first = progress.first;
+      comments = progress.comments;
     }
 
 -- what is known of a packet in that block, and its captured bytes in the block's body
@@ -133,6 +155,21 @@ abbrev pub behind : SectionProgress → Result BlockContent Rule → SectionProg
 behind progress (Ok content) = after progress content
 behind progress (Err rule) = progress
 
+-- some comments more, if they are counted
+abbrev pub more_comments : Option ℕ → ℕ → Option ℕ
+more_comments None more = None
+more_comments (Some counted) more = Some (counted + more)
+
+-- the same with the comments of that block, if it breaks no rule
+abbrev pub commented : SectionProgress → Block → List ℕ → Result BlockContent Rule → SectionProgress
+commented progress block body (Ok content) =
+    with_comments progress (more_comments progress.comments (comments_in block.kind block.order content body))
+commented progress block body (Err rule) = progress
+
+-- how far a file was read after that block, with its comments
+abbrev pub counted_behind : SectionProgress → Block → List ℕ → Result BlockContent Rule → SectionProgress
+counted_behind progress block body content = behind (commented progress block body content) content
+
 -- what the end of the blocks or records is as an item
 abbrev pub items_of_stop : Stop → List Item
 items_of_stop stops.End = []
@@ -148,7 +185,7 @@ items_of_blocks file progress (pieces.given block body ∷ rest) =
     items_at_block file progress block body content (items_of_blocks file (behind progress content) rest)
 
 -- how a pcapng file ends that was read so far, the rest that was dropped, how many interfaces it has, how many of them
--- have a name, and how many of its skipped blocks have secrets or names
+-- have a name, how many of its skipped blocks have secrets or names, and how many comments it has, if they are counted
 abbrev pub ending_with : SectionProgress → Option CutRest → FileEnd
 ending_with progress cut =
     record {
@@ -156,6 +193,7 @@ ending_with progress cut =
       interfaces = progress.base + length progress.interfaces;
       named = progress.named;
       kinds = progress.kinds;
+      comments = progress.comments;
     }
 
 -- one of two, by whether a block breaks a rule
@@ -169,7 +207,8 @@ ending_in progress [] = ending_with progress None
 ending_in progress (pieces.stopped stop ∷ rest) = ending_with progress (pieces.cut_of stop)
 ending_in progress (pieces.given block body ∷ rest) =
     let content = content_in progress.interfaces block.kind block.order body in
-    unless_faulty content (ending_with progress None) (ending_in (behind progress content) rest)
+    unless_faulty content (ending_with progress None)
+    (ending_in (counted_behind progress block body content) rest)
 
 -- one of two, by whether a block gives an item
 abbrev pub unless_item : {A : Type 0} → Result BlockContent Rule → A → A → A
@@ -224,7 +263,7 @@ pcap_items file interface (pieces.stopped stop ∷ rest) = items_of_stop stop
 pcap_items file interface (pieces.given r frame ∷ rest) =
     packet (meta_of file interface r) frame ∷ pcap_items file interface rest
 
--- how a pcap file ends, which has one interface
+-- how a pcap file ends, which has one interface, and whose format has no comments
 abbrev pub pcap_ending_with : Option CutRest → FileEnd
 pcap_ending_with cut =
     record {
@@ -232,6 +271,7 @@ pcap_ending_with cut =
       interfaces = 1;
       named = 0;
       kinds = no_kinds;
+      comments = None;
     }
 
 unfoldable pub pcap_ending : List (pieces.PieceItem Record) → FileEnd
@@ -270,6 +310,10 @@ file_items tail file bytes = items_from tail file fresh 0 bytes
 
 abbrev pub file_ending : Tail → ℕ → List ℕ → FileEnd
 file_ending tail file bytes = ending_from tail file fresh 0 bytes
+
+-- how it ends if the comments of its packets, interfaces and sections are counted, or aren't
+abbrev pub counted_ending : Bool → Tail → ℕ → List ℕ → FileEnd
+counted_ending comments tail file bytes = ending_from tail file (beginning comments) 0 bytes
 
 abbrev pub file_first : Tail → ℕ → List ℕ → Option Interface
 file_first tail file bytes = first_from tail file fresh 0 bytes

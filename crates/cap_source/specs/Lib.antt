@@ -2,6 +2,7 @@ pub mod Feed
 pub mod Times
 pub mod TimeBases
 pub mod Contents
+pub mod Comments
 pub mod Items
 pub mod Fed
 pub mod ReadFaults

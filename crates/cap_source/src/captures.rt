@@ -5,7 +5,7 @@ ghost use Rattle.cap_bytes.specs.inner.SourceState.{source_of};
 ghost use Rattle.cap_source.specs.Feed.{FeedKeeps, GivesHead, KeepsItems, FindsPacket, FindsItem, IsLast, IsPacket};
 ghost use Rattle.cap_source.specs.Feed.{FeedPasses};
 ghost use Rattle.cap_bytes.specs.inner.Window.{opened_window};
-ghost use Rattle.cap_source.specs.Items.{file_items, file_ending, file_first, fresh};
+ghost use Rattle.cap_source.specs.Items.{beginning, counted_ending, file_items, file_ending, file_first, fresh};
 ghost use Rattle.cap_source.specs.inner.FileState.{file_feed, GivesFirst, KeepsFirst, IsSoundFile};
 ghost use Rattle.cap_source.specs.inner.FileState.{FileAnswers, FileKeeps, FileTakes, IfTaken, LearnsNext, ReadsTo};
 ghost use Rattle.cap_source.specs.inner.FileState.{ShowsNext, TakesShown};
@@ -23,7 +23,7 @@ use crate::peek_slots::PeekSlot;
 use crate::readers::{
     Peeked, Reader, ending_of, failed_of, held_of, last_of, noted_of, number_of, part_of,
 };
-use crate::section_states::{SectionState, nothing_reached};
+use crate::section_states::{SectionState, beginning};
 use crate::{pcap, pcapng};
 use cap_bytes::{Fault, Source, Tail, Window};
 use cap_time::Interface;
@@ -66,9 +66,37 @@ impl<R: Source> Capture<R> {
         ensures fronts { capture_fronts result
             ≡ unread_fronts (opened_window file (source_of R.Source reader)) tail fresh }
     {
+        Capture::with_comments(alloc, reader, file, tail, false)
+    }
+
+    /// The same packets, of a file whose comments are counted if that is asked for: those of its sections, interfaces
+    /// and packets. Packets are read more slowly then.
+    pub fn with_comments(
+        alloc: Global,
+        reader: R,
+        file: u32,
+        tail: Tail,
+        comments: bool,
+    ) -> Capture<R>
+        ensures files { (⟦<Capture<R> as PacketFeed>⟧.feed result).files ≡ file ∷ [] }
+        ensures told { (⟦<Capture<R> as PacketFeed>⟧.feed result).told ≡ R.tells_coming reader }
+        ensures items { (⟦<Capture<R> as PacketFeed>⟧.feed result).items ≡ file_items tail file (R.coming reader) }
+        ensures endings { (n : ℕ) → (⟦<Capture<R> as PacketFeed>⟧.feed result).endings n
+            ≡ counted_ending comments tail file (R.coming reader) }
+        ensures known { (⟦<Capture<R> as PacketFeed>⟧.feed result).known ≡ None }
+        ensures whole { (⟦<Capture<R> as PacketFeed>⟧.feed result).broken ≡ None }
+        ensures can_fail { (⟦<Capture<R> as PacketFeed>⟧.feed result).can_fail file ≡ R.can_fail reader }
+        ensures held { (⟦<Capture<R> as PacketFeed>⟧.feed result).held
+            ≡ record { window = 0; interfaces = 0; failed = R.has_failed reader } }
+        ensures first { capture_first result ≡ file_first tail file (R.coming reader) }
+        ensures number { capture_number result ≡ file }
+        ensures position { position_of result ≡ unread_position (source_of R.Source reader) }
+        ensures fronts { capture_fronts result
+            ≡ unread_fronts (opened_window file (source_of R.Source reader)) tail (beginning comments) }
+    {
         Capture {
             reader: Reader::Unread(Window::new(alloc, reader, file), tail),
-            reached: nothing_reached(alloc),
+            reached: beginning(alloc, comments),
             next: PeekSlot::new(),
         }
     }
@@ -275,6 +303,10 @@ impl<R: Source> PacketFeed for Capture<R> {
 
     fn skipped_kinds(&self, _file: u32) -> SkippedKinds {
         ending_of(self.next.get()).kinds
+    }
+
+    fn comments(&self, _file: u32) -> Option<u64> {
+        ending_of(self.next.get()).comments
     }
 
     fn feed_held(&self) -> FeedHeld {

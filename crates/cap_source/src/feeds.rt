@@ -54,6 +54,9 @@ pub struct FileEnd {
     pub named: u64,
     /// How many of its skipped blocks have secrets, and how many have names.
     pub kinds: SkippedKinds,
+    /// How many comments its sections, interfaces and packets have; `None` if they weren't counted, and in a pcap file,
+    /// whose format has none. draft-ietf-opsawg-pcapng, 3.5.
+    pub comments: Option<u64>,
 }
 
 /// What a feed holds of its files, each number being the greatest of any of them.
@@ -132,6 +135,12 @@ pub trait PacketFeed: Drop {
         requires end { (feed self.now).known ≡ Some Head.End }
         requires file { HasFile (feed self.now).files file }
         ensures kinds { result ≡ ((feed self.now).endings file).kinds };
+
+    /// How many comments a file of that number has, which is one of the feed's, if they are counted.
+    fn comments(&self, file: u32) -> Option<u64>
+        requires end { (feed self.now).known ≡ Some Head.End }
+        requires file { HasFile (feed self.now).files file }
+        ensures comments { result ≡ ((feed self.now).endings file).comments };
 
     /// What it holds.
     fn feed_held(&self) -> FeedHeld

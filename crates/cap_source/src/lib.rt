@@ -2,6 +2,7 @@
 #![tactic(auto)]
 
 mod captures;
+mod comments;
 mod contents;
 mod fed;
 mod fed_captures;

@@ -140,6 +140,10 @@ impl PacketFeed for Listed {
         NO_KINDS
     }
 
+    fn comments(&self, _file: u32) -> Option<u64> {
+        None
+    }
+
     fn feed_held(&self) -> FeedHeld {
         FeedHeld {
             window: 0,

@@ -48,6 +48,7 @@ pub fn ending_of_pcap(cut: Option<CutRest>) -> FileEnd
         interfaces: 1,
         named: 0,
         kinds: NO_KINDS,
+        comments: None,
     }
 }
 

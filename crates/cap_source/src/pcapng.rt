@@ -2,14 +2,16 @@
 ghost use Rattle.std.specs.Prelude.{◌≡◌, ◌≤◌, ◌<◌, ◌+◌, ◌^◌, [], length, false, IsTrue, IfOk, IfSome, None, Some, Err};
 ghost use Rattle.std.specs.Prelude.{is_some, unwrap_or, vec_len, vec_capacity};
 ghost use Rattle.cap_blocks.specs.Grammar.{is_known_kind, is_total};
+ghost use Rattle.cap_source.specs.Comments.{comments_in};
 ghost use Rattle.cap_source.specs.Contents.{content_in, of_body};
-ghost use Rattle.cap_source.specs.Items.{ending_with, meta_in, behind};
+ghost use Rattle.cap_source.specs.Items.{ending_with, meta_in, behind, commented};
 ghost use Rattle.cap_source.specs.inner.FileState.{FileAnswers, TakesShown, FileKeeps, IfTaken, FileSteps, FileTakes};
 ghost use Rattle.cap_source.specs.inner.FileState.{pcapng_state};
 ghost use Rattle.cap_source.specs.inner.FileState.{next_at};
 ghost use Rattle.cap_source.specs.inner.Fronts.{FrontsAnswer, FrontsPass, pcapng_fronts};
 ghost use Rattle.cap_source.specs.inner.SectionState.{progress_of, counted_blocks, has_room};
 
+use crate::comments::comments_of;
 use crate::contents::{BlockContent, BlockPacket, content_of, enhanced_packet};
 use crate::feeds::{Ending, FileEnd};
 use crate::packets::Meta;
@@ -27,6 +29,7 @@ pub fn ending_of_blocks(reached: &SectionState, cut: Option<CutRest>) -> FileEnd
     let skipped = reached.skipped;
     let named = reached.named;
     let kinds = reached.kinds;
+    let comments = reached.comments;
     FileEnd {
         ending: Ending {
             format: Format::Pcapng,
@@ -36,11 +39,12 @@ pub fn ending_of_blocks(reached: &SectionState, cut: Option<CutRest>) -> FileEnd
         interfaces: reached.base + reached.interfaces.len() as u64,
         named,
         kinds,
+        comments,
     }
 }
 
 // What the block says that was given last.
-#[tactic(auto, using(crate::proofs::Blocks::other))]
+#[tactic(auto, using(crate::proofs::Bodies::other))]
 fn read_content<R: Source>(
     reader: &BlockReader<R>,
     block: Block,
@@ -55,6 +59,47 @@ fn read_content<R: Source>(
         content_of(interfaces, block.kind, block.order, reader.body())
     } else {
         Ok(BlockContent::Other(block.kind))
+    }
+}
+
+// How many comments the block has that was given last and says this.
+fn comments_given<R: Source>(reader: &BlockReader<R>, block: Block, content: BlockContent) -> u64
+    requires known { is_some reader.now.lent ≡ is_known_kind block.kind }
+    requires allowed { IsTrue (is_total block.kind block.total) }
+    requires size { IfSome reader.now.lent (λ body. length body + 12 ≡ block.total) }
+    requires other { is_known_kind block.kind ≡ false → content ≡ BlockContent.Other block.kind }
+    ensures count { result ≡ comments_in block.kind block.order content (unwrap_or reader.now.lent []) }
+    ensures few { result ≤ length (unwrap_or reader.now.lent []) }
+{
+    if is_known(block.kind) {
+        comments_of(block.kind, block.order, content, reader.body())
+    } else {
+        0
+    }
+}
+
+// Counts the comments of the block that was given last and says this, if comments are counted.
+fn count_comments<R: Source>(
+    reader: &BlockReader<R>,
+    block: Block,
+    said: Result<BlockContent, Rule>,
+    reached: &mut SectionState,
+)
+    requires known { is_some reader.now.lent ≡ is_known_kind block.kind }
+    requires allowed { IsTrue (is_total block.kind block.total) }
+    requires size { IfSome reader.now.lent (λ body. length body + 12 ≡ block.total) }
+    requires says { said ≡ content_in reached.old.interfaces.items block.kind block.order
+        (unwrap_or reader.now.lent []) }
+    requires limit { counted_blocks (progress_of reached.old) < 2 ^ 40 }
+    ensures comments { progress_of reached.new
+        ≡ commented (progress_of reached.old) block (unwrap_or reader.now.lent []) said }
+    ensures capacity { vec_capacity reached.new.interfaces ≡ vec_capacity reached.old.interfaces }
+{
+    match (reached.comments, said) {
+        (Some(counted), Ok(content)) => {
+            reached.comments = Some(counted + comments_given(reader, block, content));
+        }
+        _ => {}
     }
 }
 
@@ -103,7 +148,7 @@ fn take_content(
 }
 
 /// Puts what comes next of a pcapng file into `known`, if it is a packet in an enhanced packet block that the window
-/// shows already, as most are. Returns whether it did: if not, nothing has changed.
+/// shows already, as most are, and if comments aren't counted. Returns whether it did: if not, nothing has changed.
 #[inline(always)]
 pub fn try_next_buffered<R: Source>(
     reader: &mut BlockReader<R>,
@@ -124,6 +169,10 @@ pub fn try_next_buffered<R: Source>(
         (pcapng_fronts reader.new (progress_of reached.now))) }
     ensures none { result ≡ false → (reader.new ≡ reader.old) × (known.new ≡ None) }
 {
+    // the comments of a packet that is taken here aren't looked for
+    if reached.comments.is_some() {
+        return false;
+    }
     let file = reader.window().file();
     match reader.take_packet() {
         Some(block) => {
@@ -199,6 +248,7 @@ fn take_block<R: Source>(
     match reader.next_block() {
         Ok(Some(block)) => {
             let content = read_content(reader, block, &reached.interfaces);
+            count_comments(reader, block, content, reached);
             take_content(reached, file, block, content, known);
             Ok(())
         }

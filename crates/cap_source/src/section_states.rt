@@ -1,6 +1,6 @@
 //! How far a pcapng file was read, and what a block adds to that.
 ghost use Rattle.std.specs.Prelude.{◌≡◌, ◌<◌, ◌+◌, ◌^◌, vec_len, vec_capacity};
-ghost use Rattle.cap_source.specs.Items.{after, fresh};
+ghost use Rattle.cap_source.specs.Items.{after, beginning, fresh};
 ghost use Rattle.cap_source.specs.inner.SectionState.{progress_of, counted_blocks};
 
 use crate::contents::{BlockContent, InterfaceDescription};
@@ -28,6 +28,8 @@ pub struct SectionState {
     pub named: u64,
     /// The first interface of the file, once it was read.
     pub first: Option<Interface>,
+    /// How many comments its blocks have, if they are counted.
+    pub comments: Option<u64>,
 }
 
 /// Nothing was read yet.
@@ -41,7 +43,19 @@ pub fn nothing_reached(alloc: Global) -> SectionState
         kinds: NO_KINDS,
         named: 0,
         first: None,
+        comments: None,
     }
+}
+
+/// Nothing was read yet of a file whose comments are counted if that is asked for.
+pub fn beginning(alloc: Global, comments: bool) -> SectionState
+    ensures { progress_of result ≡ beginning comments }
+{
+    let mut reached = nothing_reached(alloc);
+    if comments {
+        reached.comments = Some(0);
+    }
+    reached
 }
 
 // After a section header.

@@ -52,6 +52,7 @@ list_feed file interface end place times known =
         interfaces = 1;
         named = 0;
         kinds = no_kinds;
+        comments = None;
       };
       known = known;
       frame = [];

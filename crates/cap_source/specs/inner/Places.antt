@@ -50,7 +50,7 @@ interfaces_of bs = map told (filter is_interface bs)
 
 -- What is known behind these blocks of a file: the interfaces of those after the last section header; how many
 -- interface blocks stand before that header; how many blocks were skipped, and how many of these have secrets or names;
--- how many interfaces have a name; and the first interface of all.
+-- how many interfaces have a name; and the first interface of all. Comments aren't counted.
 unfoldable pub known_behind : List Standing → SectionProgress
 known_behind before =
     record {
@@ -60,6 +60,7 @@ known_behind before =
       kinds = record { secrets = count_by is_secrets before; names = count_by is_names before };
       named = count_by is_named_interface before;
       first = slice_get (interfaces_of before) 0;
+      comments = None;
     }
 
 -- The items of a file's rest, how it ends, and its first interface, by what is known at each block behind all those

@@ -1,5 +1,5 @@
 -- How far a pcapng file was read, as it is kept.
-use Rattle.std.specs.Prelude.{◌+◌, ℕ, nat_lt, Bool, true, length, Option, Some, None, vec_len, vec_capacity}
+use Rattle.std.specs.Prelude.{◌+◌, ℕ, nat_lt, Bool, true, length, Option, Some, None, unwrap_or, vec_len, vec_capacity}
 use Rattle.cap_source.specs.Items.{SectionProgress}
 use Rattle.cap_source.specs.declared.section_states.SectionState.{SectionState}
 
@@ -12,13 +12,15 @@ progress_of reached =
       kinds = reached.kinds;
       named = reached.named;
       first = reached.first;
+      comments = reached.comments;
     }
 
--- how many blocks of the file are counted in it: those of interfaces with a name, of secrets and of names twice
+-- how many blocks and comments of the file are counted in it: the blocks of interfaces with a name, of secrets and of
+-- names twice
 abbrev pub counted_blocks : SectionProgress → ℕ
 counted_blocks progress =
     progress.base + length progress.interfaces + progress.skipped + progress.named + progress.kinds.secrets
-    + progress.kinds.names
+    + progress.kinds.names + unwrap_or progress.comments 0
 
 -- whether there is room for an interface, once a read has failed
 abbrev pub has_room : Option ℕ → SectionState → Bool

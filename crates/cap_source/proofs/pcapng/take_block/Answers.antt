@@ -1,6 +1,7 @@
 use Rattle.std.proofs.Common.{◌∙◌, ap, unwrap_or, []}
 use Rattle.cap_source.specs.Contents.{content_in}
 use Rattle.cap_source.specs.inner.SectionState.{progress_of}
+use Rattle.cap_source.proofs.Commenting.{behind_by, counted-limit, next_by}
 use Rattle.cap_source.proofs.Going.{IfTaken-so}
 use Rattle.cap_source.proofs.Blocks.{block_taken, block_stepped, block_kept, end_learned, refusal_kept}
 use Rattle.cap_source.proofs.Fronts.{block-fault, block-passed}
@@ -13,7 +14,10 @@ returns-in-Ok-Some-clause-answer g c =
     block_stepped c.file-file.result c.args.reader.now c.next_block.new.self (progress_of c.args.reached.now)
     (progress_of c.take_content.new.reached)
     block c.read_content-content.result c.take_content.new.known
-    c.take_content.ensures.next c.take_content.ensures.behind
+    (next_by c.file-file.result (progress_of c.args.reached.now) block (unwrap_or c.next_block.new.self.lent [])
+    c.read_content-content.result _ _ c.count_comments.ensures.comments c.take_content.ensures.next)
+    (behind_by (progress_of c.args.reached.now) block (unwrap_or c.next_block.new.self.lent [])
+    c.read_content-content.result _ _ c.count_comments.ensures.comments c.take_content.ensures.behind)
     (c.file-file.ensures ∙ c.window.ensures.window.file) e.answer e.keeps e.items
     (c.read_content-content.ensures
     ∙ ap (λ l. content_in l block.kind block.order (unwrap_or c.next_block.new.self.lent [])) c.deref.ensures.value)
@@ -24,7 +28,9 @@ returns-in-Ok-Some-clause-keeps g c =
     let block = c.in-Ok-Some.block in
     block_kept c.args.reader.now c.next_block.new.self (progress_of c.args.reached.now)
     (progress_of c.take_content.new.reached)
-    block c.read_content-content.result c.take_content.ensures.behind
+    block c.read_content-content.result
+    (behind_by (progress_of c.args.reached.now) block (unwrap_or c.next_block.new.self.lent [])
+    c.read_content-content.result _ _ c.count_comments.ensures.comments c.take_content.ensures.behind)
     e.answer e.keeps
     (c.read_content-content.ensures
     ∙ ap (λ l. content_in l block.kind block.order (unwrap_or c.next_block.new.self.lent [])) c.deref.ensures.value)
@@ -66,7 +72,10 @@ returns-in-Ok-Some-clause-fronts g c = λ told.
     c.take_content.new.known (progress_of c.take_content.new.reached)
     (c.read_content-content.ensures
     ∙ ap (λ l. content_in l block.kind block.order (unwrap_or c.next_block.new.self.lent [])) c.deref.ensures.value)
-    c.take_content.ensures.next c.take_content.ensures.behind
+    (next_by c.file-file.result (progress_of c.args.reached.now) block (unwrap_or c.next_block.new.self.lent [])
+    c.read_content-content.result _ _ c.count_comments.ensures.comments c.take_content.ensures.next)
+    (behind_by (progress_of c.args.reached.now) block (unwrap_or c.next_block.new.self.lent [])
+    c.read_content-content.result _ _ c.count_comments.ensures.comments c.take_content.ensures.behind)
 
 pub returns-in-Ok-None-clause-fronts : goal.returns-in-Ok-None-clause-fronts
 returns-in-Ok-None-clause-fronts g c = λ told. rw c.set_end.ensures tt
@@ -78,3 +87,11 @@ pub returns-in-Err-clause-fronts : goal.returns-in-Err-clause-fronts
 returns-in-Err-clause-fronts g c = λ told.
     block-fault c.args.reader.now c.next_block.new.self (progress_of c.args.reached.now) c.in-Err.fault
     c.args.known.now c.in-Err.ensures.answer
+
+pub take_content-requires-clause-limit : goal.take_content-requires-clause-limit
+take_content-requires-clause-limit g c =
+    let e = rw c.in-Ok-Some.field-0-is at c.in-Ok-Some.ensures in
+    counted-limit (progress_of c.args.reached.now) (progress_of c.count_comments.new.reached) c.in-Ok-Some.block
+    c.next_block.new.self.lent c.read_content-content.result c.args.reader.now.offset c.next_block.new.self.offset
+    c.count_comments.ensures.comments c.requires.counted e.answer.least e.answer.size e.answer.gives.next
+    e.keeps.limit
