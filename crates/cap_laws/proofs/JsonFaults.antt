@@ -15,7 +15,8 @@ use Rattle.cap_bytes.specs.declared.faults.Rule.TheVariants.{Inexact, TimeRange,
 use Rattle.cap_laws.proofs.JsonLines.{after-commas, comma-then, object-first, path-is}
 use Rattle.cap_laws.proofs.JsonNumbers.{decimal-whole}
 use Rattle.cap_laws.proofs.JsonStrings.{string-then}
-use Rattle.cap_laws.specs.JsonFaults.{IsCutLine, IsHintLine, IsOpenLine, IsReadLine, IsRefusedLine}
+use Rattle.cap_laws.specs.JsonFaults.{IsCutLine, IsHintLine, IsListLine, IsNetworkLine, IsOpenLine, IsReadLine}
+use Rattle.cap_laws.specs.JsonFaults.{IsRefusedLine}
 use Rattle.cap_laws.specs.JsonLines.{JsonValue, string, whole, whole_text}
 use Rattle.cap_tool.specs.Objects.{escaped_character, path_json}
 
@@ -158,6 +159,38 @@ cut-line file cut path small few short =
     (sym (comma-then 1 place (count ∷ behind) (codes "}\n")))
     ∙ ap (λ l. left ++ l) (sym (comma-then 1 number (place ∷ count ∷ behind) (codes "}\n")))
     ∙ sym (object-first 1 (codes "type", string (codes "cut")) (number ∷ place ∷ count ∷ behind) (codes "\n"))
+
+pub list-line : IsListLine
+unfolding encode after-commas
+list-line line small =
+    let number : List ℕ × JsonValue 1 = (codes "line", whole (pos line)) in
+    let left : List ℕ = codes "{\"type\":\"fault\",\"fault\":\"list\"" in
+    append_assoc (codes "{\"type\":\"fault\",\"fault\":\"list\",\"line\":") (decimal line) (codes "}\n")
+    ∙ (λ i. left ++ (codes ",\"line\":" ++ (decimal-whole line small i ++ codes "}\n")))
+    ∙ ap (λ l. left ++ l) (sym (comma-then 1 number [] (codes "}\n")))
+    ∙ ap (λ l. codes "{\"type\":\"fault\"" ++ l)
+    (sym (comma-then 1 (codes "fault", string (codes "list")) (number ∷ []) (codes "}\n")))
+    ∙ sym (object-first 1 (codes "type", string (codes "fault"))
+    ((codes "fault", string (codes "list")) ∷ number ∷ []) (codes "\n"))
+
+pub network-line : IsNetworkLine
+unfolding encode after-commas
+network-line n small few some =
+    let six : List ℕ × JsonValue 1 = (codes "ipv6", whole (pos n.ipv6)) in
+    let arp : List ℕ × JsonValue 1 = (codes "arp", whole (pos n.arp)) in
+    let other : List ℕ × JsonValue 1 = (codes "other", whole (pos n.other)) in
+    let left : List ℕ = codes "{\"type\":\"not_ipv4\"" in
+    parts-6 (codes "{\"type\":\"not_ipv4\",\"ipv6\":") (decimal n.ipv6) (codes ",\"arp\":") (decimal n.arp)
+    (codes ",\"other\":") (decimal n.other) (codes "}\n")
+    ∙ (λ i. left ++ (codes ",\"ipv6\":" ++ (decimal-whole n.ipv6 small i ++ (codes ",\"arp\":"
+    ++ (decimal-whole n.arp few i ++ (codes ",\"other\":" ++ (decimal-whole n.other some i ++ codes "}\n")))))))
+    ∙ ap (λ l. left ++ (codes ",\"ipv6\":" ++ (whole_text (pos n.ipv6) ++ (codes ",\"arp\":"
+    ++ (whole_text (pos n.arp) ++ l)))))
+    (sym (comma-then 1 other [] (codes "}\n")))
+    ∙ ap (λ l. left ++ (codes ",\"ipv6\":" ++ (whole_text (pos n.ipv6) ++ l)))
+    (sym (comma-then 1 arp (other ∷ []) (codes "}\n")))
+    ∙ ap (λ l. left ++ l) (sym (comma-then 1 six (arp ∷ other ∷ []) (codes "}\n")))
+    ∙ sym (object-first 1 (codes "type", string (codes "not_ipv4")) (six ∷ arp ∷ other ∷ []) (codes "\n"))
 
 pub refused-line : IsRefusedLine
 unfolding encode

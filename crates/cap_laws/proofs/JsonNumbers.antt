@@ -46,7 +46,7 @@ onto-by (suc k) n acc false e small all =
       more.2 ∙ ap (λ m. digits_value_after 10 m acc) (omega (arith, (glyph-is (n % 10) (omega arith)).0)),
     )
 
-spelled : (k n : ℕ) → n < 10 ^ suc k
+pub spelled : (k n : ℕ) → n < 10 ^ suc k
     → (0 < length (digits_onto (suc k) 10 false n [])) × AllDigits 10 (digits_onto (suc k) 10 false n [])
     × (digits_value 10 (digits_onto (suc k) 10 false n []) ≡ n)
 unfolding IsSpelled

@@ -18,6 +18,7 @@ mod JsonNumbers
 mod JsonStrings
 mod JsonValues
 mod JsonWords
+mod LineWords
 mod LikePieces
 mod LikeReports
 mod LikeUnits
@@ -31,5 +32,6 @@ mod SameRun
 mod Sums
 mod Totals
 mod Twins
+mod VerifiedLines
 mod WorkedRows
 mod Written

@@ -5,7 +5,10 @@ use Rattle.cap_bytes.specs.declared.faults.Refusal.{Refusal}
 use Rattle.cap_bytes.specs.declared.stops.CutRest.{CutRest}
 use Rattle.cap_laws.specs.JsonLines.{json_text, object, string, whole}
 use Rattle.cap_tool.specs.Cuts.{cut_fields}
-use Rattle.cap_tool.specs.Objects.{hint_json, object_json, open_fields, read_fields, refused_fields}
+use Rattle.cap_print.specs.declared.forms.Form.TheVariants.{Json}
+use Rattle.cap_talks.specs.declared.table.others.OtherCounts.{OtherCounts}
+use Rattle.cap_tool.specs.NetworkLine.{networks_in}
+use Rattle.cap_tool.specs.Objects.{hint_json, list_line_json, object_json, open_fields, read_fields, refused_fields}
 
 -- The line of a refusal is the text of an object that has where the file is refused and by which rule, and the word
 -- that named the file.
@@ -35,6 +38,22 @@ IsOpenLine =
     ≡ json_text 2 (object ((codes "type", string (codes "fault")) ∷ (codes "fault", string (codes "open"))
     ∷ (codes "file", whole (pos file))
     ∷ map (λ word. (codes "path", string (chars word))) (option_to_list path))) ++ codes "\n"
+
+-- So is the line of a line of a list that isn't one that `digest --names` prints.
+abbrev pub IsListLine : Type 0
+IsListLine =
+    (line : ℕ) → line < 10 ^ 64
+    → list_line_json line
+    ≡ json_text 2 (object ((codes "type", string (codes "fault")) ∷ (codes "fault", string (codes "list"))
+    ∷ (codes "line", whole (pos line)) ∷ [])) ++ codes "\n"
+
+-- So is the line of the networks of the packets that a report counts as `not-ipv4`.
+abbrev pub IsNetworkLine : Type 0
+IsNetworkLine =
+    (n : OtherCounts) → n.ipv6 < 10 ^ 64 → n.arp < 10 ^ 64 → n.other < 10 ^ 64
+    → networks_in Json n
+    ≡ json_text 2 (object ((codes "type", string (codes "not_ipv4")) ∷ (codes "ipv6", whole (pos n.ipv6))
+    ∷ (codes "arp", whole (pos n.arp)) ∷ (codes "other", whole (pos n.other)) ∷ [])) ++ codes "\n"
 
 -- So is the line of a rest of a file that was cut and dropped.
 abbrev pub IsCutLine : Type 0

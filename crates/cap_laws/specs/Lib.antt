@@ -19,4 +19,5 @@ pub mod Rounds
 pub mod Runs
 pub mod Sums
 pub mod Totals
+pub mod VerifiedLines
 pub mod WorkedReport

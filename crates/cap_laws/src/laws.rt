@@ -10,7 +10,8 @@ ghost use Rattle.cap_laws.specs.InOrder.{ByPlaces, ReportByPlaces};
 ghost use Rattle.cap_laws.specs.JoinedByPlaces.{JoinedByPlaces};
 ghost use Rattle.cap_laws.specs.JoinedUnits.{JoinedUnits};
 ghost use Rattle.cap_laws.specs.JsonDifferences.{IsDifferLine, IsSideLine};
-ghost use Rattle.cap_laws.specs.JsonFaults.{IsCutLine, IsHintLine, IsOpenLine, IsReadLine, IsRefusedLine};
+ghost use Rattle.cap_laws.specs.JsonFaults.{IsCutLine, IsHintLine, IsListLine, IsNetworkLine, IsOpenLine};
+ghost use Rattle.cap_laws.specs.JsonFaults.{IsReadLine, IsRefusedLine};
 ghost use Rattle.cap_laws.specs.JsonLines.{IsJsonLine, IsNamedLine, LinesReadBack, ValuesReadBack};
 ghost use Rattle.cap_laws.specs.JsonWords.{ListedWordsPlain, PlainLinesFit, ReportWordsPlain};
 ghost use Rattle.cap_laws.specs.MergeSorts.{MergeSorts, RunSorts, SortsOnce};
@@ -19,6 +20,7 @@ ghost use Rattle.cap_laws.specs.Rounds.{RoundsInBytes};
 ghost use Rattle.cap_laws.specs.Runs.{MergedRun, PcapngRun};
 ghost use Rattle.cap_laws.specs.Sums.{LoneClasses, ReportSums};
 ghost use Rattle.cap_laws.specs.Totals.{ReportTotals};
+ghost use Rattle.cap_laws.specs.VerifiedLines.{VerifiesAsSame};
 ghost use Rattle.cap_laws.specs.WorkedReport.{Overlapped, Tagged};
 ghost use Rattle.cap_class.specs.Counting.{OneClass};
 ghost use Rattle.cap_class.specs.Taken.{Taken};
@@ -188,12 +190,14 @@ pub fn json_words()
     ensures fits { PlainLinesFit }
 {}
 
-/// The line of a refusal, of a read that failed, of a file that couldn't be opened and of what explains how a run ended
-/// is the text of a value of JSON (RFC 8259), whatever characters the name of the file and the explanation have.
+/// The line of a refusal, of a read that failed, of a file that couldn't be opened, of a line of a list that isn't taken
+/// and of what explains how a run ended is the text of a value of JSON (RFC 8259), whatever characters the name of the
+/// file and the explanation have.
 pub fn json_faults()
     ensures refused { IsRefusedLine }
     ensures failed { IsReadLine }
     ensures unopened { IsOpenLine }
+    ensures listed { IsListLine }
     ensures explained { IsHintLine }
 {}
 
@@ -201,6 +205,12 @@ pub fn json_faults()
 /// the name of the file has.
 pub fn json_cuts()
     ensures { IsCutLine }
+{}
+
+/// The line of the networks of the packets that a report counts as `not-ipv4` is the text of a value of JSON
+/// (RFC 8259).
+pub fn json_networks()
+    ensures { IsNetworkLine }
 {}
 
 /// The three lines that `diff --json` prints of a difference are texts of values of JSON (RFC 8259).
@@ -213,6 +223,13 @@ pub fn json_differences()
 /// has that of no time.
 pub fn exact_times()
     ensures { TimesReadBack }
+{}
+
+/// The lines that `digest --names` printed of files that were opened are read back by `digest --verify`, each with the
+/// name of its file, and while the files are the same, it says `same` of each. The names are UTF-8, and none of them
+/// spells out the escape of a hidden character.
+pub fn verified_lines()
+    ensures { VerifiesAsSame }
 {}
 
 /// Each packet has one class, and the seven counts add up to the number of packets.

@@ -11,7 +11,7 @@ pub use crate::digests::{converted_digest, same_text};
 pub use crate::laws::{
     check_counts, described_classes, diff_converted, diff_first, diff_same, exact_times,
     joined_by_places, joined_units, json_cuts, json_differences, json_faults, json_lines,
-    json_words, merge_sorts, merged_report, merged_run, one_class, pcap_report, pcapng_report,
-    pcapng_run, refusal_rule, report_by_places, report_sums, report_totals, rounds_bytes,
-    worked_report,
+    json_networks, json_words, merge_sorts, merged_report, merged_run, one_class, pcap_report,
+    pcapng_report, pcapng_run, refusal_rule, report_by_places, report_sums, report_totals,
+    rounds_bytes, verified_lines, worked_report,
 };

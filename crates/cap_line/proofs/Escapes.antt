@@ -114,6 +114,12 @@ shown_seen keeps text utf8 =
     subst (All (λ c. IsFalse (is_escaped keeps c))) (sym (chars-encodes cs (good-scalars keeps cs good)))
     (good-seen keeps cs good)
 
+-- what is shown is text
+pub shown_utf8 : (keeps : Bool) (text : List ℕ) → IsUtf8 text → IsUtf8 (shown_text keeps text)
+shown_utf8 keeps text utf8 =
+    let cs = flat_map (shown_char keeps) (chars text) in
+    (cs, (good-scalars keeps cs (all-good keeps (chars text) (scalars-chars text utf8)), refl))
+
 -- the characters of what is shown
 pub shown_chars : (keeps : Bool) (text : List ℕ) → IsUtf8 text
     → chars (shown_text keeps text) ≡ flat_map (shown_char keeps) (chars text)

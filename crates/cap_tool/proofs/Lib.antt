@@ -4,7 +4,7 @@ pub mod Paths
 mod LeftOutTexts
 mod NetworkTexts
 mod ListedNames
-mod LineParts
+pub mod LineParts
 mod LinesRead
 mod Judging
 mod Running

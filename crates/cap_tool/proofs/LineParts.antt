@@ -17,7 +17,7 @@ use Rattle.cap_tool.specs.DigestLines.{Entry, entry_by, entry_in, fields_of}
 use Rattle.cap_tool.specs.DigestLines.{named_by, number_before, number_by, split_first}
 
 -- a list begins with another
-starts-not : (xs front : List ℕ) → ((rest : List ℕ) → xs ≡ front ++ rest → ⊥) → starts_with ◌==◌ xs front ≡ false
+pub starts-not : (xs front : List ℕ) → ((rest : List ℕ) → xs ≡ front ++ rest → ⊥) → starts_with ◌==◌ xs front ≡ false
 starts-not xs front other = by (starts_with ◌==◌ xs front) refl
   where
     by : (b : Bool) → starts_with ◌==◌ xs front ≡ b → b ≡ false

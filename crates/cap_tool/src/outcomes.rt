@@ -60,7 +60,7 @@ impl From<Outcome> for RunStop {
 
 impl RunStop {
     /// A run that ended like this for that reason, and found no difference.
-    pub fn because(outcome: Outcome, cause: Cause) -> RunStop
+    pub(crate) fn because(outcome: Outcome, cause: Cause) -> RunStop
         ensures { result ≡ record { outcome = outcome; cause = cause; left = nothing_left } }
     {
         RunStop {

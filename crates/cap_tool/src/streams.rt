@@ -1,6 +1,7 @@
 //! The files and the standard streams of a run.
 ghost use Rattle.std.specs.Prelude.{◌≡◌, ◌≢◌, ◌≤◌, ◌+◌, ◌++◌, ◌∷◌, [], codes, length, map, vec_len, IfOk, IfErr};
 ghost use Rattle.std.specs.Prelude.{Contains, Err, IfSome, IsErr, IsFalse, IsSomeAnd, IsTrue, option_map, Some, None};
+ghost use Rattle.cap_commands.specs.Left.{nothing_left};
 ghost use Rattle.cap_tool.specs.CheckedNames.{AreGiven};
 ghost use Rattle.cap_tool.specs.Streams.{IsOutFile, IsStandardOut, StopsOpening, StopsCreating, is_dash, is_standard};
 
@@ -153,7 +154,7 @@ fn standard_output(
     inputs: &[Option<FileId>],
 ) -> Result<Output, RunStop>
     ensures input { IsSomeAnd goes_to (λ i. Contains inputs.now (Some i))
-        → result ≡ Err (record { outcome = Outcome.Create; cause = Cause.IsInput }) }
+        → result ≡ Err (record { outcome = Outcome.Create; cause = Cause.IsInput; left = nothing_left }) }
     ensures other { (IsSomeAnd goes_to (λ i. Contains inputs.now (Some i)) → ⊥)
         → result ≡ Ok (Output.Standard standard) }
 {
