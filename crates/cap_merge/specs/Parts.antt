@@ -169,6 +169,7 @@ endings_of [] file =
       interfaces = 1;
       named = 0;
       kinds = no_kinds;
+      comments = None;
     }
 endings_of (p ∷ ps) file = if has_file p.feed.files file then p.feed.endings file else endings_of ps file
 

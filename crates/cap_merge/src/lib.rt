@@ -6,6 +6,6 @@ mod lanes;
 mod laws;
 mod merging;
 
-pub use crate::files::merge_files;
+pub use crate::files::{merge_files, merge_files_with_comments};
 pub use crate::laws::merge_order;
 pub use crate::merging::{Merged, RunPacket};

@@ -353,6 +353,10 @@ impl<F: PacketFeed> PacketFeed for Merged<F> {
         self.feeds[file as usize - 1].skipped_kinds(file)
     }
 
+    fn comments(&self, file: u32) -> Option<u64> {
+        self.feeds[file as usize - 1].comments(file)
+    }
+
     fn feed_held(&self) -> FeedHeld {
         let mut held = FeedHeld {
             window: 0,

@@ -20,10 +20,10 @@ loop-source-preserved g c =
     let reader = reader_of g.R.Source.tells_coming g.R.Device.can_fail g.R.Source.coming in
     let seen = c.loop-source.yielded in
     let x = c.in-Some.source in
-    let e = c.new-capture.ensures in
+    let e = c.with_comments-capture.ensures in
     let place : c.loop-source.file ≡ 1 + length (map reader seen) = omega (arith, i.number, length-map seen reader) in
-    let is : IsUnread c.args.tail (1 + length (map reader seen)) (reader x) (capture_feed c.new-capture.result) =
-    subst (λ n. IsUnread c.args.tail n (reader x) (capture_feed c.new-capture.result)) place
+    let is : IsUnread c.args.comments c.args.tail (1 + length (map reader seen)) (reader x) (capture_feed c.with_comments-capture.result) =
+    subst (λ n. IsUnread c.args.comments c.args.tail n (reader x) (capture_feed c.with_comments-capture.result)) place
     (record {
       files = e.files;
       told = e.told;
@@ -32,9 +32,9 @@ loop-source-preserved g c =
       broken = e.whole;
       can_fail = e.can_fail;
     }) in
-    let more = AreUnread-more c.args.tail 1 (map reader seen) (map capture_feed c.loop-source.captures.items) (reader x)
-    (capture_feed c.new-capture.result) i.unread is in
-    let pushed : c.push.new.self.items ≡ c.loop-source.captures.items ++ c.new-capture.result ∷ [] = search rules in
+    let more = AreUnread-more c.args.comments c.args.tail 1 (map reader seen) (map capture_feed c.loop-source.captures.items) (reader x)
+    (capture_feed c.with_comments-capture.result) i.unread is in
+    let pushed : c.push.new.self.items ≡ c.loop-source.captures.items ++ c.with_comments-capture.result ∷ [] = search rules in
     record {
       number = next_number _ _ _ i.number (length-append seen (x ∷ []));
       unread =
@@ -42,7 +42,7 @@ loop-source-preserved g c =
             map-append reader seen (x ∷ []),
             pushed,
             map-append capture_feed c.loop-source.captures.items
-                (c.new-capture.result ∷ []),
+                (c.with_comments-capture.result ∷ []),
           ) more;
     }
 
@@ -56,7 +56,7 @@ returns-clause-unread g c =
     c.loop-source.yielded c.loop-source.source-iterator c.loop-source.yielded_by c.next.result c.next.new.self
     c.in-None.is c.next.ensures.steps in
     let all : c.loop-source.yielded ≡ c.args.sources.items = sym (map-id c.loop-source.yielded) ∙ end.0 in
-    subst (λ l. AreUnread c.args.tail 1 (map reader l) (map capture_feed c.loop-source.captures.items)) all
+    subst (λ l. AreUnread c.args.comments c.args.tail 1 (map reader l) (map capture_feed c.loop-source.captures.items)) all
     c.loop-source.invariant.unread
 
 pub overflow_add-file : goal.overflow_add-file

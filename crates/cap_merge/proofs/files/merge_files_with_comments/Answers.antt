@@ -1,16 +1,16 @@
 use Rattle.std.proofs.lemmas.List.{length-map}
 use Rattle.std.proofs.Common.{map, arith}
 use Rattle.cap_source.specs.inner.Captures.{capture_feed}
-use Rattle.cap_merge.proofs.Unread.{AreUnread-length, AreUnread-numbered, IsUnreadRun-feeds}
+use Rattle.cap_merge.proofs.Unread.{AreUnread-length, AreUnread-numbered, IsCountedRun-feeds}
 use Rattle.cap_merge.specs.inner.Readers.{reader_of}
-use Rattle.cap_merge.proofs.files.merge_files.Goals as goal
+use Rattle.cap_merge.proofs.files.merge_files_with_comments.Goals as goal
 
 pub new-requires-clause-some : goal.new-requires-clause-some
 new-requires-clause-some g c =
     let reader = reader_of g.R.Source.tells_coming g.R.Device.can_fail g.R.Source.coming in
     let v = c.in_ok-captures.captures in
     let sources = c.args.sources in
-    let same = AreUnread-length c.args.tail 1 (map reader sources.items)
+    let same = AreUnread-length c.args.comments c.args.tail 1 (map reader sources.items)
     (map capture_feed v.items) c.in_ok-captures.ensures.unread in
     omega (
       arith,
@@ -27,7 +27,7 @@ new-requires-clause-most g c =
     let reader = reader_of g.R.Source.tells_coming g.R.Device.can_fail g.R.Source.coming in
     let v = c.in_ok-captures.captures in
     let sources = c.args.sources in
-    let same = AreUnread-length c.args.tail 1 (map reader sources.items)
+    let same = AreUnread-length c.args.comments c.args.tail 1 (map reader sources.items)
     (map capture_feed v.items) c.in_ok-captures.ensures.unread in
     omega (
       arith,
@@ -42,13 +42,13 @@ new-requires-clause-most g c =
 pub new-requires-clause-numbered : goal.new-requires-clause-numbered
 new-requires-clause-numbered g c =
     let reader = reader_of g.R.Source.tells_coming g.R.Device.can_fail g.R.Source.coming in
-    AreUnread-numbered c.args.tail (map reader c.args.sources.items)
+    AreUnread-numbered c.args.comments c.args.tail (map reader c.args.sources.items)
     (map capture_feed c.in_ok-captures.captures.items) c.in_ok-captures.ensures.unread
 
 pub returns-clause-unread : goal.returns-clause-unread
 returns-clause-unread g c =
     let reader = reader_of g.R.Source.tells_coming g.R.Device.can_fail g.R.Source.coming in
     let sources = c.args.sources in
-    IsUnreadRun-feeds c.args.tail (map reader sources.items) (map capture_feed c.in_ok-captures.captures.items) _
+    IsCountedRun-feeds c.args.comments c.args.tail (map reader sources.items) (map capture_feed c.in_ok-captures.captures.items) _
     (omega (arith, length-map sources.items reader, sources.ok.0, c.requires.some)) c.in_ok-captures.ensures.unread
     c.new.ensures.parts c.new.ensures.run
