@@ -6,6 +6,8 @@ pub mod FrameOrder
 pub mod FrameLaws
 pub mod Talking
 pub mod RowSums
+pub mod GreatestFirst
+pub mod Ranking
 pub mod KeyLaws
 pub mod SumLaws
 pub mod TalkPrinting

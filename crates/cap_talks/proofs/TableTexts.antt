@@ -9,10 +9,10 @@ use Rattle.cap_talks.specs.table.CountedUnits.{counted_units, joined_in, given_u
 use Rattle.cap_talks.specs.counts.FileLines.{files_facts}
 use Rattle.cap_talks.specs.counts.FileLines.{ended_from, counted_texts_in}
 use Rattle.cap_talks.specs.table.TakenText.{files_part_in, body_text_in, text_of_in, total_facts, frames_facts}
-use Rattle.cap_talks.specs.table.TakenText.{joined_facts}
+use Rattle.cap_talks.specs.table.TakenText.{body_showing_in, joined_facts, text_showing_in}
 use Rattle.cap_talks.specs.table.TakenText.{taken_bytes, truncated_of}
 use Rattle.cap_class.specs.Taken.{Taken}
-use Rattle.cap_talks.specs.table.Conversations.{rows_of}
+use Rattle.cap_talks.specs.table.Conversations.{Conversation, rows_of}
 use Rattle.cap_talks.specs.table.TalkLines.{talk_texts_in, talks_facts}
 use Rattle.cap_talks.specs.inner.table.Tallies.{TallyState, TallyStands, tally_text_in}
 use Rattle.cap_talks.specs.inner.table.Totals.{TotalsState, TotalsStand}
@@ -29,37 +29,45 @@ unfolding files_part_in
 files-are form e t xs ended s is = grind (arith, ended-length, lines-counted)
 
 -- the lines of a tally
-tally-is : (form : Form) (t : TallyState) (xs : List Taken) (next : Option Taken) → TallyStands t xs next
-    → tally_text_in form t
+tally-is : (form : Form) (rows : List Conversation) (t : TallyState) (xs : List Taken) (next : Option Taken)
+    → TallyStands t xs next
+    → tally_text_in form rows t
     ≡ line_in form (frames_facts (counts_of (classes xs))) ++ line_in form (joined_facts (joined_in xs)
     (given_up_in xs))
-    ++ (line_in form (talks_facts (length (rows_of (counted_units xs)))) ++ talk_texts_in form (rows_of
-    (counted_units xs)))
+    ++ (line_in form (talks_facts (length (rows_of (counted_units xs)))) ++ talk_texts_in form rows)
 unfolding tally_text_in
-tally-is form t xs next s = λ i.
+tally-is form rows t xs next s = λ i.
     line_in form (frames_facts (s.classes i)) ++ line_in form (joined_facts (s.joined i) (given-up t xs next s i))
-    ++ (line_in form (talks_facts (length (s.talks.rows i))) ++ talk_texts_in form (s.talks.rows i))
+    ++ (line_in form (talks_facts (length (s.talks.rows i))) ++ talk_texts_in form rows)
 
 regroup : (a b c d e : List ℕ) → a ++ (b ++ c ++ (d ++ e)) ≡ a ++ b ++ c ++ d ++ e
 regroup a b c d e = simp append_assoc refl
 
 -- all other lines
-pub body-is : (form : Form) (t : TotalsState) (u : TallyState) (xs : List Taken) (next : Option Taken)
-    → TotalsStand t xs → TallyStands u xs next
-    → line_in form (total_facts t.packets t.bytes t.truncated) ++ tally_text_in form u ≡ body_text_in form xs
-unfolding body_text_in
-body-is form t u xs next s k =
-    (λ i. line_in form (total_facts (s.packets i) (s.bytes i) (s.truncated i)) ++ tally-is form u xs next k i)
+pub body-is : (form : Form) (rows : List Conversation) (t : TotalsState) (u : TallyState) (xs : List Taken)
+    (next : Option Taken) → TotalsStand t xs → TallyStands u xs next
+    → line_in form (total_facts t.packets t.bytes t.truncated) ++ tally_text_in form rows u
+    ≡ body_showing_in form rows xs
+unfolding body_showing_in
+body-is form rows t u xs next s k =
+    (λ i. line_in form (total_facts (s.packets i) (s.bytes i) (s.truncated i)) ++ tally-is form rows u xs next k i)
     ∙ regroup (line_in form (total_facts (length xs) (taken_bytes xs) (truncated_of xs)))
     (line_in form (frames_facts (counts_of (classes xs))))
     (line_in form (joined_facts (joined_in xs) (given_up_in xs)))
-    (line_in form (talks_facts (length (rows_of (counted_units xs))))) (talk_texts_in form (rows_of (counted_units xs)))
+    (line_in form (talks_facts (length (rows_of (counted_units xs))))) (talk_texts_in form rows)
 
 -- the whole report
-pub text-is : (form : Form) (e : Option (ℕ → FileEnd)) (t : TotalsState) (u : TallyState) (xs : List Taken)
-    (next : Option Taken) (ended : List Counted)
+pub text-is : (form : Form) (rows : List Conversation) (e : Option (ℕ → FileEnd)) (t : TotalsState) (u : TallyState)
+    (xs : List Taken) (next : Option Taken) (ended : List Counted)
     → TotalsStand t xs → TallyStands u xs next → ended ≡ ended_from e 1 t.files
     → (line_in form (files_facts (length ended)) ++ counted_texts_in form 1 ended)
-    ++ (line_in form (total_facts t.packets t.bytes t.truncated) ++ tally_text_in form u)
-    ≡ text_of_in form (length t.files) e xs
-text-is form e t u xs next ended s k is = λ i. files-are form e t xs ended s is i ++ body-is form t u xs next s k i
+    ++ (line_in form (total_facts t.packets t.bytes t.truncated) ++ tally_text_in form rows u)
+    ≡ text_showing_in form rows (length t.files) e xs
+text-is form rows e t u xs next ended s k is =
+    λ i. files-are form e t xs ended s is i ++ body-is form rows t u xs next s k i
+
+-- the report with the lines of all conversations
+pub text-all : (form : Form) (count : ℕ) (e : Option (ℕ → FileEnd)) (xs : List Taken)
+    → text_showing_in form (rows_of (counted_units xs)) count e xs ≡ text_of_in form count e xs
+unfolding body_text_in body_showing_in
+text-all form count e xs = refl

@@ -2,6 +2,7 @@ pub mod Conversations
 pub mod Units
 pub mod Rows
 pub mod TalkLines
+pub mod TopRows
 pub mod CountedUnits
 pub mod TakenText
 pub mod Descriptions

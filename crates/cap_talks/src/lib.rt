@@ -7,8 +7,9 @@ mod talks;
 
 pub use crate::table::{
     CountedUnit, Description, Endpoint, Held, NO_OTHERS, OtherCounts, Step, Table, TalkKey,
-    TalkRow, TimedFrame, describe, other_networks_law, put_description, talk_laws,
+    TalkRow, TimedFrame, describe, other_networks_law, put_description, talk_laws, top_rows_law,
 };
 pub use crate::talks::{
-    ReportLeft, file_lines, file_lines_and_cuts, file_lines_in, report, report_and_count, report_in,
+    ReportLeft, ReportOptions, file_lines, file_lines_and_cuts, file_lines_in, report,
+    report_and_count, report_in, report_with,
 };

@@ -12,11 +12,12 @@ mod rows;
 mod tables;
 mod talk_lines;
 mod tallies;
+mod top;
 mod totals;
 mod units;
 
 pub use crate::table::descriptions::{Description, describe, put_description};
-pub use crate::table::laws::{other_networks_law, talk_laws};
+pub use crate::table::laws::{other_networks_law, talk_laws, top_rows_law};
 pub(crate) use crate::table::others::with_network;
 pub use crate::table::others::{NO_OTHERS, OtherCounts};
 pub use crate::table::rows::{TalkKey, TalkRow};

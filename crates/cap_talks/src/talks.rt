@@ -4,4 +4,6 @@ mod files;
 mod reports;
 
 pub use crate::talks::files::{file_lines, file_lines_and_cuts, file_lines_in};
-pub use crate::talks::reports::{ReportLeft, report, report_and_count, report_in};
+pub use crate::talks::reports::{
+    ReportLeft, ReportOptions, report, report_and_count, report_in, report_with,
+};

@@ -6,6 +6,7 @@ pub mod Looking
 pub mod Others
 pub mod Packed
 pub mod Props
+pub mod Ranked
 pub mod Stepping
 pub mod TableView
 pub mod ConversationsView

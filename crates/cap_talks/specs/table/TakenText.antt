@@ -9,7 +9,7 @@ use Rattle.cap_source.specs.declared.packets.Meta.{Meta}
 use Rattle.cap_talks.specs.counts.Counting.{counted}
 use Rattle.cap_talks.specs.counts.FileLines.{file_facts, files_facts, ending_at}
 use Rattle.cap_talks.specs.table.TalkLines.{talk_texts_in, talks_facts}
-use Rattle.cap_talks.specs.table.Conversations.{rows_of}
+use Rattle.cap_talks.specs.table.Conversations.{Conversation, rows_of}
 use Rattle.cap_class.specs.Counting.{counts_of}
 use Rattle.cap_class.specs.Classes.{classes}
 use Rattle.cap_class.specs.Taken.{Taken}
@@ -84,13 +84,18 @@ joined_facts joined given_up =
 abbrev pub joined_text : ℕ → ℕ → List ℕ
 joined_text joined given_up = line_in Text (joined_facts joined given_up)
 
--- all lines but those of the files, in a form, by the packets' classes and units, and how many datagrams were joined
--- and how many groups given up
-abbrev pub body_by_in : Form → List Taken → List Class → List CountedUnit → ℕ → ℕ → List ℕ
-body_by_in form xs of_each units joined given_up =
+-- all lines but those of the files and of the conversations, in a form, by the packets' classes and units, and how many
+-- datagrams were joined and how many groups given up
+abbrev pub counts_by_in : Form → List Taken → List Class → List CountedUnit → ℕ → ℕ → List ℕ
+counts_by_in form xs of_each units joined given_up =
     line_in form (total_facts (length xs) (taken_bytes xs) (truncated_of xs))
     ++ line_in form (frames_facts (counts_of of_each)) ++ line_in form (joined_facts joined given_up)
-    ++ line_in form (talks_facts (length (rows_of units))) ++ talk_texts_in form (rows_of units)
+    ++ line_in form (talks_facts (length (rows_of units)))
+
+-- the same with the lines of the conversations behind them
+abbrev pub body_by_in : Form → List Taken → List Class → List CountedUnit → ℕ → ℕ → List ℕ
+body_by_in form xs of_each units joined given_up =
+    counts_by_in form xs of_each units joined given_up ++ talk_texts_in form (rows_of units)
 
 -- the same in text
 abbrev pub body_by : List Taken → List Class → List CountedUnit → ℕ → ℕ → List ℕ
@@ -103,6 +108,11 @@ body_text_in form xs = body_by_in form xs (classes xs) (counted_units xs) (joine
 -- the same in text
 abbrev pub body_text : List Taken → List ℕ
 body_text xs = body_text_in Text xs
+
+-- all lines but those of the files, in a form, with the lines of these conversations and of no others
+unfoldable pub body_showing_in : Form → List Conversation → List Taken → List ℕ
+body_showing_in form talks xs =
+    counts_by_in form xs (classes xs) (counted_units xs) (joined_in xs) (given_up_in xs) ++ talk_texts_in form talks
 
 -- the lines of the files, of which there are `count`, in a form
 unfoldable pub files_part_in : Form → ℕ → Option (ℕ → FileEnd) → List Taken → List ℕ
@@ -120,3 +130,7 @@ text_of_in form count endings xs = files_part_in form count endings xs ++ body_t
 -- the same in text
 abbrev pub text_of : ℕ → Option (ℕ → FileEnd) → List Taken → List ℕ
 text_of count endings xs = text_of_in Text count endings xs
+
+-- that report with the lines of these conversations and of no others
+abbrev pub text_showing_in : Form → List Conversation → ℕ → Option (ℕ → FileEnd) → List Taken → List ℕ
+text_showing_in form talks count endings xs = files_part_in form count endings xs ++ body_showing_in form talks xs

@@ -1,8 +1,10 @@
 //! Laws of conversations.
-ghost use Rattle.std.specs.Prelude.{List};
+ghost use Rattle.std.specs.Prelude.{ℕ, List};
 ghost use Rattle.cap_talks.specs.inner.table.Laws.{KeyLaw, FrameLaw, SumLaw};
 ghost use Rattle.cap_talks.specs.inner.table.Worked.{TalkLines, TalkLimit};
 ghost use Rattle.cap_talks.specs.table.OtherNetworks.{OtherNetworks};
+ghost use Rattle.cap_talks.specs.table.Conversations.{Conversation};
+ghost use Rattle.cap_talks.specs.table.TopRows.{IsTop};
 ghost use Rattle.cap_class.specs.Taken.{Taken};
 ghost use Rattle.cap_talks.specs.declared.table.units.CountedUnit.{CountedUnit};
 
@@ -24,4 +26,11 @@ pub fn talk_laws()
 /// the report prints. It does nothing when it runs.
 pub fn other_networks_law()
     ensures { (xs : List Taken) → OtherNetworks xs }
+{}
+
+/// A law: the conversations with the most bytes are the front of all of them in an order in which none has fewer bytes
+/// than one after it and those of equal bytes stand as in the table. None that is left out has more bytes than one of
+/// them. It does nothing when it runs.
+pub fn top_rows_law()
+    ensures { (most : ℕ) (talks : List Conversation) → IsTop most talks }
 {}

@@ -1,6 +1,6 @@
 //! The table of a report, step by step.
 ghost use Rattle.std.specs.Prelude.{◌≡◌, ◌+◌, ◌≤◌, ◌^◌, ◌||◌, List, [], not, false, length, IsTrue, IsOkUnless, Some};
-ghost use Rattle.std.specs.Prelude.{None, if◌then◌else◌};
+ghost use Rattle.std.specs.Prelude.{None, Ok, IfOk, if◌then◌else◌};
 ghost use Rattle.std.specs.List.{range_with_len};
 ghost use Rattle.cap_bytes.specs.Device.{WriterKeeps, writer_of};
 ghost use Rattle.cap_bytes.specs.Printing.{Prints, is_write};
@@ -14,13 +14,17 @@ ghost use Rattle.cap_talks.specs.inner.table.Stepping.{TableStands, StepKeeps, T
 ghost use Rattle.cap_talks.specs.inner.table.Others.{SeesNext};
 ghost use Rattle.cap_talks.specs.inner.table.Stepping.{endings_so_far};
 ghost use Rattle.cap_talks.specs.table.CountedUnits.{limit_refusal};
-ghost use Rattle.cap_talks.specs.table.TakenText.{text_of, text_of_in};
+ghost use Rattle.cap_talks.specs.inner.table.Ranked.{Shows};
+ghost use Rattle.cap_talks.specs.table.Conversations.{Conversation};
+ghost use Rattle.cap_talks.specs.table.TakenText.{text_of, text_showing_in};
+ghost use Rattle.cap_talks.specs.table.TopRows.{shown_rows};
 ghost use Rattle.cap_class.specs.Taken.{Taken};
 
 use crate::counts::{Counted, Counts, cuts_of, put_files};
 use crate::table::conversations::ConversationsFault;
 use crate::table::report_lines::total_line;
 use crate::table::tallies::Tally;
+use crate::table::top::Ranked;
 use crate::table::totals::Totals;
 use arrayvec::ArrayVec;
 use cap_bytes::{CutRest, Fault, Refusal, Rule, Sink, put_all};
@@ -150,13 +154,37 @@ impl<F: PacketFeed> Table<F> {
         ensures writer { WriterKeeps (writer_of W.Sink writer.old) (is_write result) (writer_of W.Sink writer.new) }
         ensures fault { IsOkUnless result Fault.Write }
     {
-        self.write_in(Form::Text, writer)
+        self.write_in(Form::Text, &None, writer)
     }
 
-    /// Writes the same in a form.
-    pub(crate) fn write_in<W: Sink>(&self, form: Form, writer: &mut W) -> Result<(), Fault>
-        ensures text { (xs : List Taken) → TableStands (table_of self.now) xs → IsTrue (W.tells_held writer.old)
-            → Prints (text_of_in form (length (table_of self.now).totals.files) (endings_so_far (table_of self.now)) xs)
+    /// The conversations that are shown: the `most` with the most bytes, the greatest first, if a number is given. They
+    /// are named by their places; none are named if all are shown. Returns `Memory`, and no other fault, if a growth
+    /// was refused; all are shown without one.
+    pub(crate) fn shown(
+        &self,
+        alloc: Global,
+        most: Option<u32>,
+    ) -> Result<Option<Vec<Ranked>>, Fault>
+        ensures shows { IfOk result (λ shown. Shows (table_of self.now).tally.talks.rows shown
+            (shown_rows most (table_of self.now).tally.talks.rows)) }
+        ensures fault { IsOkUnless result Fault.Memory }
+        ensures all { most ≡ None → result ≡ Ok None }
+    {
+        self.tally.shown(alloc, most)
+    }
+
+    /// Writes what `write_so_far` writes, in a form and with the lines of the conversations that are shown alone.
+    pub(crate) fn write_in<W: Sink>(
+        &self,
+        form: Form,
+        shown: &Option<Vec<Ranked>>,
+        writer: &mut W,
+    ) -> Result<(), Fault>
+        requires shown { (rows : List Conversation) × Shows (table_of self.now).tally.talks.rows shown.now rows }
+        ensures text { (xs : List Taken) (rows : List Conversation) → TableStands (table_of self.now) xs
+            → Shows (table_of self.now).tally.talks.rows shown.now rows → IsTrue (W.tells_held writer.old)
+            → Prints (text_showing_in form rows (length (table_of self.now).totals.files)
+            (endings_so_far (table_of self.now)) xs)
             None (W.held writer.old) result (W.held writer.new) }
         ensures writer { WriterKeeps (writer_of W.Sink writer.old) (is_write result) (writer_of W.Sink writer.new) }
         ensures fault { IsOkUnless result Fault.Write }
@@ -166,7 +194,7 @@ impl<F: PacketFeed> Table<F> {
         put_files(writer, form, counted.as_slice())?;
         let line = total_line(form, totals.packets(), totals.bytes(), totals.truncated());
         put_all(writer, line.as_slice())?;
-        self.tally.put_lines(form, writer)
+        self.tally.put_lines(form, shown, writer)
     }
 
     /// The rest of each file, by its place, that was cut and is dropped, once `step` has returned `Done`: none before.

@@ -1,16 +1,19 @@
 //! The lines of conversations.
-ghost use Rattle.std.specs.Prelude.{◌≡◌, ◌+◌, ◌≤◌, ◌<◌, ◌++◌, [], ◌∷◌, codes, length, IsTrue, IsOkUnless};
+ghost use Rattle.std.specs.Prelude.{◌≡◌, ◌+◌, ◌≤◌, ◌<◌, ◌++◌, List, [], ◌∷◌, codes, length, IsTrue, IsOkUnless};
 ghost use Rattle.std.specs.Prelude.{None};
 ghost use Rattle.cap_bytes.specs.Device.{WriterKeeps, writer_of};
 ghost use Rattle.cap_bytes.specs.Printing.{Prints, is_write};
 ghost use Rattle.cap_print.specs.Facts.{coded, fact_in, facts_in, fields_in, line_in};
 ghost use Rattle.cap_print.specs.Lines.{room_in, text_in};
 ghost use Rattle.cap_print.specs.inner.Parts.{name_room};
+ghost use Rattle.cap_talks.specs.inner.table.Ranked.{AreRanked, Shows};
+ghost use Rattle.cap_talks.specs.table.Conversations.{Conversation};
 ghost use Rattle.cap_talks.specs.table.TalkLines.{address_text, end_field, line_at_in, port_facts, protocol_text};
 ghost use Rattle.cap_talks.specs.table.TalkLines.{talk_facts, talk_fields, talk_texts_in, talks_facts, traffic_field};
 
 use crate::table::conversations::Conversations;
 use crate::table::rows::{TalkKey, TalkRow};
+use crate::table::top::Ranked;
 use crate::table::units::Endpoint;
 use cap_bytes::{Fault, Sink, put_all};
 use cap_print::{Form, Line};
@@ -165,17 +168,65 @@ fn put_each<W: Sink>(writer: &mut W, form: Form, talks: &Conversations) -> Resul
     Ok(())
 }
 
-/// Writes a line that says how many conversations there are, and a line for each, in the order of their first
-/// units, in a form. Returns `Fault::Write`, and no other fault, if the writer failed: a prefix of the lines is
-/// written then.
-pub fn put_talks<W: Sink>(writer: &mut W, form: Form, talks: &Conversations) -> Result<(), Fault>
-    ensures text { IsTrue (W.tells_held writer.old)
-        → Prints (line_in form (talks_facts (length talks.now.rows)) ++ talk_texts_in form talks.now.rows) None
+// Writes the lines of the conversations that are named by their places, in a form.
+fn put_named<W: Sink>(
+    writer: &mut W,
+    form: Form,
+    talks: &Conversations,
+    named: &[Ranked],
+) -> Result<(), Fault>
+    requires named { (rows : List Conversation) × AreRanked talks.now.rows named.now rows }
+    ensures text { (rows : List Conversation) → AreRanked talks.now.rows named.now rows
+        → IsTrue (W.tells_held writer.old)
+        → Prints (talk_texts_in form rows) None (W.held writer.old) result (W.held writer.new) }
+    ensures writer { WriterKeeps (writer_of W.Sink writer.old) (is_write result) (writer_of W.Sink writer.new) }
+    ensures fault { IsOkUnless result Fault.Write }
+{
+    for each in named {
+        let line = line_at(form, talks, each.place as usize);
+        put_all(writer, line.as_slice())?;
+    }
+    Ok(())
+}
+
+// Writes the lines of the conversations that are shown, in a form: of all, if none are named.
+fn put_shown<W: Sink>(
+    writer: &mut W,
+    form: Form,
+    talks: &Conversations,
+    shown: &Option<Vec<Ranked>>,
+) -> Result<(), Fault>
+    requires shown { (rows : List Conversation) × Shows talks.now.rows shown.now rows }
+    ensures text { (rows : List Conversation) → Shows talks.now.rows shown.now rows
+        → IsTrue (W.tells_held writer.old)
+        → Prints (talk_texts_in form rows) None (W.held writer.old) result (W.held writer.new) }
+    ensures writer { WriterKeeps (writer_of W.Sink writer.old) (is_write result) (writer_of W.Sink writer.new) }
+    ensures fault { IsOkUnless result Fault.Write }
+{
+    match shown {
+        None => put_each(writer, form, talks),
+        Some(named) => put_named(writer, form, talks, named.as_slice()),
+    }
+}
+
+/// Writes a line that says how many conversations there are, and a line for each that is shown, in a form: for all, in
+/// the order of their first units, if none are named, and else for those that are, one after another. Returns
+/// `Fault::Write`, and no other fault, if the writer failed: a prefix of the lines is written then.
+pub fn put_talks<W: Sink>(
+    writer: &mut W,
+    form: Form,
+    talks: &Conversations,
+    shown: &Option<Vec<Ranked>>,
+) -> Result<(), Fault>
+    requires shown { (rows : List Conversation) × Shows talks.now.rows shown.now rows }
+    ensures text { (rows : List Conversation) → Shows talks.now.rows shown.now rows
+        → IsTrue (W.tells_held writer.old)
+        → Prints (line_in form (talks_facts (length talks.now.rows)) ++ talk_texts_in form rows) None
         (W.held writer.old) result (W.held writer.new) }
     ensures writer { WriterKeeps (writer_of W.Sink writer.old) (is_write result) (writer_of W.Sink writer.new) }
     ensures fault { IsOkUnless result Fault.Write }
 {
     let line = talks_line(form, talks.len());
     put_all(writer, line.as_slice())?;
-    put_each(writer, form, talks)
+    put_shown(writer, form, talks, shown)
 }

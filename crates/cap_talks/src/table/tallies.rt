@@ -1,7 +1,7 @@
 //! What is counted of packets, besides what is reported of files.
 ghost use Rattle.std.specs.Prelude.{◌≡◌, ℕ, false, ◌+◌, ◌++◌, IsOkUnless, max, ◌≤◌, ◌<◌, ◌^◌, List, []};
 ghost use Rattle.std.specs.Prelude.{◌∷◌, length, IsTrue, IsSome, OnOk, OnErr, IfOk, IfErr, Option, Some, None};
-ghost use Rattle.std.specs.Prelude.{Err, if◌then◌else◌};
+ghost use Rattle.std.specs.Prelude.{Err, Ok, if◌then◌else◌};
 ghost use Rattle.cap_bytes.specs.Device.{WriterKeeps, writer_of};
 ghost use Rattle.cap_bytes.specs.Printing.{Prints, is_write};
 ghost use Rattle.cap_join.specs.Fragments.{piece_of};
@@ -17,12 +17,16 @@ ghost use Rattle.cap_talks.specs.inner.table.Tallies.{Looks};
 ghost use Rattle.cap_talks.specs.inner.table.Tallies.{WaitsIf};
 ghost use Rattle.cap_source.specs.Times.{meta_time};
 ghost use Rattle.cap_talks.specs.declared.table.conversations.ConversationsFault.TheVariants.{Memory};
+ghost use Rattle.cap_talks.specs.inner.table.Ranked.{Shows};
+ghost use Rattle.cap_talks.specs.table.Conversations.{Conversation};
 ghost use Rattle.cap_talks.specs.table.CountedUnits.{is_limit_at};
+ghost use Rattle.cap_talks.specs.table.TopRows.{shown_rows};
 
 use crate::table::adding::{add_unit, joined_unit, whole_unit};
 use crate::table::conversations::{Conversations, ConversationsFault};
 use crate::table::report_lines::{frames_line, joined_line};
 use crate::table::talk_lines::put_talks;
+use crate::table::top::{Ranked, shown_of};
 use cap_bytes::{Fault, Sink, put_all};
 use cap_class::{
     Class, ClassCounts, Classified, NO_PACKETS, class_of, classify, count_frames, joined_class,
@@ -281,12 +285,34 @@ impl Tally {
         }
     }
 
-    /// Writes the lines of the classes, of the joined datagrams and of the conversations, in a form: in text
-    /// `frames ..`, `joined J given-up G`, `talks C` and a line for each conversation. After `Write` a prefix of them
-    /// is written.
-    pub(crate) fn put_lines<W: Sink>(&self, form: Form, writer: &mut W) -> Result<(), Fault>
-        ensures text { IsTrue (W.tells_held writer.old)
-            → Prints (tally_text_in form self.now) None (W.held writer.old) result (W.held writer.new) }
+    /// The conversations that are shown: the `most` with the most bytes, the greatest first, if a number is given. They
+    /// are named by their places; none are named if all are shown. Returns `Memory`, and no other fault, if a growth
+    /// was refused; all are shown without one.
+    pub(crate) fn shown(
+        &self,
+        alloc: Global,
+        most: Option<u32>,
+    ) -> Result<Option<Vec<Ranked>>, Fault>
+        ensures shows { IfOk result (λ shown. Shows self.now.talks.rows shown (shown_rows most self.now.talks.rows)) }
+        ensures fault { IsOkUnless result Fault.Memory }
+        ensures all { most ≡ None → result ≡ Ok None }
+    {
+        shown_of(alloc, &self.talks, most)
+    }
+
+    /// Writes the lines of the classes, of the joined datagrams and of the conversations that are shown, in a form: in
+    /// text `frames ..`, `joined J given-up G`, `talks C` and a line for each of those conversations. After `Write` a
+    /// prefix of them is written.
+    pub(crate) fn put_lines<W: Sink>(
+        &self,
+        form: Form,
+        shown: &Option<Vec<Ranked>>,
+        writer: &mut W,
+    ) -> Result<(), Fault>
+        requires shown { (rows : List Conversation) × Shows self.now.talks.rows shown.now rows }
+        ensures text { (rows : List Conversation) → Shows self.now.talks.rows shown.now rows
+            → IsTrue (W.tells_held writer.old)
+            → Prints (tally_text_in form rows self.now) None (W.held writer.old) result (W.held writer.new) }
         ensures writer { WriterKeeps (writer_of W.Sink writer.old) (is_write result) (writer_of W.Sink writer.new) }
         ensures fault { IsOkUnless result Fault.Write }
     {
@@ -297,7 +323,7 @@ impl Tally {
             self.joined,
             self.joiner.given_up(),
         )?;
-        put_talks(writer, form, &self.talks)
+        put_talks(writer, form, &self.talks, shown)
     }
 
     /// How many groups of fragments are held: the open ones, and a joined datagram that waits. At most 1,024.

@@ -1,5 +1,5 @@
 //! The report over capture files.
-ghost use Rattle.std.specs.Prelude.{◌≡◌, ◌≤◌, [], IfOk, IsTrue, OnOk, length, map, vec_len};
+ghost use Rattle.std.specs.Prelude.{◌≡◌, ◌≤◌, [], None, IfOk, IsTrue, OnOk, length, map, vec_len};
 ghost use Rattle.std.specs.List.{list_all};
 ghost use Rattle.cap_bytes.specs.Device.{WriterKeeps, writer_of};
 ghost use Rattle.cap_bytes.specs.Printing.{is_write};
@@ -14,7 +14,7 @@ ghost use Rattle.cap_talks.specs.inner.talks.Reporting.{LeavesReport, TakesAll, 
 ghost use Rattle.cap_talks.specs.talks.CutRests.{rests_by_place};
 ghost use Rattle.cap_talks.specs.table.OtherNetworks.{counts_if, other_counts};
 ghost use Rattle.cap_class.specs.Runs.{taken_after};
-ghost use Rattle.cap_talks.specs.talks.ReportText.{report_text, report_text_in, report_refusal};
+ghost use Rattle.cap_talks.specs.talks.ReportText.{report_shown_in, report_text, report_text_in, report_refusal};
 ghost use Rattle.cap_talks.specs.inner.table.Stepping.{TableStands};
 ghost use Rattle.cap_talks.specs.inner.table.TableView.{table_of};
 ghost use Rattle.cap_talks.specs.talks.Telling.{Tells};
@@ -25,6 +25,17 @@ use cap_merge::{Merged, merge_files};
 use cap_print::Form;
 use cap_source::PacketFeed;
 use std::alloc::Global;
+
+/// What a report shows, and counts.
+#[derive(Clone, Copy, Debug, PartialEq, Eq)]
+pub struct ReportOptions {
+    /// The form of its lines.
+    pub form: Form,
+    /// How many conversations have a line at most, those with the most bytes, both ways; all have one if none is given.
+    pub top: Option<u32>,
+    /// Whether the packets of the class `NotIpv4` are counted by their networks.
+    pub counts: bool,
+}
 
 /// What a report drops, or counts without a line.
 #[derive(Clone, Copy, Debug, PartialEq, Eq)]
@@ -82,71 +93,72 @@ fn take_packets<F: PacketFeed>(
     }
 }
 
-// Takes all packets of a table that has taken none, and writes the report over them in a form. Packets of networks
-// other than IPv4 are counted if that is asked for.
+// Takes all packets of a table that has taken none, and writes the report over them, as the options say. After the last
+// packet it needs memory only to find the conversations with the most bytes.
 fn write_table<F: PacketFeed, W: Sink>(
+    alloc: Global,
     table: &mut Table<F>,
-    form: Form,
-    counts: bool,
+    options: ReportOptions,
     writer: &mut W,
 ) -> Result<Option<OtherCounts>, Fault>
     requires stands { TableStands (table_of table.old) [] }
     ensures text { IsTrue (merged_feed (table_of table.old).parts).told → IsTrue (W.tells_held writer.old)
-        → TellsReport form (length (table_of table.old).totals.files) (table_of table.old).parts (W.held writer.old)
-        result (W.held writer.new) }
+        → TellsReport options.form options.top (length (table_of table.old).totals.files) (table_of table.old).parts
+        (W.held writer.old) result (W.held writer.new) }
     ensures writer { WriterKeeps (writer_of W.Sink writer.old) (is_write result) (writer_of W.Sink writer.new) }
     ensures walks { Walks (merged_feed (table_of table.old).parts) result (merged_feed (table_of table.new).parts) }
-    ensures memory { IfMemory result (IsAtPacket (merged_feed (table_of table.new).parts).known) }
+    ensures memory { options.top ≡ None
+        → IfMemory result (IsAtPacket (merged_feed (table_of table.new).parts).known) }
     ensures took { OnOk result (TookAll (table_of table.old) (table_of table.new)) }
     ensures counts { IfOk result (λ others. IsTrue (merged_feed (table_of table.old).parts).told
-        → others ≡ counts_if counts (taken_after [] (run_of (table_of table.old).parts))) }
+        → others ≡ counts_if options.counts (taken_after [] (run_of (table_of table.old).parts))) }
 {
-    let others = take_packets(table, counts)?;
-    table.write_in(form, writer)?;
+    let others = take_packets(table, options.counts)?;
+    let shown = table.shown(alloc, options.top)?;
+    table.write_in(options.form, &shown, writer)?;
     Ok(others)
 }
 
 // Does the same, and returns which rests of the files were cut, too.
 fn report_table<F: PacketFeed, W: Sink>(
+    alloc: Global,
     table: &mut Table<F>,
-    form: Form,
-    counts: bool,
+    options: ReportOptions,
     writer: &mut W,
 ) -> Result<ReportLeft, Fault>
     requires stands { TableStands (table_of table.old) [] }
     ensures text { IsTrue (merged_feed (table_of table.old).parts).told → IsTrue (W.tells_held writer.old)
-        → TellsReport form (length (table_of table.old).totals.files) (table_of table.old).parts (W.held writer.old)
-        result (W.held writer.new) }
+        → TellsReport options.form options.top (length (table_of table.old).totals.files) (table_of table.old).parts
+        (W.held writer.old) result (W.held writer.new) }
     ensures left { IfOk result (λ left. IsTrue (merged_feed (table_of table.old).parts).told
-        → LeavesReport counts (length (table_of table.old).totals.files) (table_of table.old).parts left) }
+        → LeavesReport options.counts (length (table_of table.old).totals.files) (table_of table.old).parts left) }
     ensures writer { WriterKeeps (writer_of W.Sink writer.old) (is_write result) (writer_of W.Sink writer.new) }
     ensures walks { Walks (merged_feed (table_of table.old).parts) result (merged_feed (table_of table.new).parts) }
 {
-    let not_ipv4 = write_table(table, form, counts, writer)?;
+    let not_ipv4 = write_table(alloc, table, options, writer)?;
     Ok(ReportLeft {
         cuts: table.cuts(),
         not_ipv4,
     })
 }
 
-// Writes the report over the packets of a merge, in a form, and returns what it leaves.
+// Writes the report over the packets of a merge, as the options say, and returns what it leaves.
 fn report_merged<F: PacketFeed, W: Sink>(
     alloc: Global,
     merged: Merged<F>,
-    form: Form,
-    counts: bool,
+    options: ReportOptions,
     writer: &mut W,
 ) -> Result<ReportLeft, Fault>
     ensures text { IsTrue (merged_feed (parts_of merged)).told → IsTrue (W.tells_held writer.old)
-        → TellsReport form (length (merged_feed (parts_of merged)).files) (parts_of merged) (W.held writer.old) result
-        (W.held writer.new) }
+        → TellsReport options.form options.top (length (merged_feed (parts_of merged)).files) (parts_of merged)
+        (W.held writer.old) result (W.held writer.new) }
     ensures left { IfOk result (λ left. IsTrue (merged_feed (parts_of merged)).told
-        → LeavesReport counts (length (merged_feed (parts_of merged)).files) (parts_of merged) left) }
+        → LeavesReport options.counts (length (merged_feed (parts_of merged)).files) (parts_of merged) left) }
     ensures writer { WriterKeeps (writer_of W.Sink writer.old) (is_write result) (writer_of W.Sink writer.new) }
     ensures walks { (new : Feed) × Walks (merged_feed (parts_of merged)) result new }
 {
     let mut table = Table::new(alloc, merged);
-    report_table(&mut table, form, counts, writer)
+    report_table(alloc, &mut table, options, writer)
 }
 
 /// Writes the report over 1 to 32 capture files, each of either format: a line for each file, the totals, how
@@ -238,6 +250,40 @@ pub fn report_and_count<R: Source, W: Sink>(
     ensures writer { WriterKeeps (writer_of W.Sink writer.old) (is_write result) (writer_of W.Sink writer.new) }
     ensures read { FailsOf (map R.can_fail sources.items) result }
 {
+    let options = ReportOptions {
+        form,
+        top: None,
+        counts,
+    };
+    report_with(alloc, sources, tail, options, writer)
+}
+
+/// Writes what `report_in` writes, but for the lines of conversations if the options have a number: then those with the
+/// most bytes, both ways, have one each, so many of them at most. The conversation with the most bytes comes first, and
+/// those of equal bytes keep their order; the line `talks` counts all. The conversations with the most bytes are found
+/// once all packets are taken: nothing is written if a growth is refused then. What is returned is what
+/// `report_and_count` returns.
+pub fn report_with<R: Source, W: Sink>(
+    alloc: Global,
+    sources: Vec<R>,
+    tail: Tail,
+    options: ReportOptions,
+    writer: &mut W,
+) -> Result<ReportLeft, Fault>
+    requires some { 1 ≤ vec_len sources }
+    requires most { vec_len sources ≤ 32 }
+    ensures text { IsTrue (list_all R.tells_coming sources.items) → IsTrue (W.tells_held writer.old)
+        → Tells (report_shown_in options.form options.top (length sources.items)
+        (endings_of_files tail (map R.coming sources.items)) (clocked_run tail (map R.coming sources.items)))
+        (report_refusal (clocked_run tail (map R.coming sources.items)))
+        (W.held writer.old) result (W.held writer.new) }
+    ensures cuts { IfOk result (λ left. IsTrue (list_all R.tells_coming sources.items)
+        → left.cuts ≡ rests_by_place (endings_of_files tail (map R.coming sources.items)) (length sources.items)) }
+    ensures networks { IfOk result (λ left. IsTrue (list_all R.tells_coming sources.items)
+        → left.not_ipv4 ≡ counts_if options.counts (taken_after [] (clocked_run tail (map R.coming sources.items)))) }
+    ensures writer { WriterKeeps (writer_of W.Sink writer.old) (is_write result) (writer_of W.Sink writer.new) }
+    ensures read { FailsOf (map R.can_fail sources.items) result }
+{
     let merged = merge_files(alloc, sources, tail)?;
-    report_merged(alloc, merged, form, counts, writer)
+    report_merged(alloc, merged, options, writer)
 }

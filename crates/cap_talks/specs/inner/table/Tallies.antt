@@ -11,6 +11,7 @@ use Rattle.cap_join.specs.declared.datagrams.Datagram.{Datagram}
 use Rattle.cap_join.specs.inner.Fitting.{FitsDatagram}
 use Rattle.cap_print.specs.Facts.{line_in}
 use Rattle.cap_print.specs.declared.forms.Form.{Form}
+use Rattle.cap_talks.specs.table.Conversations.{Conversation}
 use Rattle.cap_talks.specs.table.Rows.{TalksState, frames_in, bytes_in}
 use Rattle.cap_talks.specs.table.Rows as talks
 use Rattle.cap_class.specs.Classes.{classes}
@@ -81,11 +82,11 @@ abbrev pub waiting_bytes : Option Datagram → ℕ
 waiting_bytes None = 0
 waiting_bytes (Some d) = length d.payload.items
 
--- the lines of a tally, in a form
-unfoldable pub tally_text_in : Form → TallyState → List ℕ
-tally_text_in form t =
+-- the lines of a tally, with those of these conversations, in a form
+unfoldable pub tally_text_in : Form → List Conversation → TallyState → List ℕ
+tally_text_in form rows t =
     line_in form (frames_facts t.classes) ++ line_in form (joined_facts t.joined t.joiner.given_up)
-    ++ (line_in form (talks_facts (length t.talks.rows)) ++ talk_texts_in form t.talks.rows)
+    ++ (line_in form (talks_facts (length t.talks.rows)) ++ talk_texts_in form rows)
 
 -- one, of a class that counts
 abbrev pub counted_one : Class → ℕ

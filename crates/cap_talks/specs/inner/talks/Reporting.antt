@@ -1,5 +1,5 @@
 -- What taking all packets of a run returns.
-use Rattle.std.specs.Prelude.{◌≡◌, ℕ, List, [], Bool, true, IsTrue, Some, None, Result, Ok, Err, ⊤, length}
+use Rattle.std.specs.Prelude.{◌≡◌, ℕ, List, [], Bool, true, IsTrue, Option, Some, None, Result, Ok, Err, ⊤, length}
 use Rattle.cap_bytes.specs.declared.faults.Fault.{Fault}
 use Rattle.cap_bytes.specs.declared.faults.Fault.TheVariants.{Refused, Read, Write, Memory}
 use Rattle.cap_merge.specs.Parts.{Part, merged_feed, run_of}
@@ -7,7 +7,7 @@ use Rattle.cap_print.specs.declared.forms.Form.{Form}
 use Rattle.cap_source.specs.inner.Growing.{IsAtPacket}
 use Rattle.cap_source.specs.declared.feeds.Head.TheVariants as heads
 use Rattle.cap_class.specs.Runs.{taken_after}
-use Rattle.cap_talks.specs.talks.ReportText.{refusal_after, report_text_in, report_refusal}
+use Rattle.cap_talks.specs.talks.ReportText.{refusal_after, report_shown_in, report_refusal}
 use Rattle.cap_talks.specs.talks.Telling.{Tells}
 use Rattle.cap_talks.specs.table.OtherNetworks.{counts_if}
 use Rattle.cap_talks.specs.talks.CutRests.{rests_by_place}
@@ -39,7 +39,9 @@ pub record LeavesReport (counts : Bool) (count : ℕ) (ps : List Part) (left : R
   pub cuts : left.cuts ≡ rests_by_place (merged_feed ps).endings count
   pub networks : left.not_ipv4 ≡ counts_if counts (taken_after [] (run_of ps))
 
--- The report of the run of that many files is written, in a form.
-abbrev pub TellsReport : {A : Type 0} → Form → ℕ → List Part → List ℕ → Result A Fault → List ℕ → Type 0
-TellsReport form count ps held result new =
-    Tells (report_text_in form count (merged_feed ps).endings (run_of ps)) (report_refusal (run_of ps)) held result new
+-- The report of the run of that many files is written, in a form, with the lines of all conversations, or of those with
+-- the most bytes.
+abbrev pub TellsReport : {A : Type 0} → Form → Option ℕ → ℕ → List Part → List ℕ → Result A Fault → List ℕ → Type 0
+TellsReport form top count ps held result new =
+    Tells (report_shown_in form top count (merged_feed ps).endings (run_of ps)) (report_refusal (run_of ps)) held
+    result new

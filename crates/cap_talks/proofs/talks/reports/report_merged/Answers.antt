@@ -10,7 +10,7 @@ use Rattle.cap_talks.proofs.talks.reports.report_merged.Goals as goal
 pub returns-clause-text : goal.returns-clause-text
 returns-clause-text g c = λ t w.
     let e = c.new-table.ensures in
-    subst (λ (q : ℕ × List Part). TellsReport c.args.form q.0 q.1
+    subst (λ (q : ℕ × List Part). TellsReport c.args.options.form c.args.options.top q.0 q.1
     (g.W.Sink.held c.args.writer.now) c.report_table.result
     (g.W.Sink.held c.report_table.new.writer))
     (λ i. (
@@ -21,8 +21,8 @@ returns-clause-text g c = λ t w.
 pub returns-clause-left : goal.returns-clause-left
 returns-clause-left g c =
     let e = c.new-table.ensures in
-    report-left c.args.counts c.report_table.result (table_of c.new-table.result).parts (parts_of c.args.merged) _ _
-    e.parts e.files c.report_table.ensures.left
+    report-left c.args.options.counts c.report_table.result (table_of c.new-table.result).parts
+    (parts_of c.args.merged) _ _ e.parts e.files c.report_table.ensures.left
 
 pub returns-clause-walks : goal.returns-clause-walks
 returns-clause-walks g c =

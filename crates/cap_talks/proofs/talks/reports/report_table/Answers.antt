@@ -10,7 +10,7 @@ pub returns-in_err-not_ipv4-clause-text : goal.returns-in_err-not_ipv4-clause-te
 returns-in_err-not_ipv4-clause-text g c = λ t w.
     let p = err_from_is_err_and c.from_residual.result c.from_residual.ensures.1 in
     rw (p.1, p.2)
-    (report-fault (Option OtherCounts) ReportLeft c.args.form (table_of c.args.table.now) _ _
+    (report-fault (Option OtherCounts) ReportLeft c.args.options.form c.args.options.top (table_of c.args.table.now) _ _
     c.in_err-not_ipv4.field-0.0 (c.in_err-not_ipv4.ensures.text t w))
 
 pub returns-in_err-not_ipv4-clause-walks : goal.returns-in_err-not_ipv4-clause-walks
