@@ -18,6 +18,7 @@ use Rattle.cap_merge.specs.inner.Lists.{all-front, all-back}
 use Rattle.cap_source.specs.Feed.{Item, packet, refused, refusal_of}
 use Rattle.cap_source.specs.Items.{file_items, interface_of}
 use Rattle.cap_time.specs.declared.stamps.Stamp.{Stamp}
+use Rattle.cap_write.specs.Numbering.{own}
 use Rattle.cap_write.specs.Texts.{merged_bytes}
 use Rattle.cap_laws.proofs.FileNumbers.{file-numbered}
 use Rattle.cap_laws.proofs.Twins.{TwinItems, twins, unrefused}
@@ -169,6 +170,6 @@ merge-sorts law order tail tail_again file_again files are none short =
     let items = run_of_files tail files in
     let text = merged_bytes order items in
     let read = law order tail tail_again file_again files are short in
-    merge-written tail files (file_items tail_again file_again text) (unrefused [] items none)
+    merge-written tail files (file_items tail_again file_again text) (unrefused (own []) items none)
     (kept-twins (file_items tail_again file_again text) items
-    (twins [] [] (file_items tail_again file_again text) items read.1 none read.0))
+    (twins (own []) (own []) (file_items tail_again file_again text) items read.1 none read.0))

@@ -12,7 +12,7 @@ use Rattle.cap_merge.specs.Parts.{item_time, is_refusal}
 use Rattle.cap_merge.specs.Run.{Clocked, opened_track, run}
 use Rattle.cap_source.specs.Feed.{Item}
 use Rattle.cap_time.specs.declared.stamps.Stamp.{Stamp}
-use Rattle.cap_write.specs.Numbering.{Origin, numbered, refusal_in}
+use Rattle.cap_write.specs.Numbering.{Origins, numbered, refusal_in}
 use Rattle.cap_laws.proofs.Alike.{AlikeItems, RunsAlike, same-report}
 use Rattle.cap_laws.proofs.Twins.{TwinItems, twins}
 use Rattle.cap_laws.specs.Reports.{SameReport}
@@ -50,12 +50,12 @@ runs-alike t u (a ∷ as_) (b ∷ bs) e h k w = search (
 runs-alike t u as_ bs e h k w = grind arith
 
 -- Of the runs of two lists of files the same packets are written, after those interfaces, and none is refused.
-pub record IsRewritten (origins others : List Origin) (files again : List (List Item)) : Type 0 where
+pub record IsRewritten (origins others : Origins) (files again : List (List Item)) : Type 0 where
   pub accepted : refusal_in origins (run_of_lists files) ≡ None
   pub accepted_again : refusal_in others (run_of_lists again) ≡ None
   pub packets : numbered others (run_of_lists again) ≡ numbered origins (run_of_lists files)
 
-back_again : (origins others : List Origin) (files again : List (List Item)) → IsRewritten origins others files again
+back_again : (origins others : Origins) (files again : List (List Item)) → IsRewritten origins others files again
     → IsRewritten others origins again files
 back_again origins others files again is = record {
   accepted = is.accepted_again;
@@ -65,7 +65,7 @@ back_again origins others files again is = record {
 }
 
 -- Such runs are alike,
-pub rewritten-alike : (origins others : List Origin) (files again : List (List Item))
+pub rewritten-alike : (origins others : Origins) (files again : List (List Item))
     → IsRewritten origins others files again
     → RunsAlike (run item_time is_refusal (map opened_track files)) (run item_time is_refusal (map opened_track again))
 rewritten-alike origins others files again is =
@@ -79,6 +79,6 @@ rewritten-alike origins others files again is =
     )
 
 -- and have the same report.
-pub same-run : (origins others : List Origin) (files again : List (List Item)) → IsRewritten origins others files again
+pub same-run : (origins others : Origins) (files again : List (List Item)) → IsRewritten origins others files again
     → SameReport (run item_time is_refusal (map opened_track files)) (run item_time is_refusal (map opened_track again))
 same-run origins others files again is = search (same-report, rewritten-alike, back_again)

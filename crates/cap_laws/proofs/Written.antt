@@ -8,7 +8,7 @@ use Rattle.cap_merge.specs.Files.{clocked_run, items_of_files, run_of_files}
 use Rattle.cap_merge.specs.Run.{Clocked}
 use Rattle.cap_source.specs.Feed.{Item}
 use Rattle.cap_source.specs.Items.{file_first, file_items}
-use Rattle.cap_write.specs.Numbering.{Origin}
+use Rattle.cap_write.specs.Numbering.{Origins, own}
 use Rattle.cap_write.specs.Texts.{first_origins, merged_refusal, merged_bytes, pcapng_refusal, pcapng_bytes}
 use Rattle.cap_laws.specs.again.Laws.{PcapngAgain}
 use Rattle.cap_laws.specs.again.Rounds.{MergeLaw}
@@ -28,7 +28,7 @@ merged_items order tail tail_again files = file_items tail_again 1 (merged_bytes
 merged-rewritten : MergeLaw → (order : Order) (tail tail_again : Tail) (files : List (List ℕ))
     → AllByRecursion AreBytes files
     → merged_refusal (run_of_files tail files) ≡ None → length (merged_bytes order (run_of_files tail files)) ≤ 2 ^ 40
-    → IsRewritten [] [] (items_of_files tail 1 files) (merged_items order tail tail_again files ∷ [])
+    → IsRewritten (own []) (own []) (items_of_files tail 1 files) (merged_items order tail tail_again files ∷ [])
 unfolding run_of_files merged_items
 merged-rewritten merge-law order tail tail_again files bytes none short = grind (arith, run-one)
 
@@ -74,7 +74,7 @@ same-runs (x ∷ xs) (y ∷ ys) h = grind (arith, same-runs xs ys h.1)
 same-runs xs ys h = grind arith
 
 -- the run of files of some bytes, and that of a file of which the same packets are written
-run-again : (tail tail_again : Tail) (origins others : List Origin) (files : List (List ℕ)) (text : List ℕ)
+run-again : (tail tail_again : Tail) (origins others : Origins) (files : List (List ℕ)) (text : List ℕ)
     → IsRewritten origins others (items_of_files tail 1 files) (file_items tail_again 1 text ∷ [])
     → SameRun (clocked_run tail files) (clocked_run tail_again (text ∷ []))
 run-again tail tail_again origins others files text is = search (same-runs, rewritten-alike)

@@ -17,5 +17,6 @@ mod PcapngAgain
 mod Renaming
 mod Renumbered
 mod RoundTrip
+pub mod SharedGroups
 mod Trips
 mod UsedOrigins

@@ -7,7 +7,7 @@ use Rattle.cap_bytes.specs.declared.faults.Tail.{Tail}
 use Rattle.cap_bytes.specs.declared.numbers.Order.{Order}
 use Rattle.cap_merge.specs.Files.{run_of_files}
 use Rattle.cap_source.specs.Feed.{Item}
-use Rattle.cap_write.specs.Texts.{merged_bytes, merged_refusal}
+use Rattle.cap_write.specs.Texts.{merged_bytes, merged_refusal, sharing_bytes, sharing_refusal}
 
 -- Some files, by their bytes, that are merged, and the byte order that is asked for.
 pub record FileGroup : Type 0 where
@@ -41,3 +41,28 @@ RoundsInBytes =
     let in_rounds = run_of_files tail_again (map (group_bytes tail) groups) in
     (merged_bytes order in_rounds ≡ merged_bytes order at_once)
     × (refused_by in_rounds ≡ refused_by at_once))
+
+-- ---- shared interfaces
+
+-- the file that the merge of a group writes in which interfaces that say the same are one
+abbrev pub sharing_group_bytes : Tail → FileGroup → List ℕ
+sharing_group_bytes tail group = sharing_bytes group.order (group_run tail group)
+
+-- That merge refuses nothing, and writes at most 2^40 bytes.
+pub record IsMergedSharing (tail : Tail) (group : FileGroup) : Type 0 where
+  pub bytes : AllByRecursion AreBytes group.files
+  pub accepted : sharing_refusal (group_run tail group) ≡ None
+  pub size : length (sharing_group_bytes tail group) ≤ 2 ^ 40
+
+-- the rule by which such a merge of those packets is refused, if it is
+abbrev pub sharing_refused_by : List Item → Option Rule
+sharing_refused_by items = option_map (λ refusal. refusal.rule) (sharing_refusal items)
+
+-- The same of merges in which interfaces that say the same are one, in every round.
+abbrev pub SharingRoundsInBytes : Type 0
+SharingRoundsInBytes =
+    (order : Order) (tail tail_again : Tail) (groups : List FileGroup) → AllByRecursion (IsMergedSharing tail) groups
+    → (let at_once = run_of_files tail (flat_map (λ group. group.files) groups) in
+    let in_rounds = run_of_files tail_again (map (sharing_group_bytes tail) groups) in
+    (sharing_bytes order in_rounds ≡ sharing_bytes order at_once)
+    × (sharing_refused_by in_rounds ≡ sharing_refused_by at_once))

@@ -1,6 +1,6 @@
 //! Laws of written files and of merged ones, each the contract of a function that does nothing.
 ghost use Rattle.cap_laws.specs.again.Laws.{MergedAgain, OneInterface, PcapAgain, PcapngAgain, RoundTrip, SameBytes};
-ghost use Rattle.cap_laws.specs.again.Rounds.{ClockLaw, FileRoundsLaw, MergeLaw, MergedPcap, RoundsLaw};
+ghost use Rattle.cap_laws.specs.again.Rounds.{ClockLaw, FileRoundsLaw, MergeLaw, MergedPcap, RoundsLaw, SharingLaw};
 
 /// An accepted pcap file whose pcapng text is at most 2^40 bytes long, written as pcapng and then as pcap again,
 /// comes back: the pcapng file has its interface, also if there is no packet, and its packets, in order, with
@@ -47,6 +47,14 @@ pub fn merged_again()
     ensures pcap { MergedPcap }
     ensures interfaces { OneInterface }
     ensures clocks { ClockLaw }
+{}
+
+/// What `write_merged_sharing` writes of the run of any files, whatever bytes they hold, if it is at most 2^40 bytes
+/// long, has the packets of the run, those before a refusal, in order: with the same interfaces, times, lengths and
+/// bytes. A packet's instance there is the number, by first use, of its interface among those of the run, where
+/// interfaces with the same link, snaplen, resolution and offset are one.
+pub fn sharing_again()
+    ensures { SharingLaw }
 {}
 
 /// Files are split, in their order, into neighbouring groups, and each group is merged. If nothing is

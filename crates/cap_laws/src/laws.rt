@@ -16,7 +16,7 @@ ghost use Rattle.cap_laws.specs.JsonLines.{IsJsonLine, IsNamedLine, LinesReadBac
 ghost use Rattle.cap_laws.specs.JsonWords.{ListedWordsPlain, PlainLinesFit, ReportWordsPlain};
 ghost use Rattle.cap_laws.specs.MergeSorts.{MergeSorts, RunSorts, SortsOnce};
 ghost use Rattle.cap_laws.specs.Reports.{MergedReport, PcapngReport, RuleLaw};
-ghost use Rattle.cap_laws.specs.Rounds.{RoundsInBytes};
+ghost use Rattle.cap_laws.specs.Rounds.{RoundsInBytes, SharingRoundsInBytes};
 ghost use Rattle.cap_laws.specs.Runs.{MergedRun, PcapngRun};
 ghost use Rattle.cap_laws.specs.Sums.{LoneClasses, ReportSums};
 ghost use Rattle.cap_laws.specs.Totals.{ReportTotals};
@@ -25,7 +25,7 @@ ghost use Rattle.cap_laws.specs.WorkedReport.{Overlapped, Tagged};
 ghost use Rattle.cap_class.specs.Counting.{OneClass};
 ghost use Rattle.cap_class.specs.Taken.{Taken};
 
-use crate::again::{merged_again, pcap_again, pcapng_again, rounds_law};
+use crate::again::{merged_again, pcap_again, pcapng_again, rounds_law, sharing_again};
 
 /// If `write_merged` writes the run of some files, whatever bytes these hold, with no refusal and in at most
 /// 2^40 bytes, the report over the one file that it wrote has the lines of the report over those files, byte for
@@ -72,6 +72,14 @@ pub fn rounds_bytes()
 {
     merged_again();
     rounds_law();
+}
+
+/// The same holds of merges in which interfaces that say the same are one, as `write_merged_sharing` writes them, in
+/// every round and at once.
+pub fn sharing_rounds()
+    ensures { SharingRoundsInBytes }
+{
+    sharing_again();
 }
 
 /// The run of some files, whatever bytes they hold, is their merge up to the first refusal: a permutation of the files'

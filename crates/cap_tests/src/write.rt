@@ -4,12 +4,13 @@
 use crate::files::{answer_of_files, ask_written, merged_of, reader_of, room_of, sources_of};
 use crate::hex_vectors::{
     CARRY_PCAP, CARRY_PCAPNG, EARLY, ETHERNET, FRAGMENT_FRAMES, File, HEADER_ONLY, INTERFACE, LATE,
-    PACKET, RUNS_BACK, RUNS_ON, SECTION, SIMPLE_PACKET, TAGGED_FRAMES,
+    OPTIONS_PCAPNG, PACKET, RAW, RUNS_BACK, RUNS_ON, SECTION, SIMPLE_PACKET, TAGGED_FRAMES,
 };
 use cap_bytes::{Fault, Order, Rule, Sink, Source, Tail};
 use cap_source::Capture;
 use cap_write::{
     to_pcap, to_pcapng, write_joined, write_joined_pcap, write_merged, write_merged_pcap,
+    write_merged_sharing,
 };
 use std::alloc::Global;
 use std::process::Abort;
@@ -134,6 +135,55 @@ fn merges(rt: &impl Abort, alloc: Global, row: &Row) {
 fn always_memory_files_are_merged(rt: HostRuntime) {
     for row in &MERGED {
         merges(&rt, rt.alloc(), row);
+    }
+}
+
+// The packets of two files whose interfaces say the same, though the second's has a name too.
+const ONE_INTERFACE: File = &[SECTION, INTERFACE, PACKET, PACKET];
+
+// Those of RUNS_BACK and RUNS_ON.
+const BY_CLOCK_SHARED: File = &[
+    SECTION,
+    INTERFACE,
+    "0600000020000000000000000000000080841e00000000000000000020000000",
+    "06000000200000000000000000000000404b4c00000000000000000020000000",
+    "0600000020000000000000000000000040420f00000000000000000020000000",
+    "06000000200000000000000000000000404b4c00000000000000000020000000",
+];
+
+// A packet without a link header, at 2 seconds, and those of RUNS_ON before it and after it.
+const RAW_AT_2: File = &[RAW, "02000000000000000000000000000000"];
+
+const TWO_LINKS: File = &[
+    SECTION,
+    INTERFACE,
+    "0600000020000000000000000000000080841e00000000000000000020000000",
+    "0100000020000000650000000000040009000100060000000000000020000000",
+    "0600000020000000010000000000000080841e00000000000000000020000000",
+    "06000000200000000000000000000000404b4c00000000000000000020000000",
+];
+
+const SHARED: [Row; 4] = [
+    (&[CARRY_PCAP, OPTIONS_PCAPNG], ONE_INTERFACE, Ok(())),
+    (&[LATE, EARLY], EARLY_ALONE, Err((2, 40, Rule::Cut))),
+    (&[RUNS_BACK, RUNS_ON], BY_CLOCK_SHARED, Ok(())),
+    (&[RUNS_ON, RAW_AT_2], TWO_LINKS, Ok(())),
+];
+
+// What a merge of files writes and answers in which interfaces that say the same are one.
+fn shares(rt: &impl Abort, alloc: Global, row: &Row) {
+    let (input, output, ending) = *row;
+    let mut merged = merged_of(rt, alloc, sources_of(rt, alloc, input, 1));
+    let mut writer = room_of(rt, alloc, 512);
+    let answer = write_merged_sharing(alloc, &mut merged, Order::Little, &mut writer);
+    let found = (answer, writer.bytes());
+    ask_written(rt, alloc, found, answer_of_files(ending), output);
+}
+
+#[test]
+fn always_memory_interfaces_are_shared(rt: HostRuntime) {
+    for row in &SHARED {
+        shares(&rt, rt.alloc(), row);
     }
 }
 

@@ -21,5 +21,5 @@ pub use libcapt::tool::{
 };
 pub use libcapt::write::{
     put_header, put_interface, put_packet, put_record, put_section, to_pcap, to_pcapng,
-    write_joined, write_joined_pcap, write_merged, write_merged_pcap,
+    write_joined, write_joined_pcap, write_merged, write_merged_pcap, write_merged_sharing,
 };

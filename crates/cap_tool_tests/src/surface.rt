@@ -20,4 +20,5 @@ pub use cap_tool::{
 };
 pub use cap_write::{
     to_pcap, to_pcapng, write_joined, write_joined_pcap, write_merged, write_merged_pcap,
+    write_merged_sharing,
 };

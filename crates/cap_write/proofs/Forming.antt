@@ -24,7 +24,8 @@ use Rattle.cap_write.proofs.Records as records
 use Rattle.cap_write.specs.inner.Forms.{FormState, numbered, headed, form_text, form_refusal, form_stop, form_after}
 use Rattle.cap_write.specs.inner.Forms.{form_behind, EndsForm}
 use Rattle.cap_write.specs.inner.Interfaces.{HasUnits}
-use Rattle.cap_write.specs.Numbering.{Origin, refusal_at, refusal_by, refusal_in, with_origin, write_fault, numbered_of}
+use Rattle.cap_write.specs.Numbering.{Origins, count_of, refusal_at, refusal_by, refusal_in, with_origin, write_fault}
+use Rattle.cap_write.specs.Numbering.{numbered_of}
 use Rattle.cap_write.specs.Numbering.{numbered as numbered_in}
 use Rattle.cap_write.specs.Pcap.{header_of, packet_record, written_record_fault, records_bytes, records_refusal}
 use Rattle.cap_write.specs.PcapRun.{run_bytes, run_refusal}
@@ -43,7 +44,7 @@ fault-some : (meta : Meta) (fault : Option Rule) (r : Refusal) → refusal_by me
 fault-some meta None r is = cc
 fault-some meta (Some rule) r is = (rule, refl, cc)
 
-refusal-one : (origins : List Origin) (meta : Meta) (frame : List ℕ)
+refusal-one : (origins : Origins) (meta : Meta) (frame : List ℕ)
     → refusal_in origins (packet meta frame ∷ []) ≡ refusal_by meta (write_fault origins meta)
 unfolding refusal_in
 refusal-one origins meta frame = grind arith
@@ -96,7 +97,7 @@ text-step plan next meta frame line goes is items =
     goes.text items ∙ ap (λ l. l ++ next.text items)
     (sym (goes.text [] ∙ (ap (λ t. line ++ t) is.text_none ∙ append-nil line)))
 
-numbered-steps : (order : Order) (origins : List Origin) (meta : Meta) (frame : List ℕ)
+numbered-steps : (order : Order) (origins : Origins) (meta : Meta) (frame : List ℕ)
     → write_fault origins meta ≡ None → Steps order (numbered origins) meta frame
 numbered-steps order origins meta frame none =
     let goes = feeding.plan_of-next order origins meta frame none in
@@ -158,7 +159,7 @@ pub record Stops (order : Order) (form : FormState) (meta : Meta) (frame : List 
   pub refusal : (items : List Item) → form_refusal form (packet meta frame ∷ items) ≡ Some r
   pub stop : (items : List Item) → form_stop form (packet meta frame ∷ items) ≡ Some r
 
-numbered-stops : (order : Order) (origins : List Origin) (meta : Meta) (frame : List ℕ) (rule : Rule)
+numbered-stops : (order : Order) (origins : Origins) (meta : Meta) (frame : List ℕ) (rule : Rule)
     → write_fault origins meta ≡ Some rule
     → Stops order (numbered origins) meta frame (refusal_at meta rule)
 numbered-stops order origins meta frame rule is =
@@ -246,14 +247,14 @@ Prints-run-untimed order meta frame items rest held fault is h =
     (Prints-untimed order (headed None) meta frame rest held fault h)
 
 -- a packet alone
-text-one : (order : Order) (origins : List Origin) (meta : Meta) (frame : List ℕ)
+text-one : (order : Order) (origins : Origins) (meta : Meta) (frame : List ℕ)
     → text_behind order origins (packet meta frame ∷ []) ≡ one_bytes order origins meta frame
 text-one order origins meta frame = by (write_fault origins meta) refl
   where
     by : (fault : Option Rule) → write_fault origins meta ≡ fault
         → text_behind order origins (packet meta frame ∷ []) ≡ one_bytes order origins meta frame
     by (Some rule) is = (feeding.plan_of-refused order origins meta frame rule is).text []
-        ∙ sym (ap (λ f. text_or f (numbered_bytes order (length origins) (numbered_of origins meta frame))) is)
+        ∙ sym (ap (λ f. text_or f (numbered_bytes order (count_of origins) (numbered_of origins meta frame))) is)
     by None is =
         (feeding.plan_of-next order origins meta frame is).text []
         ∙ (ap (λ l. one_bytes order origins meta frame ++ l)
@@ -267,7 +268,7 @@ unfolding records_bytes
 record-one order first meta frame = ap (text_or (written_record_fault first meta))
     (append-nil (packet_record order first meta frame))
 
-pub Prints-numbered : (order : Order) (form : FormState) (origins : List Origin) (meta : Meta) (frame held new : List ℕ)
+pub Prints-numbered : (order : Order) (form : FormState) (origins : Origins) (meta : Meta) (frame held new : List ℕ)
     (result : Result (Unit {0}) Fault) → form ≡ numbered origins
     → Prints {A = Unit {0}} (one_bytes order origins meta frame)
     (refusal_by meta (write_fault origins meta)) held result new
@@ -285,7 +286,7 @@ pub Prints-headed : (order : Order) (form : FormState) (first : Interface) (meta
 Prints-headed order form first meta frame held new result is h =
     rw (is, record-one order first meta frame, records-one first meta frame) h
 
-pub after-numbered : (form : FormState) (origins origins_new : List Origin) (meta : Meta) (frame : List ℕ)
+pub after-numbered : (form : FormState) (origins origins_new : Origins) (meta : Meta) (frame : List ℕ)
     → form ≡ numbered origins
     → (origins_new ≡ with_origin origins meta) × (write_fault origins meta ≡ None)
     → (numbered origins_new ≡ form_after form meta) × (form_stop form (packet meta frame ∷ []) ≡ None)

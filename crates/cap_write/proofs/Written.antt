@@ -14,7 +14,7 @@ use Rattle.cap_source.specs.Feed.{Item, packet}
 use Rattle.cap_source.specs.declared.packets.Meta.{Meta}
 use Rattle.cap_write.proofs.Numbers.{write_fault-untimed}
 use Rattle.cap_write.specs.inner.Interfaces.{HasUnits, Numbers}
-use Rattle.cap_write.specs.Numbering.{Origin, refusal_at, refusal_by, write_fault}
+use Rattle.cap_write.specs.Numbering.{Origins, refusal_at, refusal_by, write_fault}
 use Rattle.cap_write.specs.Texts.{text_or, one_bytes}
 
 -- if a packet is refused nothing is written
@@ -24,14 +24,14 @@ Prints-refused : (text : List ℕ) (meta : Meta) (rule : Rule) (fault : Option R
 Prints-refused text meta rule fault held is = grind (arith, append-nil)
 
 -- a packet without a time is refused
-pub Prints-untimed : (order : Order) (origins : List Origin) (meta : Meta) (frame held : List ℕ) (fault : Fault)
+pub Prints-untimed : (order : Order) (origins : Origins) (meta : Meta) (frame held : List ℕ) (fault : Fault)
     → HasUnits meta (Err fault)
     → Prints {A = Unit {0}} (one_bytes order origins meta frame) (refusal_by meta (write_fault origins meta)) held
     (Err fault) held
 Prints-untimed order origins meta frame held fault h = grind (arith, Prints-refused, write_fault-untimed)
 
 -- a packet whose interface has no number: it is refused, or there was no memory
-pub Prints-unnumbered : (order : Order) (origins after : List Origin) (meta : Meta) (frame held : List ℕ)
+pub Prints-unnumbered : (order : Order) (origins after : Origins) (meta : Meta) (frame held : List ℕ)
     (fault : Fault) → Numbers meta origins (Err fault) after
     → Prints {A = Unit {0}} (one_bytes order origins meta frame) (refusal_by meta (write_fault origins meta)) held
     (Err fault) held

@@ -7,7 +7,8 @@ use Rattle.cap_blocks.specs.Grammar.{section_bytes, interface_bytes, packet_byte
 use Rattle.cap_source.specs.Feed.{Item}
 use Rattle.cap_source.specs.declared.packets.Meta.{Meta}
 use Rattle.cap_time.specs.declared.resolutions.Interface.{Interface}
-use Rattle.cap_write.specs.Numbering.{Origin, Numbered, numbered_of, numbered, write_fault, refusal_in}
+use Rattle.cap_write.specs.Numbering.{Origins, own, shared, count_of, Numbered, numbered_of, numbered, write_fault}
+use Rattle.cap_write.specs.Numbering.{refusal_in}
 
 -- what is written for a packet, after `count` interfaces were described: its interface, if that
 -- wasn't, and the packet
@@ -36,27 +37,39 @@ abbrev pub text_or : Option Rule → List ℕ → List ℕ
 text_or (Some rule) text = []
 text_or None text = text
 
-abbrev pub one_bytes : Order → List Origin → Meta → List ℕ → List ℕ
+abbrev pub one_bytes : Order → Origins → Meta → List ℕ → List ℕ
 one_bytes order origins meta frame =
-    text_or (write_fault origins meta) (numbered_bytes order (length origins) (numbered_of origins meta frame))
+    text_or (write_fault origins meta) (numbered_bytes order (count_of origins) (numbered_of origins meta frame))
 
 -- What is written for a list after those interfaces were described. A written interface block or
 -- packet block has the form of `interface_bytes` or `packet_bytes`.
-abbrev pub text_behind : Order → List Origin → List Item → List ℕ
-text_behind order origins items = packets_bytes order (length origins) (numbered origins items)
+abbrev pub text_behind : Order → Origins → List Item → List ℕ
+text_behind order origins items = packets_bytes order (count_of origins) (numbered origins items)
 
--- what is written for a merged list: a section header, and each interface in front of its first packet
+-- what is written for a list as one section: its header, and each interface that isn't one of those in front of its
+-- first packet
+abbrev pub section_text : Order → Origins → List Item → List ℕ
+section_text order origins items = section_bytes order ++ text_behind order origins items
+
+-- what is written for a merged list, in which each file has interfaces of its own
 abbrev pub merged_bytes : Order → List Item → List ℕ
-merged_bytes order items = section_bytes order ++ text_behind order [] items
+merged_bytes order items = section_text order (own []) items
 
 abbrev pub merged_refusal : List Item → Option Refusal
-merged_refusal items = refusal_in [] items
+merged_refusal items = refusal_in (own []) items
+
+-- what is written for a merged list, in which interfaces that say the same are one
+abbrev pub sharing_bytes : Order → List Item → List ℕ
+sharing_bytes order items = section_text order (shared []) items
+
+abbrev pub sharing_refusal : List Item → Option Refusal
+sharing_refusal items = refusal_in (shared []) items
 
 -- What is written for one file as pcapng: its first interface, if it has one, stands right after the
 -- section header.
-abbrev pub first_origins : ℕ → Option Interface → List Origin
-first_origins file None = []
-first_origins file (Some interface) = (file, 0) ∷ []
+abbrev pub first_origins : ℕ → Option Interface → Origins
+first_origins file None = own []
+first_origins file (Some interface) = own ((file, 0) ∷ [])
 
 abbrev pub first_bytes : Order → Option Interface → List ℕ
 first_bytes order None = []

@@ -168,7 +168,7 @@ pub fn write_joined_and_count<F: PacketFeed, W: Sink>(
     ensures keeps { FeedKeeps (merged_feed (parts_of merged.old)) (merged_feed (parts_of merged.new)) }
 {
     put_section(writer, order)?;
-    let mut numbered = WrittenForm::Pcapng(Origins::new(alloc));
+    let mut numbered = WrittenForm::Pcapng(Origins::own(alloc));
     put_joined(alloc, merged, order, &mut numbered, left, writer)
 }
 

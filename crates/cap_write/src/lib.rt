@@ -20,4 +20,4 @@ pub use crate::joined::{
 };
 pub use crate::laws::left_out_law;
 pub use crate::left_out::{LeftOut, NO_PACKETS_LEFT_OUT};
-pub use crate::merged::{write_merged, write_merged_pcap};
+pub use crate::merged::{write_merged, write_merged_pcap, write_merged_sharing};

@@ -7,8 +7,9 @@ ghost use Rattle.cap_blocks.specs.Grammar.{interface_bytes, packet_bytes};
 ghost use Rattle.cap_source.specs.Feed.{FeedKeeps};
 ghost use Rattle.cap_source.specs.inner.Walk.{Walks, SameEndings};
 ghost use Rattle.cap_source.specs.inner.Growing.{IfMemory, IsAtPacket};
-ghost use Rattle.cap_write.specs.Numbering.{number_of, with_origin, refusal_in, refusal_by, write_fault};
+ghost use Rattle.cap_write.specs.Numbering.{count_of, number_of, with_origin, refusal_in, refusal_by, write_fault};
 ghost use Rattle.cap_write.specs.Texts.{text_behind, one_bytes};
+ghost use Rattle.cap_write.specs.inner.Interfaces.{origins_of};
 
 use crate::interfaces::{Origins, number_of, units_of};
 use cap_blocks::{PacketFields, put_interface, put_packet};
@@ -76,20 +77,20 @@ pub(crate) fn put_one<W: Sink>(
     writer: &mut W,
 ) -> Result<(), Fault>
     requires captured { length frame.now ≤ 262144 }
-    requires limit { length origins.old.keys ≤ 1024 }
+    requires limit { count_of (origins_of origins.old) ≤ 1024 }
     ensures text { IsTrue (W.tells_held writer.old)
-        → Prints (one_bytes order origins.old.keys meta.now frame.now)
-        (refusal_by meta.now (write_fault origins.old.keys meta.now))
+        → Prints (one_bytes order (origins_of origins.old) meta.now frame.now)
+        (refusal_by meta.now (write_fault (origins_of origins.old) meta.now))
         (W.held writer.old) result (W.held writer.new) }
-    ensures origins { OnOk result ((origins.new.keys ≡ with_origin origins.old.keys meta.now)
-        × (write_fault origins.old.keys meta.now ≡ None)) }
-    ensures limit { length origins.new.keys ≤ 1024 }
+    ensures origins { OnOk result ((origins_of origins.new ≡ with_origin (origins_of origins.old) meta.now)
+        × (write_fault (origins_of origins.old) meta.now ≡ None)) }
+    ensures limit { count_of (origins_of origins.new) ≤ 1024 }
     ensures writer { WriterKeeps (writer_of W.Sink writer.old) (is_write result) (writer_of W.Sink writer.new) }
     ensures read { IsReadFault result → ⊥ }
-    ensures memory { IfMemory result (write_fault origins.old.keys meta.now ≡ None) }
+    ensures memory { IfMemory result (write_fault (origins_of origins.old) meta.now ≡ None) }
 {
     let units = units_of(meta)?;
-    let count = origins.len();
+    let count = origins.count();
     let number = number_of(origins, meta)?;
     let packet = Writable {
         meta,
@@ -108,10 +109,10 @@ pub(crate) fn put_packets<F: PacketFeed, W: Sink>(
     origins: &mut Origins,
     writer: &mut W,
 ) -> Result<(), Fault>
-    requires limit { length origins.old.keys ≤ 1024 }
+    requires limit { count_of (origins_of origins.old) ≤ 1024 }
     ensures text { IsTrue (F.feed feed.old).told → IsTrue (W.tells_held writer.old)
-        → Prints (text_behind order origins.old.keys (F.feed feed.old).items)
-        (refusal_in origins.old.keys (F.feed feed.old).items)
+        → Prints (text_behind order (origins_of origins.old) (F.feed feed.old).items)
+        (refusal_in (origins_of origins.old) (F.feed feed.old).items)
         (W.held writer.old) result (W.held writer.new) }
     ensures writer { WriterKeeps (writer_of W.Sink writer.old) (is_write result) (writer_of W.Sink writer.new) }
     ensures walks { Walks (F.feed feed.old) result (F.feed feed.new) }

@@ -5,7 +5,7 @@ ghost use Rattle.cap_bytes.specs.Printing.{Prints, is_write};
 ghost use Rattle.cap_source.specs.Feed.{FeedKeeps};
 ghost use Rattle.cap_source.specs.inner.Walk.{Walks, SameEndings};
 ghost use Rattle.cap_source.specs.inner.Growing.{IfMemory, IsAtPacket};
-ghost use Rattle.cap_write.specs.inner.Interfaces.{Holds};
+ghost use Rattle.cap_write.specs.inner.Interfaces.{Holds, origins_of};
 ghost use Rattle.cap_write.specs.Texts.{first_origins, first_bytes, front_bytes, pcapng_bytes, pcapng_refusal};
 
 use crate::interfaces::{FileStart, Origins};
@@ -14,20 +14,21 @@ use cap_blocks::{put_interface, put_section};
 use cap_bytes::{Fault, Order, Sink};
 use cap_source::PacketFeed;
 use cap_time::Interface;
+use indexmap::IndexSet;
 use std::alloc::Global;
 
 // The interfaces that are described before the first packet.
 fn first_origins(alloc: Global, start: FileStart) -> Result<Origins, Fault>
-    ensures origins { Holds (λ origins. origins.keys) (first_origins start.file start.first) result }
+    ensures origins { Holds origins_of (first_origins start.file start.first) result }
     ensures some { IsErr result → IsSome start.first }
 {
-    let mut origins = Origins::new(alloc);
+    let mut origins = IndexSet::new(alloc);
     match start.first {
         Some(_) => match origins.insert((start.file, 0)) {
-            Ok(_) => Ok(origins),
+            Ok(_) => Ok(Origins::Own(origins)),
             Err(_) => Err(Fault::Memory),
         },
-        None => Ok(origins),
+        None => Ok(Origins::Own(origins)),
     }
 }
 

@@ -26,7 +26,7 @@ use Rattle.cap_source.specs.Items.{file_first}
 use Rattle.cap_source.specs.declared.contents.BlockContent.{BlockContent}
 use Rattle.cap_source.specs.declared.contents.BlockPacket.{BlockPacket}
 use Rattle.cap_time.specs.declared.resolutions.Interface.{Interface}
-use Rattle.cap_write.specs.Numbering.{numbered}
+use Rattle.cap_write.specs.Numbering.{own, numbered}
 use Rattle.cap_laws.proofs.again.Instances.{HasNumber, IsAny, content-of}
 
 -- A packet of instance 0 has that interface.
@@ -151,16 +151,16 @@ of_blocks : (file : ℕ) (i : Interface) (items : List (pieces.PieceItem Block))
     → IsFirstOf (items_of_blocks file fresh items) i
 of_blocks file i items are is = grind (arith, blocks-first_fits, blocks-first, blocks-first_fits fresh items tt tt are)
 
-of_records : (file : ℕ) (i own : Interface) (fault : Option Rule) (items : List (pieces.PieceItem Record))
-    → FitsInterface own → unless_refused fault own ≡ Some i
-    → IsFirstOf (pcap_items file own items) i
-of_records file i own (Some rule) items fits is = cc
-of_records file i own None items fits is =
-    let same = same_interface own i is in
+of_records : (file : ℕ) (i one : Interface) (fault : Option Rule) (items : List (pieces.PieceItem Record))
+    → FitsInterface one → unless_refused fault one ≡ Some i
+    → IsFirstOf (pcap_items file one items) i
+of_records file i one (Some rule) items fits is = cc
+of_records file i one None items fits is =
+    let same = same_interface one i is in
     record {
       fits = subst FitsInterface same fits;
-      packets = subst (λ (j : Interface). AllByRecursion (IsFirst j) (pcap_items file own items)) same
-          (records-first file own items);
+      packets = subst (λ (j : Interface). AllByRecursion (IsFirst j) (pcap_items file one items)) same
+          (records-first file one items);
     }
 
 pub first-of : (tail : Tail) (file : ℕ) (bytes : List ℕ) (i : Interface) → AreBytes bytes
@@ -201,15 +201,15 @@ block-unwritten : (file : ℕ) (progress : SectionProgress) (block : Block) (bod
     → IfOk content (OfContent IsAny (HasNumber progress.interfaces)) → progress.interfaces ≡ []
     → unless_item content progress.first first ≡ None
     → (first ≡ None → (behind progress content).first ≡ None)
-    → ((behind progress content).interfaces ≡ [] → first ≡ None → numbered [] items ≡ [])
-    → numbered [] (items_at_block file progress block body content items) ≡ []
+    → ((behind progress content).interfaces ≡ [] → first ≡ None → numbered (own []) items ≡ [])
+    → numbered (own []) (items_at_block file progress block body content items) ≡ []
 unfolding numbered
 block-unwritten file progress block body content first items of empty none before rest = grind arith
 
 blocks-unwritten : (file : ℕ) (progress : SectionProgress) (items : List (pieces.PieceItem Block))
     → progress.interfaces ≡ []
     → first_in progress items ≡ None
-    → numbered [] (items_of_blocks file progress items) ≡ []
+    → numbered (own []) (items_of_blocks file progress items) ≡ []
 unfolding numbered items_of_blocks first_in
 blocks-unwritten file progress (pieces.given block body ∷ rest) empty none =
     let content = content_in progress.interfaces block.kind block.order body in
@@ -220,13 +220,13 @@ blocks-unwritten file progress (pieces.given block body ∷ rest) empty none =
     (λ empty none. blocks-unwritten file (behind progress content) rest empty none)
 blocks-unwritten file progress items empty none = grind arith
 
-records-unwritten : (tail : Tail) (file : ℕ) (bytes : List ℕ) (own : Interface)
-    → unless_refused (records.pcap_header_fault 0 bytes) own ≡ None
-    → numbered [] (pcap_items file own (records.pcap_file_items tail file 0 bytes)) ≡ []
+records-unwritten : (tail : Tail) (file : ℕ) (bytes : List ℕ) (i : Interface)
+    → unless_refused (records.pcap_header_fault 0 bytes) i ≡ None
+    → numbered (own []) (pcap_items file i (records.pcap_file_items tail file 0 bytes)) ≡ []
 unfolding numbered pcap_items records.pcap_file_items
-records-unwritten tail file bytes own none = grind arith
+records-unwritten tail file bytes i none = grind arith
 
 pub first-none : (tail : Tail) (file : ℕ) (bytes : List ℕ) → file_first tail file bytes ≡ None
-    → numbered [] (file_items tail file bytes) ≡ []
+    → numbered (own []) (file_items tail file bytes) ≡ []
 unfolding items_from first_from
 first-none tail file bytes none = grind (arith, fresh, items_of_blocks, blocks-unwritten, records-unwritten)

@@ -10,8 +10,8 @@ use Rattle.cap_bytes.specs.declared.faults.Rule.{Rule}
 use Rattle.cap_bytes.specs.declared.faults.Rule.TheVariants.{NoTime, InterfaceLimit}
 use Rattle.cap_source.specs.Feed.{Item, packet, refused}
 use Rattle.cap_source.specs.declared.packets.Meta.{Meta}
-use Rattle.cap_write.specs.Numbering.{Origin, Numbered, with_origin, is_full, write_fault, numbered_of, numbered_or}
-use Rattle.cap_write.specs.Numbering.{numbered, refusal_or, refusal_in}
+use Rattle.cap_write.specs.Numbering.{Origin, Origins, own, Numbered, with_origin, is_full, write_fault, numbered_of}
+use Rattle.cap_write.specs.Numbering.{numbered_or, numbered, refusal_or, refusal_in}
 use Rattle.cap_merge.specs.Run.{Clocked, opened_track, merged, through_first}
 use Rattle.cap_merge.specs.Parts.{item_time, is_refusal}
 use Rattle.cap_merge.proofs.Rounds.{files_in}
@@ -19,7 +19,7 @@ use Rattle.cap_merge.proofs.Rounds as merged_rounds
 use Rattle.cap_merge.proofs.RunLaws as run_laws
 use Rattle.cap_laws.specs.again.Rounds.{in_file, numbered_files, run_of_packets, merged_packets, IsItemOf, IsMergeOf}
 use Rattle.cap_laws.specs.again.Rounds.{FileRoundsLaw, RoundsLaw, file_of_packets, ClockLaw}
-use Rattle.cap_laws.proofs.again.Renaming.{IsOneToOne, Renamed, numbered-renamed, refusal-renamed}
+use Rattle.cap_laws.proofs.again.Renaming.{IsOneToOne, Renamed, numbered-renamed, origins_behind, refusal-renamed}
 use Rattle.cap_laws.proofs.again.UsedOrigins.{all_origins, number-given, number-kept, GroupOrigins, IsOfGroup}
 use Rattle.cap_laws.proofs.again.UsedOrigins.{IsOfGroups, groups-apart}
 use Rattle.cap_laws.proofs.again.Alike.{merge_of, merge-alike, merge-all}
@@ -35,29 +35,29 @@ through_items [] = refl
 through_items (x ∷ xs) = grind (arith, through_items xs)
 
 -- what comes after a refusal isn't written
-numbered_through : (ns : List Origin) (xs : List Item) → numbered ns (through_first is_refusal xs) ≡ numbered ns xs
+pub numbered_through : (ns : Origins) (xs : List Item) → numbered ns (through_first is_refusal xs) ≡ numbered ns xs
 unfolding numbered
 numbered_through ns (packet m f ∷ xs) = ap (numbered_or (write_fault ns m) (numbered_of ns m f))
     (numbered_through (with_origin ns m) xs)
 numbered_through ns xs = cc
 
-refusal_through : (ns : List Origin) (xs : List Item) → refusal_in ns (through_first is_refusal xs) ≡ refusal_in ns xs
+pub refusal_through : (ns : Origins) (xs : List Item) → refusal_in ns (through_first is_refusal xs) ≡ refusal_in ns xs
 unfolding refusal_in
 refusal_through ns (packet m f ∷ xs) = ap (refusal_or (write_fault ns m) m) (refusal_through (with_origin ns m) xs)
 refusal_through ns xs = cc
 
-run_is : (files : List (List Item)) → run_of_packets files
+pub run_is : (files : List (List Item)) → run_of_packets files
     ≡ through_first is_refusal (merge_of item_time (numbered_files 1 files))
 unfolding run_of_packets
 run_is files = through_items (merged item_time (map opened_track (numbered_files 1 files)))
 
 packets_are : (files : List (List Item)) → merged_packets files
-    ≡ numbered [] (merge_of item_time (numbered_files 1 files))
-packets_are files = ap (numbered []) (run_is files) ∙ numbered_through [] (merge_of item_time (numbered_files 1 files))
+    ≡ numbered (own []) (merge_of item_time (numbered_files 1 files))
+packets_are files = ap (numbered (own [])) (run_is files) ∙ numbered_through (own []) (merge_of item_time (numbered_files 1 files))
 
-refusal_is : (files : List (List Item)) → refusal_in [] (run_of_packets files)
-    ≡ refusal_in [] (merge_of item_time (numbered_files 1 files))
-refusal_is files = ap (refusal_in []) (run_is files) ∙ refusal_through [] (merge_of item_time (numbered_files 1 files))
+refusal_is : (files : List (List Item)) → refusal_in (own []) (run_of_packets files)
+    ≡ refusal_in (own []) (merge_of item_time (numbered_files 1 files))
+refusal_is files = ap (refusal_in (own [])) (run_is files) ∙ refusal_through (own []) (merge_of item_time (numbered_files 1 files))
 
 -- ---- other numbers of files
 
@@ -66,9 +66,9 @@ pub same_time : (R : Origin → Origin → Type 0) (x y : Item) → Renamed R x 
 same_time R x y h = grind arith
 
 -- The file's number is another, as far from the first.
-record IsMoved (p q : ℕ) (a b : Origin) : Type 0 where
-  file : b.0 + p ≡ a.0 + q
-  instance : b.1 ≡ a.1
+pub record IsMoved (p q : ℕ) (a b : Origin) : Type 0 where
+  pub file : b.0 + p ≡ a.0 + q
+  pub instance : b.1 ≡ a.1
 
 moved_apart : (p q : ℕ) → IsOneToOne (IsMoved p q)
 moved_apart p q a b c d h k = grind (arith, nat_tests)
@@ -83,7 +83,7 @@ files_moved : (p q n m : ℕ) → m + p ≡ n + q → (files : List (List Item))
 files_moved p q n m e [] = tt
 files_moved p q n m e (f ∷ fs) = (items_moved p q n m e f, files_moved p q (suc n) (suc m) (omega arith) fs)
 
-merge_moved : (m : ℕ) (files : List (List Item))
+pub merge_moved : (m : ℕ) (files : List (List Item))
     → AllZip (Renamed (IsMoved 1 m)) (merge_of item_time (numbered_files 1 files))
     (merge_of item_time (numbered_files m files))
 merge_moved m files =
@@ -92,19 +92,19 @@ merge_moved m files =
 
 -- a merge writes the same from whatever number on the files are numbered
 packets_moved : (m : ℕ) (files : List (List Item))
-    → numbered [] (merge_of item_time (numbered_files m files)) ≡ merged_packets files
+    → numbered (own []) (merge_of item_time (numbered_files m files)) ≡ merged_packets files
 packets_moved m files =
     numbered-renamed (IsMoved 1 m) (moved_apart 1 m) [] [] tt (merge_of item_time (numbered_files 1 files))
     (merge_of item_time (numbered_files m files)) (merge_moved m files)
     ∙ sym (packets_are files)
 
-no_rule : (o : Option Refusal) → option_map (λ f. f.rule) o ≡ None → o ≡ None
+pub no_rule : (o : Option Refusal) → option_map (λ f. f.rule) o ≡ None → o ≡ None
 no_rule o e = grind arith
 
-accepted_moved : (m : ℕ) (files : List (List Item)) → refusal_in [] (run_of_packets files) ≡ None
-    → refusal_in [] (merge_of item_time (numbered_files m files)) ≡ None
+accepted_moved : (m : ℕ) (files : List (List Item)) → refusal_in (own []) (run_of_packets files) ≡ None
+    → refusal_in (own []) (merge_of item_time (numbered_files m files)) ≡ None
 accepted_moved m files e =
-    no_rule (refusal_in [] (merge_of item_time (numbered_files m files)))
+    no_rule (refusal_in (own []) (merge_of item_time (numbered_files m files)))
     (refusal-renamed (IsMoved 1 m) (moved_apart 1 m) [] [] tt (merge_of item_time (numbered_files 1 files))
     (merge_of item_time (numbered_files m files)) (merge_moved m files)
     ∙ ap (option_map (λ f. f.rule)) (sym (refusal_is files) ∙ e))
@@ -135,33 +135,33 @@ timed : (units : Option ℕ) (full : Bool)
     → Some (unwrap_or units 0) ≡ units
 timed units full e = grind arith
 
-timed_by : (ns : List Origin) (m : Meta) → write_fault ns m ≡ None → Some (unwrap_or m.units 0) ≡ m.units
+pub timed_by : (ns : Origins) (m : Meta) → write_fault ns m ≡ None → Some (unwrap_or m.units 0) ≡ m.units
 unfolding write_fault
 timed_by ns m e = timed m.units (is_full ns m) e
 
 group_next : (file place count : ℕ) (ns : List Origin) (m : Meta) (f : List ℕ) (xs ys : List Item) (fault : Option Rule)
-    → write_fault ns m ≡ fault → refusal_or fault m (refusal_in (with_origin ns m) xs) ≡ None
-    → AllZip IsItemOf (numbered_or fault (numbered_of ns m f) (numbered (with_origin ns m) xs)) ys
+    → write_fault (own ns) m ≡ fault → refusal_or fault m (refusal_in (with_origin (own ns) m) xs) ≡ None
+    → AllZip IsItemOf (numbered_or fault (numbered_of (own ns) m f) (numbered (with_origin (own ns) m) xs)) ys
     → InFiles file (file + count) (packet m f)
-    → ((zs : List Item) → refusal_in (with_origin ns m) xs ≡ None → AllZip IsItemOf (numbered (with_origin ns m) xs) zs
-    → AllZip (Renamed (IsOfGroup file place (record { count = count; origins = all_origins (with_origin ns m) xs }))) xs
+    → ((zs : List Item) → refusal_in (with_origin (own ns) m) xs ≡ None → AllZip IsItemOf (numbered (with_origin (own ns) m) xs) zs
+    → AllZip (Renamed (IsOfGroup file place (record { count = count; origins = all_origins (origins_behind ns m) xs }))) xs
     (map (in_file place) zs))
-    → AllZip (Renamed (IsOfGroup file place (record { count = count; origins = all_origins (with_origin ns m) xs })))
+    → AllZip (Renamed (IsOfGroup file place (record { count = count; origins = all_origins (origins_behind ns m) xs })))
     (packet m f ∷ xs) (map (in_file place) ys)
 group_next file place count ns m f xs ys (Some rule) w e z h deeper = absurd (cc)
 group_next file place count ns m f xs [] None w e z h deeper = absurd z
 group_next file place count ns m f xs (y ∷ ys) None w e z h deeper =
     grind (arith, all_origins, number-kept, number-given, timed_by)
 
-group_items : (file place count : ℕ) (ns : List Origin) (xs ys : List Item) → refusal_in ns xs ≡ None
-    → AllZip IsItemOf (numbered ns xs) ys
+group_items : (file place count : ℕ) (ns : List Origin) (xs ys : List Item) → refusal_in (own ns) xs ≡ None
+    → AllZip IsItemOf (numbered (own ns) xs) ys
     → AllByRecursion (InFiles file (file + count)) xs
     → AllZip (Renamed (IsOfGroup file place (record { count = count; origins = all_origins ns xs }))) xs
     (map (in_file place) ys)
 unfolding numbered refusal_in
 group_items file place count ns (packet m f ∷ xs) ys e z h =
-    group_next file place count ns m f xs ys (write_fault ns m) refl e z h.0
-    (λ zs d w. group_items file place count (with_origin ns m) xs zs d w h.1)
+    group_next file place count ns m f xs ys (write_fault (own ns) m) refl e z h.0
+    (λ zs d w. group_items file place count (origins_behind ns m) xs zs d w h.1)
 group_items file place count ns xs ys e z h = grind arith
 
 origins_of : ℕ → List (List Item) → GroupOrigins
@@ -181,7 +181,7 @@ group_alike file place files items h =
 -- ---- all groups
 
 -- the files of the groups, numbered from that number on
-grouped : ℕ → List (List (List Item)) → List (List (List Item))
+unfoldable pub grouped : ℕ → List (List (List Item)) → List (List (List Item))
 grouped file [] = []
 grouped file (g ∷ gs) = numbered_files file g ∷ grouped (file + length g) gs
 
@@ -194,7 +194,7 @@ numbered_both : (file : ℕ) (fs gs : List (List Item))
 numbered_both file [] gs = grind arith
 numbered_both file (f ∷ fs) gs = grind (arith, numbered_both (suc file) fs gs)
 
-grouped_files : (file : ℕ) (gs : List (List (List Item)))
+pub grouped_files : (file : ℕ) (gs : List (List (List Item)))
     → files_in (grouped file gs) ≡ numbered_files file (flat_map (λ g. g) gs)
 unfolding grouped
 grouped_files file [] = refl
@@ -267,7 +267,7 @@ made (n ∷ ns) = (
   made ns,
 )
 
-all_made : (groups : List (List (List Item))) → AllByRecursion (λ g. refusal_in [] (run_of_packets g) ≡ None) groups
+all_made : (groups : List (List (List Item))) → AllByRecursion (λ g. refusal_in (own []) (run_of_packets g) ≡ None) groups
     → AllZip IsMergeOf groups (map (λ g. file_of_packets (merged_packets g)) groups)
 all_made [] h = tt
 all_made (g ∷ gs) h = (record { accepted = h.0; packets = made (merged_packets g) }, all_made gs h.1)

@@ -4,11 +4,11 @@ use Rattle.std.specs.List.{AllByRecursion}
 use Rattle.std.specs.Prelude.{map}
 use Rattle.cap_source.specs.Feed.{Item, packet}
 use Rattle.cap_source.specs.inner.Fields.{HasFrame}
-use Rattle.cap_write.specs.Numbering.{Origin, with_origin, numbered}
+use Rattle.cap_write.specs.Numbering.{Origins, with_origin, numbered}
 use Rattle.cap_laws.specs.again.Laws.{measured}
 
 -- a packet with its captured bytes is read again as it was
-pub numbered-measured : (origins : List Origin) (items : List Item) → AllByRecursion HasFrame items
+pub numbered-measured : (origins : Origins) (items : List Item) → AllByRecursion HasFrame items
     → map measured (numbered origins items) ≡ numbered origins items
 unfolding numbered
 numbered-measured origins (packet meta frame ∷ items) are =

@@ -11,14 +11,14 @@ use Rattle.cap_source.specs.Feed.{Item, packet, refused}
 use Rattle.cap_source.specs.inner.Fields.{HasFrame, ItemFits}
 use Rattle.cap_source.specs.Items.{file_items}
 use Rattle.cap_time.specs.declared.resolutions.Interface.{Interface}
-use Rattle.cap_write.specs.Numbering.{Origin}
+use Rattle.cap_write.specs.Numbering.{Origin, own, shared}
 use Rattle.cap_merge.specs.Files.{items_of_files, run_of_files}
 use Rattle.cap_laws.proofs.again.Alike.{merge-all}
 use Rattle.cap_laws.proofs.again.Instances.{one_interface-law}
 use Rattle.cap_laws.proofs.again.Measured.{numbered-measured}
-use Rattle.cap_laws.proofs.again.Renumbered.{merged_again-law}
+use Rattle.cap_laws.proofs.again.Renumbered.{merged_again-law, sharing_again-law}
 use Rattle.cap_laws.specs.again.Laws.{AllAlike, HasFields, AllHave}
-use Rattle.cap_laws.specs.again.Rounds.{MergeLaw}
+use Rattle.cap_laws.specs.again.Rounds.{MergeLaw, SharingLaw}
 
 -- A packet has the interface of its origin, its fields fit, and its file has at least that number.
 abbrev IsOfFile : ℕ → (Origin → Interface) → Item → Type 0
@@ -94,14 +94,24 @@ run-has tail files are =
     all_have 1 given (run_of_files tail files) (front (IsOfFile 1 given) ends all
     (merge-all (IsOfFile 1 given) item_time lists (of_all tail 1 files are)))
 
-pub merge-law : MergeLaw
+-- and they have as many captured bytes as are told
+run-frames : (tail : Tail) (files : List (List ℕ)) → AllByRecursion HasFrame (run_of_files tail files)
 unfolding run_of_files
-merge-law order tail tail_again file_again files are limit =
-    let given = given_from tail 1 files in
+run-frames tail files =
     let lists = items_of_files tail 1 files in
+    front HasFrame (λ x. is_refusal x.item) (merged item_time (map opened_track lists))
+    (merge-all HasFrame item_time lists (all_frames tail 1 files))
+
+pub merge-law : MergeLaw
+merge-law order tail tail_again file_again files are limit =
     let items = run_of_files tail files in
-    let ends : Clocked Item → Bool = λ x. is_refusal x.item in
-    let all = merged item_time (map opened_track lists) in
-    let law = merged_again-law order tail_again file_again given items (run-has tail files are) limit in
-    let frames = front HasFrame ends all (merge-all HasFrame item_time lists (all_frames tail 1 files)) in
-    (law.0 ∙ numbered-measured [] items frames, law.1, law.2, law.3)
+    let law = merged_again-law order tail_again file_again (given_from tail 1 files) items (run-has tail files are)
+    limit in
+    (law.0 ∙ numbered-measured (own []) items (run-frames tail files), law.1, law.2, law.3)
+
+pub sharing-law : SharingLaw
+sharing-law order tail tail_again file_again files are limit =
+    let items = run_of_files tail files in
+    let law = sharing_again-law order tail_again file_again (given_from tail 1 files) items (run-has tail files are)
+    limit in
+    (law.0 ∙ numbered-measured (shared []) items (run-frames tail files), law.1, law.2, law.3)

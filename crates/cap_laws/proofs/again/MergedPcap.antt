@@ -19,8 +19,8 @@ use Rattle.cap_source.specs.declared.contents.BlockContent.TheVariants as conten
 use Rattle.cap_source.specs.declared.packets.Meta.{Meta}
 use Rattle.cap_time.specs.declared.resolutions.Interface.{Interface}
 use Rattle.cap_write.proofs.Records.{fault_by}
-use Rattle.cap_write.specs.Numbering.{Numbered, Origin, numbered, numbered_of, numbered_or, refusal_in, refusal_or}
-use Rattle.cap_write.specs.Numbering.{with_origin, write_fault}
+use Rattle.cap_write.specs.Numbering.{Numbered, Origin, Origins, own, numbered, numbered_of, numbered_or, refusal_in}
+use Rattle.cap_write.specs.Numbering.{refusal_or, with_origin, write_fault}
 use Rattle.cap_write.specs.Pcap.{bare_refusal, fraction_of, header_of, packet_record, pcap_bytes, pcap_refusal}
 use Rattle.cap_write.specs.Pcap.{written_record_fault, records_bytes, records_refusal, time_bytes, whole_time_in}
 use Rattle.cap_write.specs.PcapRun.{leading, run_bytes, run_refusal}
@@ -50,12 +50,12 @@ numbered_rule first [] = None
 numbered_rule first (n ∷ ns) = rule_or (written_record_fault first (meta_again 0 0 n)) (numbered_rule first ns)
 
 -- a packet that isn't refused, and those after it
-record Goes (origins : List Origin) (meta : Meta) (items : List Item) : Type 0 where
+record Goes (origins : Origins) (meta : Meta) (items : List Item) : Type 0 where
   unrefused : write_fault origins meta ≡ None
   timed : meta.units ≡ Some (unwrap_or meta.units 0)
   rest : refusal_in (with_origin origins meta) items ≡ None
 
-timed-by : (origins : List Origin) (meta : Meta) → write_fault origins meta ≡ None
+timed-by : (origins : Origins) (meta : Meta) → write_fault origins meta ≡ None
     → meta.units ≡ Some (unwrap_or meta.units 0)
 unfolding write_fault
 timed-by origins meta none = by meta.units refl
@@ -64,7 +64,7 @@ timed-by origins meta none = by meta.units refl
     by (Some units) is = is ∙ ap (λ u. Some (unwrap_or u 0)) (sym is)
     by None is = absurd (grind arith)
 
-goes : (origins : List Origin) (meta : Meta) (frame : List ℕ) (items : List Item)
+goes : (origins : Origins) (meta : Meta) (frame : List ℕ) (items : List Item)
     → refusal_in origins (packet meta frame ∷ items) ≡ None → Goes origins meta items
 unfolding refusal_in
 goes origins meta frame items none = by (write_fault origins meta) refl
@@ -78,26 +78,26 @@ goes origins meta frame items none = by (write_fault origins meta) refl
           rest = sym (ap (λ f. refusal_or f meta (refusal_in (with_origin origins meta) items)) is) ∙ none;
         }
 
-never : {A : Type 0} (origins : List Origin) (refusal : Refusal) (items : List Item)
+never : {A : Type 0} (origins : Origins) (refusal : Refusal) (items : List Item)
     → refusal_in origins (refused refusal ∷ items) ≡ None → A
 unfolding refusal_in
 never origins refusal items none = absurd (none-some refusal (sym none))
 
-fault-is : (first : Interface) (origins : List Origin) (meta : Meta) (frame : List ℕ)
+fault-is : (first : Interface) (origins : Origins) (meta : Meta) (frame : List ℕ)
     → meta.units ≡ Some (unwrap_or meta.units 0)
     → written_record_fault first meta ≡ written_record_fault first (meta_again 0 0 (numbered_of origins meta frame))
 unfolding written_record_fault
 fault-is first origins meta frame timed =
     ap (λ units. fault_by units (meta.interface.link == first.link) (fraction_of first) meta.interface) timed
 
-record-is : (order : Order) (first : Interface) (origins : List Origin) (meta : Meta) (frame : List ℕ)
+record-is : (order : Order) (first : Interface) (origins : Origins) (meta : Meta) (frame : List ℕ)
     → meta.units ≡ Some (unwrap_or meta.units 0)
     → packet_record order first meta frame ≡ packet_record order first
     (meta_again 0 0 (numbered_of origins meta frame)) frame
 record-is order first origins meta frame timed =
     ap (λ units. time_bytes order (whole_time_in (fraction_of first) meta.interface units) meta.original frame) timed
 
-numbered-more : (origins : List Origin) (meta : Meta) (frame : List ℕ) (items : List Item)
+numbered-more : (origins : Origins) (meta : Meta) (frame : List ℕ) (items : List Item)
     → write_fault origins meta ≡ None
     → numbered origins (packet meta frame ∷ items) ≡ numbered_of origins meta frame
     ∷ numbered (with_origin origins meta) items
@@ -112,7 +112,7 @@ unfolding records_refusal
 rule-more first meta frame items = grind arith
 
 -- what is written of packets that aren't refused in pcapng, and the rule that refuses one, by their numbered forms
-records-text : (order : Order) (first : Interface) (origins : List Origin) (items : List Item)
+records-text : (order : Order) (first : Interface) (origins : Origins) (items : List Item)
     → refusal_in origins items ≡ None
     → records_bytes order first items ≡ numbered_text order first (numbered origins items)
 unfolding records_bytes numbered
@@ -125,7 +125,7 @@ records-text order first origins (packet meta frame ∷ items) none =
     (record-is order first origins meta frame g.timed i ++ later i))
     ∙ ap (numbered_text order first) (sym (numbered-more origins meta frame items g.unrefused))
 
-records-rule : (first : Interface) (origins : List Origin) (items : List Item) → refusal_in origins items ≡ None
+records-rule : (first : Interface) (origins : Origins) (items : List Item) → refusal_in origins items ≡ None
     → rule_of (records_refusal first items) ≡ numbered_rule first (numbered origins items)
 unfolding records_refusal numbered
 records-rule first origins [] none = refl
@@ -164,12 +164,12 @@ first-merged order tail file n ns zero fits limit =
 
 -- ---- the law
 
-none-left : (items : List Item) → refusal_in [] items ≡ None → numbered [] items ≡ [] → items ≡ []
+none-left : (items : List Item) → refusal_in (own []) items ≡ None → numbered (own []) items ≡ [] → items ≡ []
 none-left [] none is = refl
-none-left (refused refusal ∷ items) none is = never [] refusal items none
+none-left (refused refusal ∷ items) none is = never (own []) refusal items none
 none-left (packet meta frame ∷ items) none is =
-    let g = goes [] meta frame items none in
-    absurd (cons-none (sym (numbered-more [] meta frame items g.unrefused) ∙ is))
+    let g = goes (own []) meta frame items none in
+    absurd (cons-none (sym (numbered-more (own []) meta frame items g.unrefused) ∙ is))
   where
     cons-none : {A : Type 0} {x : A} {xs : List A} → x ∷ xs ≡ [] → ⊥
     cons-none e = cc
@@ -180,18 +180,18 @@ Same back file first items again =
     × (rule_of (pcap_refusal file first again) ≡ rule_of (run_refusal items))
 
 same-first : (back : Order) (file : ℕ) (meta : Meta) (frame : List ℕ) (items again : List Item)
-    → refusal_in [] (packet meta frame ∷ items) ≡ None
-    → refusal_in [] again ≡ None → numbered [] again ≡ numbered [] (packet meta frame ∷ items)
+    → refusal_in (own []) (packet meta frame ∷ items) ≡ None
+    → refusal_in (own []) again ≡ None → numbered (own []) again ≡ numbered (own []) (packet meta frame ∷ items)
     → Same back file (Some meta.interface) (packet meta frame ∷ items) again
 same-first back file meta frame items again none none_again same =
     let i = meta.interface in
     let all = packet meta frame ∷ items in
-    let g = goes [] meta frame items none in
+    let g = goes (own []) meta frame items none in
     let header = header_bytes (header_of back i) in
-    let records = records-text back i [] again none_again
-    ∙ (ap (numbered_text back i) same ∙ sym (records-text back i [] all none)) in (
+    let records = records-text back i (own []) again none_again
+    ∙ (ap (numbered_text back i) same ∙ sym (records-text back i (own []) all none)) in (
       ap (λ t. header ++ t) records ∙ sym (ap (λ first. pcap_bytes back first all) (led g.timed)),
-      records-rule i [] again none_again ∙ (ap (numbered_rule i) same ∙ sym (records-rule i [] all none)),
+      records-rule i (own []) again none_again ∙ (ap (numbered_rule i) same ∙ sym (records-rule i (own []) all none)),
     )
   where
     led : meta.units ≡ Some (unwrap_or meta.units 0) → leading (packet meta frame ∷ items) ≡ Some meta.interface
@@ -202,21 +202,21 @@ same-none back file again is = (refl, ap (λ l. rule_of (Some (bare_refusal file
 
 same-by : (order back : Order) (tail : Tail) (file : ℕ) (given : Origin → Interface) (items again : List Item)
     → AllHave given items
-    → length (merged_bytes order items) ≤ 2 ^ 40 → refusal_in [] items ≡ None
-    → refusal_in [] again ≡ None → numbered [] again ≡ numbered [] items
+    → length (merged_bytes order items) ≤ 2 ^ 40 → refusal_in (own []) items ≡ None
+    → refusal_in (own []) again ≡ None → numbered (own []) again ≡ numbered (own []) items
     → Same back file (file_first tail file (merged_bytes order items)) items again
 unfolding numbered packets_bytes
 same-by order back tail file given [] again have limit none none_again same =
     subst (λ first. Same back file first [] again) (sym (first-section order tail file))
     (same-none back file again (none-left again none_again same))
 same-by order back tail file given (refused refusal ∷ items) again have limit none none_again same =
-    never [] refusal items none
+    never (own []) refusal items none
 same-by order back tail file given (packet meta frame ∷ items) again have limit none none_again same =
-    let g = goes [] meta frame items none in
+    let g = goes (own []) meta frame items none in
     let all = packet meta frame ∷ items in
-    let more = numbered-more [] meta frame items g.unrefused in
-    let n = numbered_of [] meta frame in
-    let ns = numbered (with_origin [] meta) items in
+    let more = numbered-more (own []) meta frame items g.unrefused in
+    let n = numbered_of (own []) meta frame in
+    let ns = numbered (with_origin (own []) meta) items in
     let text : merged_bytes order all ≡ section_bytes order ++ packets_bytes order 0 (n ∷ ns) =
     ap (λ l. section_bytes order ++ packets_bytes order 0 l) more in
     let first = ap (file_first tail file) text ∙ first-merged order tail file n ns refl have.0.fits

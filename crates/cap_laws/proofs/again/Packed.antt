@@ -7,7 +7,7 @@ use Rattle.cap_bytes.specs.declared.stops.Stop.{Stop}
 use Rattle.cap_source.specs.Items.{pcap_items}
 use Rattle.cap_time.specs.declared.resolutions.Interface.{Interface}
 use Rattle.cap_source.specs.Feed.{refusal_of}
-use Rattle.cap_write.specs.Numbering.{Origin, Numbered, numbered, refusal_in, write_fault}
+use Rattle.cap_write.specs.Numbering.{Origins, own, Numbered, numbered, refusal_in, write_fault}
 use Rattle.cap_write.specs.Texts.{interface_part, packet_part, count_after}
 use Rattle.cap_commands.specs.BlockText.{refusal_of_stop}
 use Rattle.cap_laws.specs.again.Laws.{Kept, kept_packets, read_items, AreNumbered, all_described}
@@ -42,8 +42,8 @@ abbrev pub keep_all : Interface → List Packet → List Kept
 keep_all i [] = []
 keep_all i (p ∷ ps) = keep_one i p ∷ keep_all i ps
 
-abbrev one_origin : ℕ → List Origin
-one_origin file = (file, 0) ∷ []
+abbrev one_origin : ℕ → Origins
+one_origin file = own ((file, 0) ∷ [])
 
 -- what is written of them is all
 pub numbered-packets : (file : ℕ) (i : Interface) (offset : ℕ) (ps : List Packet) (stop : Stop)

@@ -13,7 +13,7 @@ use Rattle.cap_source.specs.Feed.{Item, packet, refusal_of}
 use Rattle.cap_source.specs.inner.Fields.{ItemFits}
 use Rattle.cap_source.specs.Items.{file_items, file_first, first_in}
 use Rattle.cap_time.specs.declared.resolutions.Interface.{Interface}
-use Rattle.cap_write.specs.Numbering.{Origin, numbered, refusal_in}
+use Rattle.cap_write.specs.Numbering.{Origin, Origins, own, numbered, refusal_in}
 use Rattle.cap_write.specs.Texts.{first_origins, packets_bytes, pcapng_bytes, merged_bytes}
 use Rattle.cap_laws.proofs.again.Again.{reached}
 use Rattle.cap_laws.proofs.again.Files.{pcapng-again, first-behind_section}
@@ -46,7 +46,7 @@ have_first file i given (packet meta frame ∷ items) alike first fit =
 have_first file i given items alike first fit = cc
 
 -- What is read again of some packets that were numbered after some origins.
-record IsReadAgain (origins others : List Origin) (items again : List Item) : Type 0 where
+record IsReadAgain (origins others : Origins) (items again : List Item) : Type 0 where
   packets : numbered others again ≡ numbered origins items
   unrefused : refusal_in others again ≡ None
   complete : refusal_of again ≡ None
@@ -55,20 +55,20 @@ record IsReadAgain (origins others : List Origin) (items again : List Item) : Ty
 
 without_first : (order : Order) (tail tail_again : Tail) (file file_again : ℕ) (bytes : List ℕ) → AreBytes bytes
     → length (pcapng_bytes order file None (file_items tail file bytes)) ≤ 2 ^ 40
-    → IsReadAgain [] [] (file_items tail file bytes)
+    → IsReadAgain (own []) (own []) (file_items tail file bytes)
     (file_items tail_again file_again (pcapng_bytes order file None (file_items tail file bytes)))
 without_first order tail tail_again file file_again bytes are limit =
     let items = file_items tail file bytes in
     let alike = one_interface-law tail file bytes in
     let fit = fields_fit-law tail file bytes are in
     let same : pcapng_bytes order file None items ≡ merged_bytes order items =
-    ap (λ front. front ++ packets_bytes order 0 (numbered [] items)) (append-nil (section_bytes order)) in
+    ap (λ front. front ++ packets_bytes order 0 (numbered (own []) items)) (append-nil (section_bytes order)) in
     let law = merged_again-law order tail_again file_again (of_instance alike.0) items
     (have_all file alike.0 items alike.1 fit)
     (subst (λ t. length t ≤ 2 ^ 40) same limit) in
-    subst (λ t. IsReadAgain [] [] items (file_items tail_again file_again t)) (sym same)
+    subst (λ t. IsReadAgain (own []) (own []) items (file_items tail_again file_again t)) (sym same)
     (record {
-      packets = law.0 ∙ numbered-measured [] items (frames_fit-law tail file bytes);
+      packets = law.0 ∙ numbered-measured (own []) items (frames_fit-law tail file bytes);
       unrefused = law.1;
       complete = law.2;
     })

@@ -3,10 +3,15 @@ use Rattle.std.proofs.Common.{arith, ◌≡◌, ℕ, suc, ◌+◌, cond, List, [
 use Rattle.std.specs.Prelude.{◌||◌, not}
 use Rattle.std.specs.List.{AllZip, list_any, position_or_len}
 use Rattle.std.specs.Option.{option_map}
+use Rattle.indexmap.specs.IndexSet.{insert_key}
 use Rattle.cap_source.specs.Feed.{Item, packet, refused}
 use Rattle.cap_source.specs.declared.packets.Meta.{Meta}
-use Rattle.cap_write.specs.Numbering.{Origin, origin_of, is_origin, with_origin, write_fault, numbered_of, numbered_or}
-use Rattle.cap_write.specs.Numbering.{numbered, refusal_in}
+use Rattle.cap_write.specs.Numbering.{Origin, own, origin_of, is_origin, write_fault, numbered_of, numbered_or, numbered}
+use Rattle.cap_write.specs.Numbering.{refusal_in}
+
+-- the origins after a packet
+abbrev pub origins_behind : List Origin → Meta → List Origin
+origins_behind origins meta = insert_key is_origin origins (origin_of meta)
 
 -- Equal origins on one side belong to equal origins on the other, and only these.
 abbrev pub IsOneToOne : (Origin → Origin → Type 0) → Type 0
@@ -47,35 +52,35 @@ module _ (R : Origin → Origin → Type 0) (one : IsOneToOne R) where
   one-more ns ms a b h r = grind arith
 
   fault-renamed : (ns ms : List Origin) (m n : Meta) → AllZip R ns ms → IsRenamed R m n
-      → write_fault ms n ≡ write_fault ns m
+      → write_fault (own ms) n ≡ write_fault (own ns) m
   unfolding write_fault
   fault-renamed ns ms m n h r = grind (arith, is_none, length-renamed, any-renamed)
 
   numbered_of-renamed : (ns ms : List Origin) (m n : Meta) (f g : List ℕ) → AllZip R ns ms → IsRenamed R m n → g ≡ f
-      → numbered_of ms n g ≡ numbered_of ns m f
+      → numbered_of (own ms) n g ≡ numbered_of (own ns) m f
   numbered_of-renamed ns ms m n f g h r e = grind (arith, position-renamed)
 
   origins-renamed : (ns ms : List Origin) (m n : Meta) → AllZip R ns ms → IsRenamed R m n
-      → AllZip R (with_origin ns m) (with_origin ms n)
+      → AllZip R (origins_behind ns m) (origins_behind ms n)
   origins-renamed ns ms m n h r = grind (arith, one-more, any-renamed)
 
   -- the same packets are written
   pub numbered-renamed : (ns ms : List Origin) → AllZip R ns ms → (xs ys : List Item) → AllZip (Renamed R) xs ys
-      → numbered ms ys ≡ numbered ns xs
+      → numbered (own ms) ys ≡ numbered (own ns) xs
   unfolding numbered
   numbered-renamed ns ms h (packet m f ∷ xs) (packet n g ∷ ys) a =
       λ i. numbered_or (fault-renamed ns ms m n h a.0.0 i) (numbered_of-renamed ns ms m n f g h a.0.0 a.0.1 i)
-      (numbered-renamed (with_origin ns m) (with_origin ms n) (origins-renamed ns ms m n h a.0.0) xs ys a.1 i)
+      (numbered-renamed (origins_behind ns m) (origins_behind ms n) (origins-renamed ns ms m n h a.0.0) xs ys a.1 i)
   numbered-renamed ns ms h xs ys a = grind arith
 
   -- and the same refusal comes after them
   pub refusal-renamed : (ns ms : List Origin) → AllZip R ns ms → (xs ys : List Item) → AllZip (Renamed R) xs ys
-      → option_map (λ f. f.rule) (refusal_in ms ys) ≡ option_map (λ f. f.rule) (refusal_in ns xs)
+      → option_map (λ f. f.rule) (refusal_in (own ms) ys) ≡ option_map (λ f. f.rule) (refusal_in (own ns) xs)
   unfolding refusal_in
   refusal-renamed ns ms h (packet m f ∷ xs) (packet n g ∷ ys) a =
       grind (
         arith,
-        refusal-renamed (with_origin ns m) (with_origin ms n) (origins-renamed ns ms m n h a.0.0) xs ys a.1,
+        refusal-renamed (origins_behind ns m) (origins_behind ms n) (origins-renamed ns ms m n h a.0.0) xs ys a.1,
         fault-renamed,
         origins-renamed,
       )

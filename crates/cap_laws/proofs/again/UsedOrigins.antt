@@ -7,8 +7,8 @@ use Rattle.std.proofs.lemmas.Bool.{true≢false}
 use Rattle.std.proofs.lemmas.Bool.Decides.{nat_tests}
 use Rattle.cap_source.specs.Feed.{Item, packet, refused}
 use Rattle.cap_source.specs.declared.packets.Meta.{Meta}
-use Rattle.cap_write.specs.Numbering.{Origin, origin_of, is_origin, is_used, number_of, with_origin}
-use Rattle.cap_laws.proofs.again.Renaming.{IsOneToOne}
+use Rattle.cap_write.specs.Numbering.{Origin, own, origin_of, is_origin, is_used, number_of}
+use Rattle.cap_laws.proofs.again.Renaming.{IsOneToOne, origins_behind}
 
 -- ---- origins
 
@@ -35,7 +35,7 @@ numbers-decide xs a c m n h k = grind arith
 -- the origins used before some items and in them
 abbrev pub all_origins : List Origin → List Item → List Origin
 all_origins origins [] = origins
-all_origins origins (packet meta frame ∷ items) = all_origins (with_origin origins meta) items
+all_origins origins (packet meta frame ∷ items) = all_origins (origins_behind origins meta) items
 all_origins origins (refused refusal ∷ items) = all_origins origins items
 
 kept_origin : (ns : List Origin) (m : Meta) (a : Origin) (n : ℕ) (b : Bool) → IsNumberIn ns a n
@@ -45,7 +45,7 @@ kept_origin ns m a n b h = grind (arith, number-more)
 pub number-kept : (ns : List Origin) (xs : List Item) (a : Origin) (n : ℕ) → IsNumberIn ns a n
     → IsNumberIn (all_origins ns xs) a n
 number-kept ns [] a n h = h
-number-kept ns (packet m f ∷ xs) a n h = number-kept (with_origin ns m) xs a n (kept_origin ns m a n (is_used ns m) h)
+number-kept ns (packet m f ∷ xs) a n h = number-kept (origins_behind ns m) xs a n (kept_origin ns m a n (is_used (own ns) m) h)
 number-kept ns (refused r ∷ xs) a n h = number-kept ns xs a n h
 
 -- an origin that stands in the list has the first place, and another the next one
@@ -60,11 +60,11 @@ lacking [] a e = grind (arith, nat_tests)
 lacking (n ∷ ns) a e = grind (arith, lacking ns a)
 
 -- a packet's interface has its number in the origins after the packet
-pub number-given : (ns : List Origin) (m : Meta) → IsNumberIn (with_origin ns m) (origin_of m) (number_of ns m)
-number-given ns m = by (is_used ns m) refl
+pub number-given : (ns : List Origin) (m : Meta) → IsNumberIn (origins_behind ns m) (origin_of m) (number_of (own ns) m)
+number-given ns m = by (is_used (own ns) m) refl
   where
-    by : (b : Bool) → is_used ns m ≡ b → IsNumberIn (cond b ns (ns ++ (origin_of m ∷ []))) (origin_of m)
-        (number_of ns m)
+    by : (b : Bool) → is_used (own ns) m ≡ b → IsNumberIn (cond b ns (ns ++ (origin_of m ∷ []))) (origin_of m)
+        (number_of (own ns) m)
     by b e = grind (arith, found, lacking)
 
 -- ---- groups

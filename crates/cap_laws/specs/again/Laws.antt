@@ -20,7 +20,7 @@ use Rattle.cap_time.specs.declared.resolutions.Interface.{Interface}
 use Rattle.cap_time.specs.Stamp.{seconds_of, stamp_in}
 use Rattle.cap_time.specs.Unit.{in_second}
 use Rattle.cap_time.specs.declared.stamps.Unit.{Unit as Fraction}
-use Rattle.cap_write.specs.Numbering.{Origin, origin_of, Numbered, numbered_of, numbered, refusal_in, refusal_at}
+use Rattle.cap_write.specs.Numbering.{Origin, own, origin_of, Numbered, numbered_of, numbered, refusal_in, refusal_at}
 use Rattle.cap_write.specs.Pcap.{fraction_of, pcap_bytes, pcap_refusal}
 use Rattle.cap_time.specs.Clock.{clock_cmp}
 use Rattle.cap_source.specs.Times.{meta_time}
@@ -176,7 +176,7 @@ SameBytes =
 -- An interface for each origin, which the packets of a list have, and the fields of which fit, as theirs do.
 pub record HasFields (given : Origin → Interface) (meta : Meta) (bytes : List ℕ) : Type 0 where
   pub interface : meta.interface ≡ given (origin_of meta)
-  pub fits : NumbersFit (numbered_of [] meta bytes)
+  pub fits : NumbersFit (numbered_of (own []) meta bytes)
 
 abbrev pub AllHave : (Origin → Interface) → List Item → Type 0
 AllHave given [] = ⊤
@@ -207,10 +207,10 @@ MergedAgain =
     → (let text = merged_bytes order items in
     let again = file_items tail file text in
     length text ≤ 2 ^ 40
-    → (numbered [] again ≡ map measured (numbered [] items))
-    × (refusal_in [] again ≡ None)
+    → (numbered (own []) again ≡ map measured (numbered (own []) items))
+    × (refusal_in (own []) again ≡ None)
     × (refusal_of again ≡ None)
-    × (instances again ≡ numbers (numbered [] again)))
+    × (instances again ≡ numbers (numbered (own []) again)))
 
 -- The packets of a file have the interface that the file's instance of theirs is.
 abbrev pub AllAlike : ℕ → (ℕ → Interface) → List Item → Type 0

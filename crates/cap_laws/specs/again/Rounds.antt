@@ -14,10 +14,10 @@ use Rattle.cap_source.specs.Items.{file_first, file_items}
 use Rattle.cap_bytes.specs.declared.formats.Format.TheVariants.{Pcapng}
 use Rattle.cap_source.specs.declared.packets.Meta.{Meta}
 use Rattle.cap_time.specs.Clock.{clock_cmp, greatest}
-use Rattle.cap_write.specs.Numbering.{Numbered, numbered, refusal_in}
+use Rattle.cap_write.specs.Numbering.{Numbered, own, shared, numbered, refusal_in}
 use Rattle.cap_write.specs.Pcap.{pcap_bytes, pcap_refusal}
 use Rattle.cap_write.specs.PcapRun.{run_bytes, run_refusal}
-use Rattle.cap_write.specs.Texts.{merged_bytes, merged_refusal}
+use Rattle.cap_write.specs.Texts.{merged_bytes, merged_refusal, sharing_bytes}
 use Rattle.cap_merge.specs.Files.{run_of_files, run_of_lists}
 use Rattle.cap_merge.specs.Run.{Clocked, opened_track, run}
 use Rattle.cap_merge.specs.Parts.{item_time, is_refusal}
@@ -35,10 +35,25 @@ MergeLaw =
     let text = merged_bytes order items in
     let again = file_items tail_again file_again text in
     length text ≤ 2 ^ 40
-    → (numbered [] again ≡ numbered [] items)
-    × (refusal_in [] again ≡ None)
+    → (numbered (own []) again ≡ numbered (own []) items)
+    × (refusal_in (own []) again ≡ None)
     × (refusal_of again ≡ None)
-    × (instances again ≡ numbers (numbered [] again)))
+    × (instances again ≡ numbers (numbered (own []) again)))
+
+-- What is written of a merge of any files in which interfaces that say the same are one, if it is at most 2^40 bytes
+-- long, has the packets of their run, those before a refusal, in order: by their instances there they are numbered as
+-- those of the run are by what their interfaces say.
+abbrev pub SharingLaw : Type 0
+SharingLaw =
+    (order : Order) (tail tail_again : Tail) (file_again : ℕ) (files : List (List ℕ)) → AllByRecursion AreBytes files
+    → (let items = run_of_files tail files in
+    let text = sharing_bytes order items in
+    let again = file_items tail_again file_again text in
+    length text ≤ 2 ^ 40
+    → (numbered (own []) again ≡ numbered (shared []) items)
+    × (refusal_in (own []) again ≡ None)
+    × (refusal_of again ≡ None)
+    × (instances again ≡ numbers (numbered (own []) again)))
 
 -- ---- the merge as pcap
 
@@ -89,10 +104,10 @@ run_of_packets files = run_of_lists (numbered_files 1 files)
 
 -- the packets that a merge of some files writes, and the rule that refuses the one after them, if one does
 abbrev pub merged_packets : List (List Item) → List Numbered
-merged_packets files = numbered [] (run_of_packets files)
+merged_packets files = numbered (own []) (run_of_packets files)
 
 abbrev pub merged_rule : List (List Item) → Option Rule
-merged_rule files = option_map (λ refusal. refusal.rule) (refusal_in [] (run_of_packets files))
+merged_rule files = option_map (λ refusal. refusal.rule) (refusal_in (own []) (run_of_packets files))
 
 -- A packet of a file is a written one: the number of its interface is the interface's instance in the file.
 pub record IsWrittenPacket (n : Numbered) (meta : Meta) (bytes : List ℕ) : Type 0 where
@@ -109,7 +124,7 @@ IsItemOf n (refused refusal) = ⊥
 
 -- A file holds what a merge of some files writes, if nothing is refused.
 pub record IsMergeOf (files : List (List Item)) (items : List Item) : Type 0 where
-  pub accepted : refusal_in [] (run_of_packets files) ≡ None
+  pub accepted : refusal_in (own []) (run_of_packets files) ≡ None
   pub packets : AllZip IsItemOf (merged_packets files) items
 
 -- Files are split, in their order, into neighbouring groups, and each group is merged. Then the merge of files that
@@ -142,7 +157,7 @@ file_of_packets packets = map packet_item packets
 -- The run of what the groups' merges write, each as a file, has the packets of the run of all files.
 abbrev pub RoundsLaw : Type 0
 RoundsLaw =
-    (groups : List (List (List Item))) → AllByRecursion (λ group. refusal_in [] (run_of_packets group) ≡ None) groups
+    (groups : List (List (List Item))) → AllByRecursion (λ group. refusal_in (own []) (run_of_packets group) ≡ None) groups
     → (merged_packets (map (λ group. file_of_packets (merged_packets group)) groups)
     ≡ merged_packets (flat_map (λ group. group) groups))
     × (merged_rule (map (λ group. file_of_packets (merged_packets group)) groups)

@@ -1,5 +1,5 @@
 -- What is written of packets in one of the formats, after what was written before.
-use Rattle.std.specs.Prelude.{◌≡◌, ◌≤◌, ⊤, ℕ, List, [], ◌∷◌, length, Option, Some, None, Result, Ok, Err}
+use Rattle.std.specs.Prelude.{◌≡◌, ◌≤◌, ⊤, ℕ, List, [], ◌∷◌, Option, Some, None, Result, Ok, Err}
 use Rattle.cap_bytes.specs.declared.faults.Fault.{Fault}
 use Rattle.cap_bytes.specs.declared.faults.Fault.TheVariants.{Refused}
 use Rattle.cap_bytes.specs.declared.faults.Refusal.{Refusal}
@@ -7,21 +7,22 @@ use Rattle.cap_bytes.specs.declared.numbers.Order.{Order}
 use Rattle.cap_source.specs.Feed.{Item, packet, refused}
 use Rattle.cap_source.specs.declared.packets.Meta.{Meta}
 use Rattle.cap_time.specs.declared.resolutions.Interface.{Interface}
-use Rattle.cap_write.specs.Numbering.{Origin, refusal_in, with_origin}
+use Rattle.cap_write.specs.Numbering.{Origins, count_of, refusal_in, with_origin}
 use Rattle.cap_write.specs.Pcap.{bare_refusal, records_bytes, records_refusal}
 use Rattle.cap_write.specs.PcapRun.{run_bytes, run_refusal}
 use Rattle.cap_write.specs.Texts.{text_behind}
+use Rattle.cap_write.specs.inner.Interfaces.{origins_of}
 use Rattle.cap_write.specs.declared.forms.WrittenForm.{WrittenForm}
 use Rattle.cap_write.specs.declared.forms.WrittenForm.TheVariants.{Pcap, Pcapng}
 
 -- A file that is being written: the origins of the interfaces that a pcapng file has described, or the interface of the
 -- header that a pcap file has.
 pub data FormState : Type 0 where
-  numbered : List Origin → FormState
+  numbered : Origins → FormState
   headed : Option Interface → FormState
 
 abbrev pub form_state : WrittenForm → FormState
-form_state (Pcapng origins) = numbered origins.keys
+form_state (Pcapng origins) = numbered (origins_of origins)
 form_state (Pcap first) = headed first
 
 -- what is written of some items, and the refusal after them
@@ -55,7 +56,7 @@ form_behind form (refused refusal ∷ items) = form
 
 -- A pcapng file describes at most 1,024 interfaces.
 abbrev pub IsFew : FormState → Type 0
-IsFew (numbered origins) = length origins ≤ 1024
+IsFew (numbered origins) = count_of origins ≤ 1024
 IsFew (headed first) = ⊤
 
 -- What is returned at the end: a pcap file without a header is refused.

@@ -1,13 +1,14 @@
 use Rattle.std.proofs.Common.{rules}
 use Rattle.std.proofs.lemmas.Result.{err_from_is_err_and}
 use Rattle.cap_write.proofs.Written.{Prints-untimed, Prints-unnumbered}
+use Rattle.cap_write.specs.inner.Interfaces.{origins_of}
 use Rattle.cap_write.proofs.packets.put_one.Goals as goal
 
 pub returns-in_err-units-clause-text : goal.returns-in_err-units-clause-text
 returns-in_err-units-clause-text g c =
     let p = err_from_is_err_and c.from_residual.result c.from_residual.ensures.1 in
     rw (p.1, p.2)
-    (λ t. Prints-untimed c.args.order c.args.origins.now.keys c.args.meta.now c.args.frame.now _
+    (λ t. Prints-untimed c.args.order (origins_of c.args.origins.now) c.args.meta.now c.args.frame.now _
     c.in_err-units.field-0.0 c.in_err-units.ensures.answer)
 
 pub returns-clause-text : goal.returns-clause-text

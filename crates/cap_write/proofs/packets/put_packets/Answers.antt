@@ -1,4 +1,4 @@
-use Rattle.std.proofs.Common.{IsTrue, arith, Some, Ok, length, drop, subst, sym, rules, refl}
+use Rattle.std.proofs.Common.{IsTrue, arith, Some, Ok, drop, subst, sym, rules, refl}
 use Rattle.std.proofs.lemmas.Result.{err_from_is_err_and}
 use Rattle.cap_source.proofs.Growing.{memory-found, memory-more, memory-here, at-unknown, at-packet}
 use Rattle.cap_source.proofs.Onward.{Went-more, Went-none, Ends-none, Ends-more, Ends-end, Walks-end, Walks-fault}
@@ -7,17 +7,18 @@ use Rattle.cap_source.specs.inner.Walk.{GivesPacket, ShowsItem}
 use Rattle.cap_write.proofs.Feeding.{plan_of, plan_of-is, plan_of-next, plan_of-refused}
 use Rattle.cap_write.proofs.Peeking.{found-packet, found-item, found-end, found-fault, found-no-packet}
 use Rattle.cap_write.proofs.Written.{Prints-one}
-use Rattle.cap_write.specs.Numbering.{numbered_of, with_origin, write_fault}
+use Rattle.cap_write.specs.Numbering.{count_of, numbered_of, with_origin, write_fault}
 use Rattle.cap_write.specs.Texts.{numbered_bytes, one_bytes}
 use Rattle.cap_write.proofs.Starting.{Walking-none, Walking-writer, unwritten, captured-few}
 use Rattle.cap_write.proofs.Writing.{WriterKeeps-behind}
+use Rattle.cap_write.specs.inner.Interfaces.{origins_of}
 use Rattle.cap_write.proofs.packets.put_packets.Goals as goal
 
 pub returns-in_err-peek-clause-text : goal.returns-in_err-peek-clause-text
 returns-in_err-peek-clause-text g c = λ t w.
     let p = err_from_is_err_and c.from_residual.result c.from_residual.ensures.1 in
     let i = c.loop-feed.invariant.walk in
-    let origins = c.loop-feed.origins.keys in
+    let origins = origins_of c.loop-feed.origins in
     let mid = g.F.PacketFeed.feed c.loop-feed.feed in
     let shown = g.F.PacketFeed.feed c.peek.new.self in
     let e = c.in_err-peek.ensures in
@@ -32,7 +33,7 @@ returns-in_err-put_one-clause-text g c = λ t w.
     let i = c.loop-feed.invariant.walk in
     let mid = g.F.PacketFeed.feed c.loop-feed.feed in
     let shown = g.F.PacketFeed.feed c.peek.new.self in
-    let origins = c.loop-feed.origins.keys in
+    let origins = origins_of c.loop-feed.origins in
     let meta = c.packet-meta.result.now in
     let e = c.in_ok-peek.ensures in
     let shows : ShowsItem mid (Ok (Some meta)) shown =
@@ -41,7 +42,7 @@ returns-in_err-put_one-clause-text g c = λ t w.
     rw (p.1, p.2)
     (Prints-one (plan_of c.args.order origins) (plan_of c.args.order (with_origin origins meta))
     c.in_err-put_one.field-0.0 _ _ _ _ _
-    meta shown.frame c.frame.result.now (λ f. numbered_bytes c.args.order (length origins) (numbered_of origins meta f))
+    meta shown.frame c.frame.result.now (λ f. numbered_bytes c.args.order (count_of origins) (numbered_of origins meta f))
     (write_fault origins meta) mid.items (drop 1 mid.items)
     (plan_of-refused c.args.order origins meta shown.frame)
     (plan_of-next c.args.order origins meta shown.frame) shows.1 c.frame.ensures.frame
@@ -53,7 +54,7 @@ loop-feed-preserved g c =
     let mid = g.F.PacketFeed.feed c.loop-feed.feed in
     let shown = g.F.PacketFeed.feed c.peek.new.self in
     let new = g.F.PacketFeed.feed c.pass.new.self in
-    let origins = c.loop-feed.origins.keys in
+    let origins = origins_of c.loop-feed.origins in
     let meta = c.packet-meta.result.now in
     let f = c.in_ok-peek.ensures in
     let e = c.in_ok-put_one.ensures in
@@ -64,7 +65,7 @@ loop-feed-preserved g c =
     found-item mid shown meta (g.met.F.PacketFeed.lawful c.peek.new.self) (f.keeps.told t) (f.items t)
     c.packet-meta.ensures.packet in
     let goes : GoesOn (plan_of c.args.order origins) meta shown.frame line
-    (plan_of c.args.order c.put_one.new.origins.keys) =
+    (plan_of c.args.order (origins_of c.put_one.new.origins)) =
     subst (λ n. GoesOn (plan_of c.args.order origins) meta shown.frame line (plan_of c.args.order n)) (sym e.origins.0)
     (plan_of-next c.args.order origins meta shown.frame e.origins.1) in
     record {
@@ -86,7 +87,7 @@ returns-clause-text g c = λ t w.
     let i = c.loop-feed.invariant.walk in
     let mid = g.F.PacketFeed.feed c.loop-feed.feed in
     let shown = g.F.PacketFeed.feed c.peek.new.self in
-    let origins = c.loop-feed.origins.keys in
+    let origins = origins_of c.loop-feed.origins in
     let e = c.in_ok-peek.ensures in
     Prints-end (plan_of c.args.order origins) _ _ _ _ mid shown (plan_of-is c.args.order origins) (i.text t) w
     (i.refusal_same t) (found-end mid shown (g.met.F.PacketFeed.lawful c.peek.new.self) (e.keeps.told (i.told t))

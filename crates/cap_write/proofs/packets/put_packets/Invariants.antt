@@ -1,10 +1,12 @@
 use Rattle.cap_write.proofs.Feeding.{Feeding}
+use Rattle.cap_write.specs.inner.Interfaces.{origins_of}
 use Rattle.cap_write.proofs.packets.put_packets.Given as goal
 
 -- the packets that were given are written, and the others are to be
 abbrev pub invariant-loop-feed : goal.invariant-loop-feed
 invariant-loop-feed g l =
-    Feeding l.order (g.F.PacketFeed.feed l.fn.feed) (g.F.PacketFeed.feed l.feed) l.fn.origins.keys l.origins.keys
+    Feeding l.order (g.F.PacketFeed.feed l.fn.feed) (g.F.PacketFeed.feed l.feed) (origins_of l.fn.origins)
+    (origins_of l.origins)
     (g.W.Device.has_failed l.fn.writer) (g.W.Device.has_failed l.writer)
     (record {
       told = g.W.Sink.tells_held l.fn.writer;
