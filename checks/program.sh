@@ -449,7 +449,7 @@ cp "$one" "$work/kept"; "$program" list "$one" >> "$work/a" 2> "$work/err"; stat
 check 'check of closed standard input' 1 "check 1 - $none 0 open
 check 2 pcap $held whole" ''
 "$program" convert --to pcapng -o "$work/new" - < "$work/empty.pcap" > "$work/out" 2>&-; status=$?; : > "$work/err"; check 'closed standard error' 1 '' ''; same 'closed standard error' "$work/new" "$work/section"
-# With --explain lines tell after work that is done how many blocks, by kind, and names of interfaces aren't carried on, of all files, and
+# With --explain lines tell after work that is done how many blocks, by kind, names of interfaces and comments aren't carried on, of all files, and
 # how many packets ran back, and which packets join leaves out; without it nothing does, nor after a refusal.
 corpus=$top/checks/corpus
 many=$corpus/skipped-blocks-of-many-kinds.pcapng; one_skipped=$corpus/worked-options.pcapng; back=$corpus/runs-back.pcap
@@ -477,6 +477,22 @@ counted 'names of hosts of two files' 'not carried on: 2 blocks of names' merge 
 { head -c 28 "$many"; tail -c +85 "$many" | head -c 20; } > "$work/secrets"
 counted 'secrets alone' 'not carried on: 1 block of secrets' convert --explain --to pcapng -o "$work/new" "$work/secrets"
 counted 'secrets and names of hosts' 'not carried on: 1 block of secrets, 1 of names' merge --explain -o "$work/new" "$work/hosts" "$work/secrets"
+# a section with two comments, an interface, and an enhanced packet of 5 bytes with one; the same behind a section without
+{
+    printf '\x0a\x0d\x0d\x0a\x38\0\0\0\x4d\x3c\x2b\x1a\x01\0\0\0\xff\xff\xff\xff\xff\xff\xff\xff'
+    printf '\x01\0\x05\0first\0\0\0\x01\0\x06\0second\0\0\0\0\0\0\x38\0\0\0'
+    printf '\x01\0\0\0\x14\0\0\0\x01\0\0\0\0\0\x04\0\x14\0\0\0'
+    printf '\x06\0\0\0\x34\0\0\0\0\0\0\0\0\0\0\0\xa0\x25\x26\0\x05\0\0\0\x05\0\0\0'
+    printf '\x01\x02\x03\x04\x05\0\0\0\x01\0\x04\0note\0\0\0\0\x34\0\0\0'
+} > "$work/noted"
+{ head -c 28 "$many"; tail -c +57 "$work/noted"; } > "$work/note"
+counted 'comments alone' 'not carried on: 3 comments' convert --explain --to pcapng -o "$work/new" "$work/noted"
+counted 'comments in what was written of some' '' convert --explain --to pcapng -o "$work/newer" "$work/new"
+counted 'one comment' 'not carried on: 1 comment' convert --explain --to pcap -o "$work/new" "$work/note"
+counted 'comments of files, behind names' 'not carried on: 1 block, names of 1 interface, 4 comments' merge --explain -o "$work/new" "$work/noted" "$one_skipped" "$work/note"
+counted 'comments, joined' 'not carried on: 3 comments
+left out: 1 packet: short 1' join --explain -o "$work/new" "$work/noted"
+counted 'comments that no one asks for' '' convert --to pcapng -o "$work/new" "$work/noted"
 counted 'a packet that ran back' 'ran back: 1 packet' merge --explain -o "$work/new" "$back" "$corpus/runs-on.pcap"
 counted 'packets of two files that ran back' 'ran back: 2 packets
 left out: 4 packets: cut 4' join --explain -o "$work/new" "$back" "$back"

@@ -2,7 +2,7 @@
 use Rattle.std.proofs.Common.{◌≡◌, ◌+◌, ◌<◌, ℕ, zero, suc, List, [], map, length, Bool, IsTrue, Some, Result}
 use Rattle.std.proofs.Common.{◌-◌, ◌++◌, ◌∷◌, take, drop, slice_set, Option, None, take-append-drop}
 use Rattle.std.proofs.Common.{Ok, Err, OnOk, refl, sym, ap, ◌∙◌, subst, arith}
-use Rattle.std.specs.Prelude.{IfOk, is_some, replicate}
+use Rattle.std.specs.Prelude.{IfOk, is_some, replicate, unwrap_or}
 use Rattle.std.specs.List.{list_all, range_with_len}
 use Rattle.cap_bytes.specs.Printing.{Prints}
 use Rattle.cap_bytes.specs.declared.faults.Fault.{Fault}
@@ -12,9 +12,9 @@ use Rattle.cap_bytes.specs.declared.stops.CutRest.{CutRest}
 use Rattle.cap_line.specs.declared.jobs.Job.{Job}
 use Rattle.cap_line.specs.declared.jobs.Task.TheVariants as tasks
 use Rattle.cap_merge.proofs.Unread.{told-readers, bytes-readers}
-use Rattle.cap_merge.specs.Files.{clocked_run, endings_of_files}
+use Rattle.cap_merge.specs.Files.{clocked_run, counted_endings, endings_of_files}
 use Rattle.cap_merge.specs.Parts.{Part, merged_feed, run_of}
-use Rattle.cap_merge.specs.inner.Readers.{ReaderFacts, IsUnreadRun}
+use Rattle.cap_merge.specs.inner.Readers.{ReaderFacts, IsCountedRun}
 use Rattle.cap_source.specs.Feed.{Feed, HasFile, Item, FeedKeeps}
 use Rattle.cap_source.specs.Items.{file_first, file_items}
 use Rattle.cap_source.specs.inner.Walk.{SameEndings, Walks}
@@ -33,7 +33,7 @@ use Rattle.cap_talks.specs.declared.talks.reports.ReportLeft.{ReportLeft}
 use Rattle.cap_write.specs.LeftOut.{CountsLeftOut}
 use Rattle.cap_write.specs.declared.left_out.LeftOut.{LeftOut}
 use Rattle.cap_commands.specs.Left.{left_of_file, left_of_report, sum_of_files, skipped_in, secret_blocks_in}
-use Rattle.cap_commands.specs.Left.{name_blocks_in, named_in}
+use Rattle.cap_commands.specs.Left.{dropped_comments, name_blocks_in, named_in}
 use Rattle.cap_talks.specs.table.OtherNetworks.{counts_if}
 use Rattle.cap_talks.specs.talks.CutRests.{rests_by_place, rests_in}
 use Rattle.cap_commands.specs.JobLeft.{JobLeaves, LeavesTask}
@@ -95,6 +95,7 @@ Drops-same f g n m left is same d = record {
   secrets = d.secrets ∙ (ap (secret_blocks_in f) is ∙ sum_in-same (λ end. end.kinds.secrets) f g m same);
   names = d.names ∙ (ap (name_blocks_in f) is ∙ sum_in-same (λ end. end.kinds.names) f g m same);
   named = d.named ∙ (ap (named_in f) is ∙ sum_in-same (λ end. end.named) f g m same);
+  comments = d.comments ∙ (ap (dropped_comments f) is ∙ sum_in-same (λ end. unwrap_or end.comments 0) f g m same);
   cuts = d.cuts ∙ (ap (λ k. rests_in f k ++ replicate (32 - k) None) is
       ∙ ap (λ l. l ++ replicate (32 - m) None) (rests_in-same f g m same));
   networks = d.networks;
@@ -109,29 +110,29 @@ is-file files count place is within =
     (is-numbered 1 count place within))
 
 -- of files that were merged
-pub Drops-merged : {A : Type 0} (reader : A
+pub Drops-merged : {comments : Bool} {A : Type 0} (reader : A
     → ReaderFacts) (tail : Tail) (sources : List A) (ps : List Part) (new : Feed)
     (result : Result (Unit {0}) Fault) (left : DroppedInfo)
-    → IsUnreadRun tail (map reader sources) ps → FeedKeeps (merged_feed ps) new
+    → IsCountedRun comments tail (map reader sources) ps → FeedKeeps (merged_feed ps) new
     → OnOk result (IsTrue (merged_feed ps).told → SameEndings (merged_feed ps) new)
     → OnOk result (LeavesOut new.endings (length new.files) left)
     → OnOk result (IsTrue (list_all (λ s. (reader s).told) sources)
-    → LeavesOut (endings_of_files tail (map (λ s. (reader s).bytes) sources)) (length sources) left)
+    → LeavesOut (counted_endings comments tail (map (λ s. (reader s).bytes) sources)) (length sources) left)
 Drops-merged reader tail sources ps new (Ok x) left u keeps ends is = λ t.
     let told = told-readers reader tail sources ps u t in
     let count : length new.files ≡ length sources =
     ap length (keeps.files ∙ u.files)
     ∙ (length-range_with_len 1 (length (map reader sources)) ∙ length-map sources reader) in
-    Drops-same new.endings (endings_of_files tail (map (λ s. (reader s).bytes) sources)) (length new.files)
+    Drops-same new.endings (counted_endings comments tail (map (λ s. (reader s).bytes) sources)) (length new.files)
     (length sources) left count
     (λ file. ends told file
-    ∙ (u.endings file ∙ ap (λ l. endings_of_files tail l file) (bytes-readers reader sources))) is
+    ∙ (u.endings file ∙ ap (λ l. counted_endings comments tail l file) (bytes-readers reader sources))) is
 Drops-merged reader tail sources ps new (Err fault) left u keeps ends is = tt
 
 -- of the packets of files that were joined
-pub LeavesPackets-joined : {A : Type 0} (reader : A → ReaderFacts) (tail : Tail) (sources : List A) (ps : List Part)
-    (counts : Bool) (before new : Option LeftOut) (left : DroppedInfo)
-    → IsUnreadRun tail (map reader sources) ps → is_some before ≡ counts → is_some new ≡ is_some before
+pub LeavesPackets-joined : {comments : Bool} {A : Type 0} (reader : A → ReaderFacts) (tail : Tail) (sources : List A)
+    (ps : List Part) (counts : Bool) (before new : Option LeftOut) (left : DroppedInfo)
+    → IsCountedRun comments tail (map reader sources) ps → is_some before ≡ counts → is_some new ≡ is_some before
     → (IsTrue (merged_feed ps).told → CountsLeftOut new (taken_after [] (run_of ps))) → left.left_out ≡ new
     → IsTrue (list_all (λ s. (reader s).told) sources)
     → LeavesPackets counts (clocked_run tail (map (λ s. (reader s).bytes) sources)) left

@@ -1,5 +1,5 @@
 -- What is written of a merge of files of which nothing was read yet.
-use Rattle.std.proofs.Common.{◌≡◌, ℕ, List, map, IsTrue, Result, Err, sym, arith, append-nil}
+use Rattle.std.proofs.Common.{◌≡◌, ℕ, Bool, List, map, IsTrue, Result, Err, sym, arith, append-nil}
 use Rattle.std.specs.List.{list_all}
 use Rattle.cap_bytes.specs.Printing.{Prints}
 use Rattle.cap_bytes.specs.declared.faults.Fault.{Fault}
@@ -8,16 +8,16 @@ use Rattle.cap_bytes.specs.declared.faults.Tail.{Tail}
 use Rattle.cap_bytes.specs.declared.numbers.Order.{Order}
 use Rattle.cap_merge.proofs.Unread.{told-readers, bytes-readers, run-items}
 use Rattle.cap_merge.specs.Parts.{Part, merged_feed, run_of}
-use Rattle.cap_merge.specs.inner.Readers.{ReaderFacts, IsUnreadRun}
+use Rattle.cap_merge.specs.inner.Readers.{ReaderFacts, IsCountedRun}
 use Rattle.cap_bytes.specs.declared.formats.Format.{Format}
 use Rattle.cap_commands.specs.JoinText.{join_text_in, join_refusal_in}
 use Rattle.cap_commands.specs.MergeText.{merge_text_in, merge_refusal_in}
 use Rattle.cap_commands.specs.RunText.{datagrams_refusal, datagrams_text, packets_refusal, packets_text}
 
 -- the packets of a merge, written
-pub Prints-merged : {A : Type 0} (reader : A → ReaderFacts) (tail : Tail) (format : Format) (order : Order)
-    (sources : List A) (ps : List Part)
-    (held new : List ℕ) (result : Result (Unit {0}) Fault) → IsUnreadRun tail (map reader sources) ps
+pub Prints-merged : {comments : Bool} {A : Type 0} (reader : A → ReaderFacts) (tail : Tail) (format : Format)
+    (order : Order) (sources : List A) (ps : List Part)
+    (held new : List ℕ) (result : Result (Unit {0}) Fault) → IsCountedRun comments tail (map reader sources) ps
     → (IsTrue (merged_feed ps).told → Prints (packets_text format order (merged_feed ps).items)
     (packets_refusal format (merged_feed ps).items) held result new)
     → IsTrue (list_all (λ s. (reader s).told) sources)
@@ -26,9 +26,9 @@ pub Prints-merged : {A : Type 0} (reader : A → ReaderFacts) (tail : Tail) (for
 Prints-merged reader tail format order sources ps held new result u prints t = grind (arith, run-items, told-readers)
 
 -- its datagrams, written
-pub Prints-joined : {A : Type 0} (reader : A → ReaderFacts) (tail : Tail) (format : Format) (order : Order)
-    (sources : List A) (ps : List Part)
-    (held new : List ℕ) (result : Result (Unit {0}) Fault) → IsUnreadRun tail (map reader sources) ps
+pub Prints-joined : {comments : Bool} {A : Type 0} (reader : A → ReaderFacts) (tail : Tail) (format : Format)
+    (order : Order) (sources : List A) (ps : List Part)
+    (held new : List ℕ) (result : Result (Unit {0}) Fault) → IsCountedRun comments tail (map reader sources) ps
     → (IsTrue (merged_feed ps).told → Prints (datagrams_text format order (run_of ps))
     (datagrams_refusal format (run_of ps)) held result new)
     → IsTrue (list_all (λ s. (reader s).told) sources)

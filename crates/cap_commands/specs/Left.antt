@@ -1,5 +1,5 @@
 -- What a command that writes a capture leaves out, or leaves as it was.
-use Rattle.std.specs.Prelude.{◌≡◌, ℕ, zero, suc, ◌+◌, List, [], ◌∷◌, replicate, Option, None, Bool}
+use Rattle.std.specs.Prelude.{◌≡◌, ℕ, zero, suc, ◌+◌, List, [], ◌∷◌, replicate, unwrap_or, Option, None, Bool}
 use Rattle.std.specs.Prelude.{is_some, Result, Ok, Err}
 use Rattle.cap_bytes.specs.declared.faults.Fault.{Fault}
 use Rattle.cap_bytes.specs.declared.stops.CutRest.{CutRest}
@@ -26,6 +26,7 @@ nothing_left =
       secret_blocks = 0;
       name_blocks = 0;
       named = 0;
+      comments = 0;
       ran_back = 0;
       cuts = replicate 32 None;
       left_out = None;
@@ -48,8 +49,8 @@ left_of_report left = record (only_cuts left.cuts) { not_ipv4 = left.not_ipv4 }
 abbrev pub both_cut : CutEnds → DroppedInfo
 both_cut ends = record nothing_left { cuts = ends.first ∷ ends.second ∷ replicate 30 None }
 
--- the skipped blocks, those of secrets and of names among them, the named interfaces and the rest of the only file,
--- which ended so
+-- the skipped blocks, those of secrets and of names among them, the named interfaces, the comments, if they were
+-- counted, and the rest of the only file, which ended so
 abbrev pub left_of_file : FileEnd → DroppedInfo
 left_of_file end =
     record (only_cut end.ending.cut) {
@@ -57,6 +58,7 @@ left_of_file end =
       secret_blocks = end.kinds.secrets;
       name_blocks = end.kinds.names;
       named = end.named;
+      comments = unwrap_or end.comments 0;
     }
 
 -- the sum of a count over the first files, so many of them, by how each ends
@@ -64,8 +66,8 @@ abbrev pub sum_of_files : (FileEnd → ℕ) → (ℕ → FileEnd) → ℕ → �
 sum_of_files count endings zero = 0
 sum_of_files count endings (suc file) = sum_of_files count endings file + count (endings (suc file))
 
--- how many blocks were skipped of these, how many of them are blocks of secrets or of names, and how many interfaces
--- have a name
+-- how many blocks were skipped of these, how many of them are blocks of secrets or of names, how many interfaces have a
+-- name, and how many comments there are, if they were counted
 abbrev pub skipped_in : (ℕ → FileEnd) → ℕ → ℕ
 skipped_in endings count = sum_of_files (λ end. end.ending.skipped) endings count
 
@@ -78,6 +80,9 @@ name_blocks_in endings count = sum_of_files (λ end. end.kinds.names) endings co
 abbrev pub named_in : (ℕ → FileEnd) → ℕ → ℕ
 named_in endings count = sum_of_files (λ end. end.named) endings count
 
+abbrev pub dropped_comments : (ℕ → FileEnd) → ℕ → ℕ
+dropped_comments endings count = sum_of_files (λ end. unwrap_or end.comments 0) endings count
+
 -- what isn't carried on of the first files, so many of them, by how each ends; the 32 places of cut rests that no file
 -- has are empty, and packets of networks other than IPv4 aren't counted
 pub record LeavesOut (endings : ℕ → FileEnd) (count : ℕ) (left : DroppedInfo) : Type 0 where
@@ -85,6 +90,7 @@ pub record LeavesOut (endings : ℕ → FileEnd) (count : ℕ) (left : DroppedIn
   pub secrets : left.secret_blocks ≡ secret_blocks_in endings count
   pub names : left.name_blocks ≡ name_blocks_in endings count
   pub named : left.named ≡ named_in endings count
+  pub comments : left.comments ≡ dropped_comments endings count
   pub cuts : left.cuts ≡ rests_by_place endings count
   pub networks : left.not_ipv4 ≡ None
 

@@ -32,7 +32,7 @@ pub fn convert_to<R: Source, W: Sink>(
     ensures writer { WriterKeeps (writer_of W.Sink writer.old) (is_write result) (writer_of W.Sink writer.new) }
     ensures read { FailsOf (R.can_fail source ∷ []) result }
 {
-    convert_and_count(alloc, source, tail, order, format, writer)?;
+    convert_and_count(alloc, source, tail, order, format, false, writer)?;
     Ok(())
 }
 

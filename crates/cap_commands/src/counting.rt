@@ -4,13 +4,13 @@ ghost use Rattle.std.specs.Prelude.{None, is_some, vec_len};
 ghost use Rattle.std.specs.List.{list_all, range_with_len};
 ghost use Rattle.cap_bytes.specs.Device.{WriterKeeps, writer_of};
 ghost use Rattle.cap_bytes.specs.Printing.{Prints, is_write};
-ghost use Rattle.cap_merge.specs.Files.{clocked_run, endings_of_files};
+ghost use Rattle.cap_merge.specs.Files.{clocked_run, counted_endings};
 ghost use Rattle.cap_merge.specs.Parts.{merged_feed, run_of};
-ghost use Rattle.cap_merge.specs.inner.Readers.{IsUnreadRun, reader_of};
+ghost use Rattle.cap_merge.specs.inner.Readers.{IsCountedRun, reader_of};
 ghost use Rattle.cap_merge.specs.inner.View.{backward_of, counts_backward, parts_of};
 ghost use Rattle.cap_source.specs.inner.Captures.{capture_feed as file_of, capture_number, capture_first};
 ghost use Rattle.cap_source.specs.Feed.{FeedKeeps};
-ghost use Rattle.cap_source.specs.Items.{file_ending};
+ghost use Rattle.cap_source.specs.Items.{counted_ending};
 ghost use Rattle.cap_source.specs.ReadFaults.{FailsOf};
 ghost use Rattle.cap_source.specs.inner.Walk.{SameEndings, Walks};
 ghost use Rattle.cap_source.specs.declared.feeds.Head.{Head};
@@ -25,7 +25,7 @@ ghost use Rattle.cap_commands.specs.RunText.{datagrams_refusal, datagrams_text, 
 
 use crate::left::{DroppedInfo, only_cut};
 use cap_bytes::{CutRest, Fault, Order, Sink, Source, Tail};
-use cap_merge::{Merged, merge_files};
+use cap_merge::{Merged, merge_files_with_comments};
 use cap_source::{Capture, Format, PacketFeed};
 use cap_write::{
     LeftOut, NO_PACKETS_LEFT_OUT, to_pcap, to_pcapng, write_joined_and_count,
@@ -44,11 +44,13 @@ fn dropped_of<F: PacketFeed>(feed: &F, files: u32) -> DroppedInfo
     let mut secret_blocks: u128 = 0;
     let mut name_blocks: u128 = 0;
     let mut named: u128 = 0;
+    let mut comments: u128 = 0;
     let mut cuts: [Option<CutRest>; 32] = [None; 32];
     for place in 0..files {
         let ending = feed.ending(place + 1);
         skipped += u128::from(ending.skipped);
         named += u128::from(feed.named_interfaces(place + 1));
+        comments += u128::from(feed.comments(place + 1).unwrap_or(0));
         let kinds = feed.skipped_kinds(place + 1);
         secret_blocks += u128::from(kinds.secrets);
         name_blocks += u128::from(kinds.names);
@@ -59,6 +61,7 @@ fn dropped_of<F: PacketFeed>(feed: &F, files: u32) -> DroppedInfo
         secret_blocks,
         name_blocks,
         named,
+        comments,
         ran_back: 0,
         cuts,
         left_out: None,
@@ -81,6 +84,7 @@ fn left_of_merged<F: PacketFeed>(merged: &Merged<F>, left_out: Option<LeftOut>) 
         secret_blocks: dropped.secret_blocks,
         name_blocks: dropped.name_blocks,
         named: dropped.named,
+        comments: dropped.comments,
         ran_back: u128::from(merged.backward()),
         cuts,
         left_out,
@@ -98,6 +102,7 @@ fn left_of_one<F: PacketFeed>(feed: &F) -> DroppedInfo
     let mut left = only_cut(ending.cut);
     left.skipped = u128::from(ending.skipped);
     left.named = u128::from(feed.named_interfaces(1));
+    left.comments = u128::from(feed.comments(1).unwrap_or(0));
     let kinds = feed.skipped_kinds(1);
     left.secret_blocks = u128::from(kinds.secrets);
     left.name_blocks = u128::from(kinds.names);
@@ -105,7 +110,7 @@ fn left_of_one<F: PacketFeed>(feed: &F) -> DroppedInfo
 }
 
 // The packets of 1 to 32 files in the order of exact time, of which those that run backward are counted if that is
-// asked for. Nothing is read yet.
+// asked for, and so are the files' comments. Nothing is read yet.
 fn merge_counted<R: Source>(
     alloc: Global,
     sources: Vec<R>,
@@ -114,13 +119,13 @@ fn merge_counted<R: Source>(
 ) -> Result<Merged<Capture<R>>, Fault>
     requires some { 1 ≤ vec_len sources }
     requires most { vec_len sources ≤ 32 }
-    ensures unread { IfOk result (λ merged. IsUnreadRun tail
+    ensures unread { IfOk result (λ merged. IsCountedRun counts tail
         (map (reader_of R.tells_coming R.can_fail R.coming) sources.items) (parts_of merged)) }
     ensures backward { IfOk result (λ merged. backward_of merged ≡ 0) }
     ensures counts { IfOk result (λ merged. counts_backward merged ≡ counts) }
     ensures memory { IsOkUnless result Fault.Memory }
 {
-    let mut merged = merge_files(alloc, sources, tail)?;
+    let mut merged = merge_files_with_comments(alloc, sources, tail, counts)?;
     merged.count_backward(counts);
     Ok(merged)
 }
@@ -151,13 +156,15 @@ fn write_file<R: Source, W: Sink>(
 }
 
 /// Writes what `convert_to` writes, and returns the faults that it returns, or how many blocks of the file and names of
-/// its interfaces aren't carried on. No packet is counted as one that ran back, since each stays where it was.
+/// its interfaces aren't carried on, and, if `counts` asks for it, how many comments of its sections, interfaces and
+/// packets. No packet is counted as one that ran back, since each stays where it was.
 pub fn convert_and_count<R: Source, W: Sink>(
     alloc: Global,
     source: R,
     tail: Tail,
     order: Order,
     format: Format,
+    counts: bool,
     writer: &mut W,
 ) -> Result<DroppedInfo, Fault>
     ensures text { IsTrue (R.tells_coming source) → IsTrue (W.tells_held writer.old)
@@ -166,9 +173,9 @@ pub fn convert_and_count<R: Source, W: Sink>(
     ensures writer { WriterKeeps (writer_of W.Sink writer.old) (is_write result) (writer_of W.Sink writer.new) }
     ensures read { FailsOf (R.can_fail source ∷ []) result }
     ensures left { IfOk result (λ left. IsTrue (R.tells_coming source)
-        → left ≡ left_of_file (file_ending tail 1 (R.coming source))) }
+        → left ≡ left_of_file (counted_ending counts tail 1 (R.coming source))) }
 {
-    let mut capture = Capture::new(alloc, source, 1, tail);
+    let mut capture = Capture::with_comments(alloc, source, 1, tail, counts);
     write_file(alloc, &mut capture, order, format, writer)?;
     Ok(left_of_one(&capture))
 }
@@ -240,7 +247,8 @@ fn write_datagrams<F: PacketFeed, W: Sink>(
 
 /// Writes what `merge_to` writes, in either format, and returns the faults that it returns, or what is left out: how
 /// many blocks of the files and names of their interfaces aren't carried on, and, if `counts` asks for it, how many
-/// packets had a time that is earlier than that of a packet before them in their file.
+/// comments of their sections, interfaces and packets, and how many packets had a time that is earlier than that of a
+/// packet before them in their file.
 pub fn merge_and_count<R: Source, W: Sink>(
     alloc: Global,
     sources: Vec<R>,
@@ -259,7 +267,7 @@ pub fn merge_and_count<R: Source, W: Sink>(
     ensures writer { WriterKeeps (writer_of W.Sink writer.old) (is_write result) (writer_of W.Sink writer.new) }
     ensures read { FailsOf (map R.can_fail sources.items) result }
     ensures dropped { IfOk result (λ left. IsTrue (list_all R.tells_coming sources.items)
-        → LeavesOut (endings_of_files tail (map R.coming sources.items)) (length sources.items) left) }
+        → LeavesOut (counted_endings counts tail (map R.coming sources.items)) (length sources.items) left) }
     ensures packets { IfOk result (λ left. left.left_out ≡ None) }
 {
     let mut merged = merge_counted(alloc, sources, tail, counts)?;
@@ -269,8 +277,9 @@ pub fn merge_and_count<R: Source, W: Sink>(
 
 /// Writes what `join_to` writes, in either format, and returns the faults that it returns, or what is left out: how
 /// many blocks of the files and names of their interfaces aren't carried on, and, if `counts` asks for it, how many
-/// packets had a time that is earlier than that of a packet before them in their file, and how many packets are in no
-/// datagram that is written, by their class in a report of the files.
+/// comments of their sections, interfaces and packets, how many packets had a time that is earlier than that of a
+/// packet before them in their file, and how many packets are in no datagram that is written, by their class in a
+/// report of the files.
 pub fn join_and_count<R: Source, W: Sink>(
     alloc: Global,
     sources: Vec<R>,
@@ -289,7 +298,7 @@ pub fn join_and_count<R: Source, W: Sink>(
     ensures writer { WriterKeeps (writer_of W.Sink writer.old) (is_write result) (writer_of W.Sink writer.new) }
     ensures read { FailsOf (map R.can_fail sources.items) result }
     ensures dropped { IfOk result (λ left. IsTrue (list_all R.tells_coming sources.items)
-        → LeavesOut (endings_of_files tail (map R.coming sources.items)) (length sources.items) left) }
+        → LeavesOut (counted_endings counts tail (map R.coming sources.items)) (length sources.items) left) }
     ensures packets { IfOk result (λ left. IsTrue (list_all R.tells_coming sources.items)
         → LeavesPackets counts (clocked_run tail (map R.coming sources.items)) left) }
 {

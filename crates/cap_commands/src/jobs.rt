@@ -248,8 +248,8 @@ fn written(answer: Result<DroppedInfo, Fault>) -> Result<Done, Fault>
 /// the job has. It returns what it found: `Difference` exactly if it is `diff` of captures that differ, `NotWhole`
 /// exactly if it is `digest` or `check` of files that aren't all whole. And it returns what it left out, as
 /// `convert_and_count`, `merge_and_count` and `join_and_count` say, and the rests of cut files that `list`, `blocks`,
-/// `info` and `report` drop: nothing of other tasks. Packets that run backward are counted if `counts` says so, and
-/// those that `join` leaves out, by their class. `info`, `report` and `diff` write
+/// `info` and `report` drop: nothing of other tasks. Comments and packets that run backward are counted if `counts`
+/// says so, and packets that `join` leaves out, by their class. `info`, `report` and `diff` write
 /// all of their text, or nothing if they return `Refused`, `Read` or `Memory`; `digest` and `check` have a line for a
 /// file that is refused or of which a read fails, and return neither; the others write up to the first refusal, which
 /// they return, and a prefix of their text if they return another fault. It returns `Read` if a read fails, `Write` if
@@ -308,7 +308,8 @@ pub fn job_to<R: Source, W: Sink>(
         }
         Task::Convert => {
             let format = job.to.unwrap();
-            written(convert_and_count(alloc, only(sources), tail, job.order, format, writer))
+            let source = only(sources);
+            written(convert_and_count(alloc, source, tail, job.order, format, counts, writer))
         }
         Task::Merge => {
             let format = format_of(job.to);

@@ -20,6 +20,9 @@ pub struct DroppedInfo {
     pub name_blocks: u128,
     /// How many interfaces of the files have a name, which isn't carried on.
     pub named: u128,
+    /// How many comments the sections, interfaces and packets of the files have, which aren't carried on; 0 if they
+    /// weren't counted.
+    pub comments: u128,
     /// How many packets had a time below the greatest so far of their file.
     pub ran_back: u128,
     /// The rest of each file, by its place, that was cut and is dropped: of 32 files at most.
@@ -36,6 +39,7 @@ pub const NOTHING_LEFT: DroppedInfo = DroppedInfo {
     secret_blocks: 0,
     name_blocks: 0,
     named: 0,
+    comments: 0,
     ran_back: 0,
     cuts: [None; 32],
     left_out: None,
@@ -51,6 +55,7 @@ pub(crate) fn only_cuts(cuts: [Option<CutRest>; 32]) -> DroppedInfo
         secret_blocks: 0,
         name_blocks: 0,
         named: 0,
+        comments: 0,
         ran_back: 0,
         cuts,
         left_out: None,
@@ -68,6 +73,7 @@ pub(crate) fn left_of_report(left: ReportLeft) -> DroppedInfo
         secret_blocks: 0,
         name_blocks: 0,
         named: 0,
+        comments: 0,
         ran_back: 0,
         cuts,
         left_out: None,

@@ -16,7 +16,7 @@ use Rattle.cap_bytes.specs.declared.stops.Stop.TheVariants as stops
 use Rattle.cap_pcap.specs.Split.{pcap_file_items, pcap_header_fault, header_at, records, refused_or}
 use Rattle.cap_pcap.specs.declared.records.Record.{Record}
 use Rattle.cap_source.specs.Contents.{content_in}
-use Rattle.cap_source.specs.Items.{behind, ending_from, ending_in, ending_with, file_ending, fresh, is_pcapng}
+use Rattle.cap_source.specs.Items.{counted_behind, ending_from, ending_in, ending_with, file_ending, fresh, is_pcapng}
 use Rattle.cap_source.specs.Items.{pcap_ending, SectionProgress, unless_faulty}
 use Rattle.cap_source.specs.declared.contents.BlockContent.{BlockContent}
 use Rattle.cap_source.specs.declared.feeds.FileEnd.{FileEnd}
@@ -80,8 +80,8 @@ blocks-end progress [] all = refl
 blocks-end progress (stopped stop ∷ rest) all = all.0
 blocks-end progress (given block body ∷ rest) all =
     let content = content_in progress.interfaces block.kind block.order body in
-    block-case progress content (ending_in (behind progress content) rest)
-    (blocks-end (behind progress content) rest all.1)
+    let next = counted_behind progress block body content in
+    block-case progress content (ending_in next rest) (blocks-end next rest all.1)
 
 records-end : (items : List (PieceItem Record)) → AllByRecursion IsWhole items
     → (pcap_ending items).ending.cut ≡ None

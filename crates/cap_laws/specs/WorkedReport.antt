@@ -63,6 +63,7 @@ pcap_end file =
       interfaces = 1;
       named = 0;
       kinds = no_kinds;
+      comments = None;
     }
 
 -- Overlapped fragments, two of four taken, and all of them.

@@ -3,7 +3,7 @@
 ghost use Rattle.std.specs.Prelude.{◌≡◌, [], ◌∷◌, Some};
 
 use crate::checks::{holds, same};
-use crate::vectors::{CARRY_PCAP, OPTIONS_PCAPNG};
+use crate::vectors::{CARRY_PCAP, COMMENTS_PCAPNG, OPTIONS_PCAPNG};
 use cap_bytes::{Fault, Pieces, Refusal, Rule, Source, Tail};
 use cap_source::{Capture, Ending, Format, Head, Listed, Meta, PacketFeed, next_packet};
 use cap_time::{Interface, Resolution, Stamp};
@@ -317,6 +317,41 @@ fn a_walk(rt: HostRuntime) {
     let capture = capture(&rt, rt.alloc(), &CARRY_PCAP, 1, Tail::Refuse);
     same!(&rt; capture.file(), 7);
     walks(&rt, capture);
+}
+
+// How many comments the file has, which is the only one.
+#[tactic(auto, using(cap_source::specs::inner::Laws::has_file_alone))]
+fn comments_of<F: PacketFeed>(feed: &F) -> Option<u64>
+    requires end { (F.feed feed.now).known ≡ Some Head.End }
+    requires files { (F.feed feed.now).files ≡ 7 ∷ [] }
+{
+    feed.comments(7)
+}
+
+// Two packets come, and then the end of a file with so many comments.
+fn has_comments<F: PacketFeed>(rt: &impl Abort, mut feed: F, comments: Option<u64>)
+    requires files { (F.feed feed).files ≡ 7 ∷ [] }
+{
+    same!(rt; feed.peek(), Ok(true));
+    feed.pass();
+    same!(rt; feed.peek(), Ok(true));
+    feed.pass();
+    same!(rt; feed.peek(), Ok(false));
+    same!(rt; comments_of(&feed), comments);
+}
+
+// The comments of a section, an interface and a packet, counted or not.
+#[test]
+fn comments_are_counted(rt: HostRuntime) {
+    for (asked, comments) in [(true, Some(4)), (false, None)] {
+        let bytes = COMMENTS_PCAPNG.to_vec(rt.alloc()).expect(&rt, "memory");
+        let pieces = Pieces::new(bytes, 4_096, None);
+        has_comments(
+            &rt,
+            Capture::with_comments(rt.alloc(), pieces, 7, Tail::Refuse, asked),
+            comments,
+        );
+    }
 }
 
 #[test]

@@ -34,6 +34,23 @@ pub(crate) const OPTIONS_PCAPNG: [u8; 168] = [
     0xa0, 0x25, 0x26, 0, 0x18, 0, 0, 0, //
 ];
 
+// A section with the comments `first` and `second`, an interface with the comment `eth`, an enhanced packet of 5 bytes
+// with the comment `note` and then an option whose value would run past the end of the block, and a simple packet of 4
+// bytes that would spell a comment: 56, 32, 52 and 20 bytes.
+pub(crate) const COMMENTS_PCAPNG: [u8; 160] = [
+    0x0a, 0x0d, 0x0d, 0x0a, 0x38, 0, 0, 0, 0x4d, 0x3c, 0x2b, 0x1a, 1, 0, 0, 0, //
+    0xff, 0xff, 0xff, 0xff, 0xff, 0xff, 0xff, 0xff, 1, 0, 5, 0, 0x66, 0x69, 0x72, 0x73, //
+    0x74, 0, 0, 0, 1, 0, 6, 0, 0x73, 0x65, 0x63, 0x6f, 0x6e, 0x64, 0, 0, //
+    0, 0, 0, 0, 0x38, 0, 0, 0, //
+    1, 0, 0, 0, 0x20, 0, 0, 0, 1, 0, 0, 0, 0, 0, 4, 0, //
+    1, 0, 3, 0, 0x65, 0x74, 0x68, 0, 0, 0, 0, 0, 0x20, 0, 0, 0, //
+    6, 0, 0, 0, 0x34, 0, 0, 0, 0, 0, 0, 0, 0, 0, 0, 0, //
+    0xa0, 0x25, 0x26, 0, 5, 0, 0, 0, 5, 0, 0, 0, 1, 2, 3, 4, //
+    5, 0, 0, 0, 1, 0, 4, 0, 0x6e, 0x6f, 0x74, 0x65, 1, 0, 0x30, 0, //
+    0x34, 0, 0, 0, 3, 0, 0, 0, 0x14, 0, 0, 0, 4, 0, 0, 0, //
+    1, 0, 4, 0, 0x14, 0, 0, 0, //
+];
+
 // A section of version 1.0, little-endian.
 pub(crate) const SECTION: [u8; 28] = [
     0x0a, 0x0d, 0x0d, 0x0a, 28, 0, 0, 0, 0x4d, 0x3c, 0x2b, 0x1a, 1, 0, 0, 0, //

@@ -151,7 +151,7 @@ OUT has each packet's bytes, lengths and time; as pcapng, also the link type,
 snaplen, time resolution and time offset of its interface. Not carried on:
 names, descriptions and filters of interfaces, comments and other options,
 secrets, name records, statistics. At a terminal, or with --explain, a line
-tells how many blocks aren't.
+tells how many blocks and comments aren't.
 
 Examples: capt convert --to pcapng -o trace.pcapng trace.pcap
           set -o pipefail; zcat trace.pcapng.gz | capt convert --to pcap -o - -";
@@ -168,8 +168,8 @@ link type and the snaplen of the first packet's interface, and times in whole
 micro- or nanoseconds: the first packet that it can't hold is refused. Not
 carried on: names, descriptions and filters of interfaces, comments and other
 options, secrets, name records, statistics. At a terminal, or with --explain, a
-line tells how many blocks aren't, and one how many packets ran back: had a
-time below the greatest so far in their file.
+line tells how many blocks and comments aren't, and one how many packets ran
+back: had a time below the greatest so far in their file.
 More than 32 captures are merged in rounds: 32 at a time, in order, and then
 the results.
 
@@ -187,9 +187,9 @@ time offset of its interface. A pcap file has times in whole micro- or
 nanoseconds, by the first datagram's interface: the first datagram that it can't
 hold is refused. Not carried on: link headers, names, descriptions and filters
 of interfaces, comments and other options, secrets, name records, statistics. At
-a terminal, or with --explain, a line tells how many blocks aren't, one how many
-packets ran back, as of merge, and one how many packets are in no datagram of
-OUT, by their class in the frames line of report.
+a terminal, or with --explain, a line tells how many blocks and comments aren't,
+one how many packets ran back, as of merge, and one how many packets are in no
+datagram of OUT, by their class in the frames line of report.
 
 Example: capt join -o whole.pcapng morning.pcap evening.pcapng";
 

@@ -8,7 +8,7 @@ use Rattle.std.proofs.lemmas.List.{drop-drop, drop-replicate, drop-set-lt, map_m
 use Rattle.std.proofs.lemmas.List.FromFn.{length-map-range_with_len, map-range_with_len_more}
 use Rattle.cap_bytes.specs.declared.faults.Tail.{Tail}
 use Rattle.cap_bytes.specs.declared.stops.CutRest.{CutRest}
-use Rattle.cap_merge.specs.Files.{endings_from, endings_of_files}
+use Rattle.cap_merge.specs.Files.{counted_endings, endings_from, endings_of_files}
 use Rattle.cap_source.specs.Items.{file_ending}
 use Rattle.cap_source.specs.declared.feeds.FileEnd.{FileEnd}
 use Rattle.cap_talks.specs.counts.FileLines.{counted_cuts, cut_of, ended_from}
@@ -103,7 +103,7 @@ files-count tail first [] = refl
 files-count tail first (bytes ∷ files) = ap suc (files-count tail (first + 1) files)
 
 endings-are : (tail : Tail) (files : List (List ℕ)) → endings_of_files tail files ≡ endings_from tail 1 files
-unfolding endings_of_files
+unfolding counted_endings
 endings-are tail files = refl
 
 pub files-cuts : (tail : Tail) (files : List (List ℕ)) (all : List Counted) (count : ℕ)

@@ -55,6 +55,17 @@ pub(crate) const OPTIONS_PCAPNG: File = &[
     "05000000180000000000000000000000a025260018000000",
 ];
 
+// A section with the comments `first` and `second`, an interface with the comment `eth`, and an enhanced packet of 5
+// bytes with the comment `note`.
+pub(crate) const COMMENTS_PCAPNG: File = &[
+    "0a0d0d0a380000004d3c2b1a01000000ffffffffffffffff\
+    010005006669727374000000010006007365636f6e6400000000000038000000",
+    "0100000020000000010000000000040001000300657468000000000020000000",
+    "06000000340000000000000000000000a02526000500000005000000\
+    010203040500000001000400\
+    6e6f74650000000034000000",
+];
+
 // A section, two Decryption Secrets Blocks of 20 bytes, of which one has a key log without lines and the other no known
 // secrets, a Name Resolution Block of 16 without records, a statistics block of 24, and a block of 12 of type 11.
 pub(crate) const SKIPPED_PCAPNG: File = &[

@@ -3,7 +3,7 @@
 use crate::checks::{holds, same};
 use crate::files::{reader_of, room_of, sources_of};
 use crate::hex_vectors::{
-    CUT_PCAP, File, LATE, OPTIONS_PCAPNG, RUNS_BACK, RUNS_ON, SKIPPED_PCAPNG,
+    COMMENTS_PCAPNG, CUT_PCAP, File, LATE, OPTIONS_PCAPNG, RUNS_BACK, RUNS_ON, SKIPPED_PCAPNG,
 };
 use cap_bytes::{CutRest, Fault, Order, Pieces, Refusal, Rule, Sink, Source, Tail};
 use cap_commands::{DroppedInfo, convert_and_count, join_and_count, merge_and_count};
@@ -21,24 +21,29 @@ const CUT: Fault = Fault::Refused(Refusal {
 });
 
 // Files, how a merge or a join of them ends, how many blocks they hold that are skipped, how many of these have secrets
-// and how many names, how many interfaces have a name, and how many packets go backward.
-type Row = (&'static [File], Result<(), Fault>, [u128; 5]);
+// and how many names, how many interfaces have a name, how many comments there are, and how many packets go backward.
+type Row = (&'static [File], Result<(), Fault>, [u128; 6]);
 
-const LEFT: [Row; 6] = [
-    (&[OPTIONS_PCAPNG], Ok(()), [1, 0, 0, 1, 0]),
-    (&[RUNS_ON, RUNS_ON], Ok(()), [0, 0, 0, 0, 0]),
-    (&[RUNS_BACK, RUNS_BACK], Ok(()), [0, 0, 0, 0, 2]),
+const LEFT: [Row; 7] = [
+    (&[OPTIONS_PCAPNG], Ok(()), [1, 0, 0, 1, 0, 0]),
+    (&[RUNS_ON, RUNS_ON], Ok(()), [0, 0, 0, 0, 0, 0]),
+    (&[RUNS_BACK, RUNS_BACK], Ok(()), [0, 0, 0, 0, 0, 2]),
     (
         &[OPTIONS_PCAPNG, RUNS_BACK, OPTIONS_PCAPNG],
         Ok(()),
-        [2, 0, 0, 2, 1],
+        [2, 0, 0, 2, 0, 1],
     ),
     (
         &[SKIPPED_PCAPNG, OPTIONS_PCAPNG, SKIPPED_PCAPNG],
         Ok(()),
-        [11, 4, 2, 1, 0],
+        [11, 4, 2, 1, 0, 0],
     ),
-    (&[RUNS_BACK, CUT_PCAP], Err(CUT), [0, 0, 0, 0, 0]),
+    (
+        &[COMMENTS_PCAPNG, RUNS_ON, COMMENTS_PCAPNG],
+        Ok(()),
+        [0, 0, 0, 0, 8, 0],
+    ),
+    (&[RUNS_BACK, CUT_PCAP], Err(CUT), [0, 0, 0, 0, 0, 0]),
 ];
 
 // What a merge of 1 to 32 files answers, whose packets that run backward are counted.
@@ -73,12 +78,20 @@ fn join<R: Source, W: Sink>(
 fn wanted(row: &Row) -> Result<DroppedInfo, Fault> {
     let (_, ending, counts) = *row;
     ending?;
-    let [skipped, secret_blocks, name_blocks, named, ran_back] = counts;
+    let [
+        skipped,
+        secret_blocks,
+        name_blocks,
+        named,
+        comments,
+        ran_back,
+    ] = counts;
     Ok(DroppedInfo {
         skipped,
         secret_blocks,
         name_blocks,
         named,
+        comments,
         ran_back,
         cuts: [None; 32],
         left_out: None,
@@ -124,26 +137,36 @@ fn always_memory_files_are_joined_with_a_count(rt: HostRuntime) {
 }
 
 // A file, the format that it is written in, how many of its blocks are skipped, how many of these have secrets and how
-// many names, and how many of its interfaces have a name.
-const CONVERTED: [(File, Format, [u128; 4]); 4] = [
-    (OPTIONS_PCAPNG, Format::Pcapng, [1, 0, 0, 1]),
-    (OPTIONS_PCAPNG, Format::Pcap, [1, 0, 0, 1]),
-    (SKIPPED_PCAPNG, Format::Pcapng, [5, 2, 1, 0]),
-    (RUNS_BACK, Format::Pcapng, [0, 0, 0, 0]),
+// many names, how many of its interfaces have a name, and how many comments it has.
+const CONVERTED: [(File, Format, [u128; 5]); 5] = [
+    (OPTIONS_PCAPNG, Format::Pcapng, [1, 0, 0, 1, 0]),
+    (OPTIONS_PCAPNG, Format::Pcap, [1, 0, 0, 1, 0]),
+    (SKIPPED_PCAPNG, Format::Pcapng, [5, 2, 1, 0, 0]),
+    (COMMENTS_PCAPNG, Format::Pcapng, [0, 0, 0, 0, 4]),
+    (RUNS_BACK, Format::Pcapng, [0, 0, 0, 0, 0]),
 ];
 
 // What is left of a file that is converted.
-fn converts(rt: &impl Abort, alloc: Global, file: File, format: Format, counts: [u128; 4]) {
+fn converts(rt: &impl Abort, alloc: Global, file: File, format: Format, counts: [u128; 5]) {
     let mut writer = room_of(rt, alloc, 512);
     let source = reader_of(rt, alloc, file, 4096);
     let order = Order::Little;
-    let answer = convert_and_count(alloc, source, Tail::Refuse, order, format, &mut writer);
-    let [skipped, secret_blocks, name_blocks, named] = counts;
+    let answer = convert_and_count(
+        alloc,
+        source,
+        Tail::Refuse,
+        order,
+        format,
+        true,
+        &mut writer,
+    );
+    let [skipped, secret_blocks, name_blocks, named, comments] = counts;
     let left_out = DroppedInfo {
         skipped,
         secret_blocks,
         name_blocks,
         named,
+        comments,
         ran_back: 0,
         cuts: [None; 32],
         left_out: None,
@@ -188,6 +211,7 @@ fn cut_files_left() -> Result<DroppedInfo, Fault> {
         secret_blocks: 0,
         name_blocks: 0,
         named: 0,
+        comments: 0,
         ran_back: 0,
         cuts: cut_places(),
         left_out: None,
@@ -243,7 +267,15 @@ fn always_memory_the_rest_of_a_converted_file_is_left(rt: HostRuntime) {
     let mut writer = room_of(&rt, rt.alloc(), 512);
     let source = reader_of(&rt, rt.alloc(), CUT_PCAP, 4096);
     let (order, format) = (Order::Little, Format::Pcap);
-    let answer = convert_and_count(rt.alloc(), source, Tail::Accept, order, format, &mut writer);
+    let answer = convert_and_count(
+        rt.alloc(),
+        source,
+        Tail::Accept,
+        order,
+        format,
+        false,
+        &mut writer,
+    );
     let mut cuts = [None; 32];
     cuts[0] = Some(RECORD_REST);
     let left_out = DroppedInfo {
@@ -251,6 +283,7 @@ fn always_memory_the_rest_of_a_converted_file_is_left(rt: HostRuntime) {
         secret_blocks: 0,
         name_blocks: 0,
         named: 0,
+        comments: 0,
         ran_back: 0,
         cuts,
         left_out: None,

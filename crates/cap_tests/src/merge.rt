@@ -178,6 +178,7 @@ fn endings(rt: HostRuntime) {
     };
     same!(&rt; feed.ending(2), ending);
     same!(&rt; feed.skipped_kinds(2), NO_KINDS);
+    same!(&rt; feed.comments(2), None);
 }
 
 // An interface of Ethernet without options, once and twice in front of a packet.

@@ -13,8 +13,8 @@ count_text label count one many = if count == 0 then [] else label ++ decimal co
 abbrev pub other_blocks : DroppedInfo → ℕ
 other_blocks left = left.skipped - left.secret_blocks - left.name_blocks
 
--- whether no block of secrets was skipped, whether no block of names was either, whether no block was, and whether no
--- interface has a name either
+-- whether no block of secrets was skipped, whether no block of names was either, whether no block was, whether no
+-- interface has a name either, and whether no comment was counted either
 abbrev pub no_secrets : DroppedInfo → Bool
 no_secrets left = left.secret_blocks == 0
 
@@ -24,8 +24,11 @@ no_kinds left = no_secrets left && (left.name_blocks == 0)
 abbrev pub no_blocks : DroppedInfo → Bool
 no_blocks left = no_kinds left && (other_blocks left == 0)
 
+abbrev pub no_names : DroppedInfo → Bool
+no_names left = no_blocks left && (left.named == 0)
+
 abbrev pub drops_nothing : DroppedInfo → Bool
-drops_nothing left = no_blocks left && (left.named == 0)
+drops_nothing left = no_names left && (left.comments == 0)
 
 -- The parts of the line of what isn't carried on. Each begins the line or follows another. The blocks of names:
 abbrev pub name_blocks_text : Bool → ℕ → List ℕ
@@ -39,18 +42,23 @@ other_blocks_text is_first count =
     if is_first then count_text (codes "not carried on: ") count (codes " block") (codes " blocks")
     else count_text (codes ", ") count (codes " of another kind") (codes " of other kinds")
 
--- and what stands before the number of interfaces with a name.
+-- what stands before the number of interfaces with a name,
 abbrev pub names_label : Bool → List ℕ
 names_label is_first = if is_first then codes "not carried on: names of " else codes ", names of "
 
--- the line of what isn't carried on: the blocks of secrets, those of names, the others, and the interfaces with names,
--- each unless there is none
+-- and what stands before the number of comments.
+abbrev pub comments_label : Bool → List ℕ
+comments_label is_first = if is_first then codes "not carried on: " else codes ", "
+
+-- the line of what isn't carried on: the blocks of secrets, those of names, the others, the interfaces with names, and
+-- the comments, each unless there is none
 abbrev pub dropped_text : DroppedInfo → List ℕ
 dropped_text left =
     count_text (codes "not carried on: ") left.secret_blocks (codes " block of secrets") (codes " blocks of secrets")
     ++ name_blocks_text (no_secrets left) left.name_blocks
     ++ other_blocks_text (no_kinds left) (other_blocks left)
     ++ count_text (names_label (no_blocks left)) left.named (codes " interface") (codes " interfaces")
+    ++ count_text (comments_label (no_names left)) left.comments (codes " comment") (codes " comments")
     ++ (if drops_nothing left then [] else codes "\n")
 
 -- the lines of what is left

@@ -4,7 +4,8 @@ ghost use Rattle.std.specs.Prelude.{◌≡◌, ◌+◌, ◌≤◌, ◌++◌, len
 ghost use Rattle.cap_print.specs.Lines.{room_in, text_in};
 ghost use Rattle.cap_tool.specs.LeftLines.{count_text, dropped_text, left_text, left_told, name_blocks_text};
 ghost use Rattle.cap_tool.specs.LeftLines.{names_label as names_label_text, other_blocks, other_blocks_text};
-ghost use Rattle.cap_tool.specs.LeftLines.{drops_nothing, no_blocks, no_kinds, no_secrets};
+ghost use Rattle.cap_tool.specs.LeftLines.{comments_label as comments_label_text, drops_nothing, no_blocks, no_kinds};
+ghost use Rattle.cap_tool.specs.LeftLines.{no_names, no_secrets};
 
 use crate::outcomes::Outcome;
 use cap_commands::DroppedInfo;
@@ -63,10 +64,17 @@ fn no_blocks(left: &DroppedInfo) -> bool
 }
 
 // Whether no block was, and no interface has a name.
+fn no_names(left: &DroppedInfo) -> bool
+    ensures { result ≡ no_names left.now }
+{
+    no_blocks(left) && left.named == 0
+}
+
+// Whether no comment was counted either.
 fn drops_nothing(left: &DroppedInfo) -> bool
     ensures { result ≡ drops_nothing left.now }
 {
-    no_blocks(left) && left.named == 0
+    no_names(left) && left.comments == 0
 }
 
 // The blocks of names, which are the first part of the line, or follow blocks of secrets.
@@ -112,15 +120,29 @@ fn names_label(is_first: bool) -> &'static [u8]
     }
 }
 
-// `not carried on: 2 blocks of secrets, 1 of names, 3 of other kinds, names of 2 interfaces`
+// What stands before the number of comments, which is the first part of the line, or follows another.
+fn comments_label(is_first: bool) -> &'static [u8]
+    ensures { result.now ≡ comments_label_text is_first }
+{
+    if is_first { b"not carried on: " } else { b", " }
+}
+
+// `not carried on: 2 blocks of secrets, 1 of names, 3 of other kinds, names of 2 interfaces, 3 comments`
 fn prepend_dropped(line: &mut Line, left: &DroppedInfo)
-    requires { 400 ≤ room_in line.old }
+    requires { 440 ≤ room_in line.old }
     ensures { text_in line.new ≡ dropped_text left.now ++ text_in line.old }
 {
     if drops_nothing(left) {
         return;
     }
     line.prepend_text(b"\n");
+    prepend_count(
+        line,
+        comments_label(no_names(left)),
+        left.comments,
+        b" comment",
+        b" comments",
+    );
     prepend_count(
         line,
         names_label(no_blocks(left)),
@@ -156,8 +178,8 @@ fn count_lines(left: &DroppedInfo) -> Line
 }
 
 /// The lines that tell what is left after a run that is done: `not carried on: 2 blocks of secrets, 1 of names, 3 of
-/// other kinds, names of 1 interface` and `ran back: 2 packets`. Each part is left out if it would tell of none, and so
-/// is each line. There is none after any other run.
+/// other kinds, names of 1 interface, 3 comments` and `ran back: 2 packets`. Each part is left out if it would tell of
+/// none, and so is each line. There is none after any other run.
 pub fn left_lines(outcome: &Outcome, left: &DroppedInfo) -> Line
     ensures { text_in result ≡ left_told outcome.now left.now }
 {

@@ -16,81 +16,112 @@ const CUT: Fault = Fault::Refused(Refusal {
 });
 
 // How a run ended, how many blocks were skipped, how many of these have secrets and how many names, how many interfaces
-// have a name, how many packets ran back, and what is told of that.
-const TOLD: [(Outcome, [u128; 5], &str); 19] = [
-    (Outcome::Done, [0, 0, 0, 0, 0], ""),
-    (Outcome::Done, [1, 0, 0, 0, 0], "not carried on: 1 block\n"),
-    (Outcome::Done, [3, 0, 0, 0, 0], "not carried on: 3 blocks\n"),
+// have a name, how many comments there are, how many packets ran back, and what is told of that.
+const TOLD: [(Outcome, [u128; 6], &str); 22] = [
+    (Outcome::Done, [0, 0, 0, 0, 0, 0], ""),
     (
         Outcome::Done,
-        [1, 1, 0, 0, 0],
+        [1, 0, 0, 0, 0, 0],
+        "not carried on: 1 block\n",
+    ),
+    (
+        Outcome::Done,
+        [3, 0, 0, 0, 0, 0],
+        "not carried on: 3 blocks\n",
+    ),
+    (
+        Outcome::Done,
+        [1, 1, 0, 0, 0, 0],
         "not carried on: 1 block of secrets\n",
     ),
     (
         Outcome::Done,
-        [2, 0, 2, 0, 0],
+        [2, 0, 2, 0, 0, 0],
         "not carried on: 2 blocks of names\n",
     ),
     (
         Outcome::Done,
-        [2, 0, 1, 0, 0],
+        [2, 0, 1, 0, 0, 0],
         "not carried on: 1 block of names, 1 of another kind\n",
     ),
     (
         Outcome::Done,
-        [4, 2, 0, 0, 0],
+        [4, 2, 0, 0, 0, 0],
         "not carried on: 2 blocks of secrets, 2 of other kinds\n",
     ),
     (
         Outcome::Done,
-        [6, 2, 1, 1, 0],
+        [6, 2, 1, 1, 0, 0],
         "not carried on: 2 blocks of secrets, 1 of names, 3 of other kinds, names of 1 interface\n",
     ),
     (
         Outcome::Done,
-        [2, 1, 1, 2, 0],
+        [2, 1, 1, 2, 0, 0],
         "not carried on: 1 block of secrets, 1 of names, names of 2 interfaces\n",
     ),
     (
         Outcome::Done,
-        [1, 0, 1, 1, 1],
+        [1, 0, 1, 1, 0, 1],
         "not carried on: 1 block of names, names of 1 interface\nran back: 1 packet\n",
     ),
     (
         Outcome::Done,
-        [0, 0, 0, 1, 0],
+        [0, 0, 0, 1, 0, 0],
         "not carried on: names of 1 interface\n",
     ),
     (
         Outcome::Done,
-        [0, 0, 0, 2, 0],
+        [0, 0, 0, 2, 0, 0],
         "not carried on: names of 2 interfaces\n",
     ),
     (
         Outcome::Done,
-        [3, 0, 0, 1, 0],
+        [3, 0, 0, 1, 0, 0],
         "not carried on: 3 blocks, names of 1 interface\n",
     ),
-    (Outcome::Done, [0, 0, 0, 0, 2], "ran back: 2 packets\n"),
     (
         Outcome::Done,
-        [12, 0, 0, 0, 1],
+        [0, 0, 0, 0, 1, 0],
+        "not carried on: 1 comment\n",
+    ),
+    (
+        Outcome::Done,
+        [0, 0, 0, 2, 3, 1],
+        "not carried on: names of 2 interfaces, 3 comments\nran back: 1 packet\n",
+    ),
+    (
+        Outcome::Done,
+        [6, 2, 1, 1, 3, 0],
+        "not carried on: 2 blocks of secrets, 1 of names, 3 of other kinds, names of 1 interface, 3 comments\n",
+    ),
+    (Outcome::Done, [0, 0, 0, 0, 0, 2], "ran back: 2 packets\n"),
+    (
+        Outcome::Done,
+        [12, 0, 0, 0, 0, 1],
         "not carried on: 12 blocks\nran back: 1 packet\n",
     ),
-    (Outcome::Fault(CUT), [12, 1, 1, 1, 1], ""),
-    (Outcome::Line(LineFault::Help), [12, 1, 1, 1, 1], ""),
-    (Outcome::Differ, [12, 1, 1, 1, 1], ""),
-    (Outcome::NotWhole, [12, 1, 1, 1, 1], ""),
+    (Outcome::Fault(CUT), [12, 1, 1, 1, 0, 1], ""),
+    (Outcome::Line(LineFault::Help), [12, 1, 1, 1, 0, 1], ""),
+    (Outcome::Differ, [12, 1, 1, 1, 0, 1], ""),
+    (Outcome::NotWhole, [12, 1, 1, 1, 0, 1], ""),
 ];
 
 // What is printed of what is left.
-fn tells(rt: &impl Abort, outcome: &Outcome, counts: [u128; 5], text: &str) {
-    let [skipped, secret_blocks, name_blocks, named, ran_back] = counts;
+fn tells(rt: &impl Abort, outcome: &Outcome, counts: [u128; 6], text: &str) {
+    let [
+        skipped,
+        secret_blocks,
+        name_blocks,
+        named,
+        comments,
+        ran_back,
+    ] = counts;
     let left = DroppedInfo {
         skipped,
         secret_blocks,
         name_blocks,
         named,
+        comments,
         ran_back,
         cuts: [None; 32],
         left_out: None,
@@ -161,6 +192,7 @@ fn tells_packets(rt: &impl Abort, outcome: &Outcome, numbers: [u64; 8], text: &s
         secret_blocks: 0,
         name_blocks: 0,
         named: 0,
+        comments: 0,
         ran_back: 0,
         cuts: [None; 32],
         left_out: Some(LeftOut { classes, truncated }),

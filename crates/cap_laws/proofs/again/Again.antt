@@ -1,7 +1,7 @@
 -- Written pcapng files, read again.
 use Rattle.std.proofs.Common.{◌≡◌, ◌==◌, ℕ, ◌+◌, ◌^◌, ◌≤◌, ◌<◌, slice_get, List, [], ◌∷◌, ◌++◌, length, Bool, true}
-use Rattle.std.proofs.Common.{false, Option, Some, Result, Ok, refl, ap, ◌∙◌, arith, append_assoc, length-append}
-use Rattle.std.proofs.Common.{if◌then◌else◌}
+use Rattle.std.proofs.Common.{false, Option, Some, None, Result, Ok, refl, ap, ◌∙◌, arith, append_assoc}
+use Rattle.std.proofs.Common.{if◌then◌else◌, length-append}
 use Rattle.std.proofs.Math.Seq.{get_or-append_seam}
 use Rattle.std.proofs.lemmas.Bool.{eqb-true}
 use Rattle.std.proofs.lemmas.Option.{slice_get-get_or, slice_get_within}
@@ -139,7 +139,15 @@ items_in-packet order tail file offset progress n rest known few fits base skipp
 -- how far a written file was read, after those interfaces
 abbrev pub reached : List Interface → Option Interface → SectionProgress
 reached interfaces first =
-    record { interfaces = interfaces; base = 0; skipped = 0; kinds = no_kinds; named = 0; first = first }
+    record {
+      interfaces = interfaces;
+      base = 0;
+      skipped = 0;
+      kinds = no_kinds;
+      named = 0;
+      first = first;
+      comments = None;
+    }
 
 -- what is written for a packet of a known interface, and of a new one
 packets_bytes-known : (order : Order) (count : ℕ) (n : Numbered) (rest : List Numbered) → (n.number == count) ≡ false

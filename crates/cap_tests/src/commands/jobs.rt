@@ -324,6 +324,7 @@ fn leaves(rt: &impl Abort, alloc: Global, task: Task, skipped: u128) {
             secret_blocks: 0,
             name_blocks: 0,
             named: 0,
+            comments: 0,
             ran_back: 0,
             cuts: [None; 32],
             left_out: match task {

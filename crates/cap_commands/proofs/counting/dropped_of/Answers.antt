@@ -1,8 +1,8 @@
-use Rattle.std.proofs.Common.{◌≡◌, ◌-◌, ◌++◌, None, arith, ap, refl, ◌∙◌}
+use Rattle.std.proofs.Common.{◌≡◌, ◌-◌, ◌++◌, None, unwrap_or, arith, ap, refl, ◌∙◌}
 use Rattle.std.specs.Prelude.{replicate}
 use Rattle.std.proofs.lemmas.List.{length-set}
 use Rattle.cap_commands.proofs.Leaving.{is-file, places-more, rests-all, rests-more, sum-more}
-use Rattle.cap_commands.specs.Left.{named_in, name_blocks_in, secret_blocks_in, skipped_in}
+use Rattle.cap_commands.specs.Left.{dropped_comments, named_in, name_blocks_in, secret_blocks_in, skipped_in}
 use Rattle.cap_talks.specs.talks.CutRests.{rests_in}
 use Rattle.cap_commands.proofs.counting.dropped_of.Goals as goal
 
@@ -16,6 +16,9 @@ named_interfaces-requires-clause-file g c = is-file _ c.args.files c.loop-place.
 pub skipped_kinds-kinds-requires-clause-file : goal.skipped_kinds-kinds-requires-clause-file
 skipped_kinds-kinds-requires-clause-file g c =
     is-file _ c.args.files c.loop-place.place c.requires.files (omega arith)
+
+pub comments-requires-clause-file : goal.comments-requires-clause-file
+comments-requires-clause-file g c = is-file _ c.args.files c.loop-place.place c.requires.files (omega arith)
 
 -- what the next file leaves is counted, and its rest is at its place
 pub loop-place-preserved : goal.loop-place-preserved
@@ -58,10 +61,20 @@ loop-place-preserved g c =
             ap (λ k. k.names) kinds,
             sum-more (λ end. end.kinds.names) endings n,
           );
+      comments =
+          omega (
+            arith,
+            i.comments,
+            c.from-comments.ensures,
+            c.unwrap_or.ensures,
+            ap (λ n. unwrap_or n 0) c.comments.ensures.comments,
+            sum-more (λ end. unwrap_or end.comments 0) endings n,
+          );
       few_skipped = omega (arith, i.few_skipped, c.from-skipped.ensures);
       few_named = omega (arith, i.few_named, c.from-named.ensures);
       few_secrets = omega (arith, i.few_secrets, c.from-secret_blocks.ensures);
       few_names = omega (arith, i.few_names, c.from-name_blocks.ensures);
+      few_comments = omega (arith, i.few_comments, c.from-comments.ensures);
       places = length-set c.loop-place.cuts n c.ending-ending.result.cut ∙ i.places;
       cuts = rests-more endings n c.loop-place.cuts c.ending-ending.result.cut (omega (arith, i.places)) i.cuts
           (ap (λ e. e.cut) ended);
@@ -78,6 +91,7 @@ returns g c =
       secrets = i.secrets ∙ ap (secret_blocks_in endings) done;
       names = i.names ∙ ap (name_blocks_in endings) done;
       named = i.named ∙ ap (named_in endings) done;
+      comments = i.comments ∙ ap (dropped_comments endings) done;
       cuts = rests-all endings c.loop-place.place c.loop-place.cuts i.cuts i.others
           ∙ ap (λ n. rests_in endings n ++ replicate (32 - n) None) done;
       networks = refl;
