@@ -38,7 +38,8 @@ module _ (comments : Bool) where
   numbered_from tail file (r ∷ rs) (f ∷ fs) a = cc (numbered_from tail (file + 1) rs fs a.1)
   numbered_from tail file readers feeds a = grind arith
 
-  pub AreUnread-numbered : (tail : Tail) (readers : List ReaderFacts) (feeds : List Feed) → AreUnread comments tail 1 readers feeds
+  pub AreUnread-numbered : (tail : Tail) (readers : List ReaderFacts) (feeds : List Feed)
+      → AreUnread comments tail 1 readers feeds
       → AreNumberedFeeds feeds
   AreUnread-numbered tail readers feeds a = numbered_from tail 1 readers feeds a
 
@@ -66,14 +67,15 @@ module _ (comments : Bool) where
   unfolding feeds_can_fail
   can_fail_same tail first zero (r ∷ rs) (f ∷ fs) a = here
     where
-      here : (if has_file f.files (first + 0) then f.can_fail (first + 0) else feeds_can_fail (new_parts fs) (first + 0))
-          ≡ r.can_fail
+      here : (if has_file f.files (first + 0) then f.can_fail (first + 0)
+          else feeds_can_fail (new_parts fs) (first + 0)) ≡ r.can_fail
       here =
           let same : first + 0 ≡ first = omega arith in
           rw (same, own f.files first a.0.files) a.0.can_fail
   can_fail_same tail first (suc place) (r ∷ rs) (f ∷ fs) a =
       let next : first + 1 + place ≡ first + suc place = omega arith in
-      rw (other f.files first (first + suc place) a.0.files (omega arith)) (ap (feeds_can_fail (new_parts fs)) (sym next)
+      rw (other f.files first (first + suc place) a.0.files (omega arith))
+      (ap (feeds_can_fail (new_parts fs)) (sym next)
       ∙ can_fail_same tail (first + 1) place rs fs a.1)
   can_fail_same tail first place readers feeds a = grind arith
 
@@ -99,7 +101,8 @@ module _ (comments : Bool) where
   unknown tail (r ∷ rs) [] some a = absurd a
   unknown tail (r ∷ rs) (f ∷ fs) some a = refl
 
-  whole : (tail : Tail) (file : ℕ) (readers : List ReaderFacts) (feeds : List Feed) → AreUnread comments tail file readers feeds
+  whole : (tail : Tail) (file : ℕ) (readers : List ReaderFacts) (feeds : List Feed)
+      → AreUnread comments tail file readers feeds
       → broken_of (new_parts feeds) ≡ None
   unfolding broken_of
   whole tail file [] [] a = refl
@@ -136,7 +139,8 @@ pub bytes-readers : {A : Type 0} (reader : A → ReaderFacts) (sources : List A)
 bytes-readers reader [] = refl
 bytes-readers reader (s ∷ ss) = ap (λ l. (reader s).bytes ∷ l) (bytes-readers reader ss)
 
-pub told-readers : {comments : Bool} {A : Type 0} (reader : A → ReaderFacts) (tail : Tail) (sources : List A) (ps : List Part)
+pub told-readers : {comments : Bool} {A : Type 0} (reader : A → ReaderFacts) (tail : Tail) (sources : List A)
+    (ps : List Part)
     → IsCountedRun comments tail (map reader sources) ps
     → IsTrue (list_all (λ s. (reader s).told) sources) → IsTrue (merged_feed ps).told
 told-readers reader tail sources ps u t = subst IsTrue (sym (u.told ∙ list_all-map reader (λ r. r.told) sources)) t
@@ -157,7 +161,8 @@ can_fail-readers reader tail sources ps file u some can =
     ∙ ap (λ l. get_or l (file - 1) false) (can_fail-sources reader sources)) can
 
 -- the items to come of the feed
-pub run-items : {comments : Bool} {A : Type 0} (reader : A → ReaderFacts) (tail : Tail) (sources : List A) (ps : List Part)
+pub run-items : {comments : Bool} {A : Type 0} (reader : A → ReaderFacts) (tail : Tail) (sources : List A)
+    (ps : List Part)
     → IsCountedRun comments tail (map reader sources) ps
     → (merged_feed ps).items ≡ run_of_files tail (map (λ s. (reader s).bytes) sources)
 unfolding merged_feed run_of_files

@@ -1,12 +1,14 @@
 -- What is known of a pcapng file beside its comments doesn't depend on these, and they are fewer than its bytes.
-use Rattle.std.proofs.Common.{◌≡◌, ◌≤◌, ◌<◌, ◌+◌, ◌^◌, ℕ, Bool, false, List, [], ◌∷◌, length, Option, Some, None}
-use Rattle.std.proofs.Common.{is_some, IfSome, unwrap_or, Result, Ok, Err, refl, sym, ap, ◌∙◌, subst, arith}
+use Rattle.std.proofs.Common.{◌≡◌, ◌≤◌, ◌<◌, ◌+◌, ◌^◌, ℕ, Bool, true, false, List, [], ◌∷◌, length, Option, Some, None}
+use Rattle.std.proofs.Common.{is_some, IfSome, unwrap_or, Result, Ok, Err, refl, sym, ◌&&◌, ap, ◌∙◌, subst, arith}
 use Rattle.std.proofs.Common.{length-drop, if◌then◌else◌}
+use Rattle.std.proofs.Math.Bool.{and-false, and-true}
 use Rattle.cap_bytes.specs.Items as pieces
 use Rattle.cap_bytes.specs.declared.faults.Rule.{Rule}
 use Rattle.cap_bytes.specs.declared.faults.Tail.{Tail}
 use Rattle.cap_bytes.specs.declared.numbers.Order.{Order}
 use Rattle.cap_pcap.specs.Split.{header_at, pcap_file_items, pcap_header_fault}
+use Rattle.cap_pcap.specs.declared.records.Record.{Record}
 use Rattle.cap_blocks.specs.Split.{block_items_from}
 use Rattle.cap_blocks.specs.Grammar.{is_known_kind}
 use Rattle.cap_blocks.specs.OptionList.{options_by, options_of}
@@ -17,8 +19,10 @@ use Rattle.cap_source.specs.Comments.{comments_in, option_bytes}
 use Rattle.cap_source.specs.Contents.{content_in, of_body}
 use Rattle.cap_source.specs.Feed.{Item}
 use Rattle.cap_source.specs.Items.{SectionProgress, beginning, behind, commented, counted_behind, first_from, first_in}
+use Rattle.cap_source.specs.Items.{ending_from, ending_in, ending_with, pcap_ending, unless_faulty}
 use Rattle.cap_source.specs.Items.{fresh, interface_of, is_pcapng, items_at_block, items_from, items_of_blocks}
 use Rattle.cap_source.specs.Items.{more_comments, pcap_items, unless_item, unless_refused, with_comments}
+use Rattle.cap_source.specs.inner.Counted.{CommentsApart, without_comments}
 use Rattle.cap_source.specs.inner.FileState.{next_at}
 use Rattle.cap_source.specs.inner.SectionState.{counted_blocks}
 use Rattle.cap_source.specs.declared.contents.BlockContent.{BlockContent}
@@ -204,3 +208,83 @@ first-beginning comments tail file offset bytes =
     ap (λ first. if is_pcapng bytes then first else unless_refused (pcap_header_fault offset bytes)
     (interface_of (header_at bytes)))
     (first-with fresh (if comments then Some 0 else None) (block_items_from None tail file offset bytes))
+
+-- The end of a file of which the blocks are to come is the same but for the comments, however many were counted.
+ending-at : (p : SectionProgress) (c : Option ℕ) (block : Block) (body : List ℕ) (content : Result BlockContent Rule)
+    (rest : List (pieces.PieceItem Block))
+    → ((q : SectionProgress) (d : Option ℕ)
+    → without_comments (ending_in (with_comments q d) rest) ≡ ending_in (with_comments q None) rest)
+    → without_comments (unless_faulty content (ending_with (with_comments p c) None)
+    (ending_in (counted_behind (with_comments p c) block body content) rest))
+    ≡ unless_faulty content (ending_with (with_comments p None) None)
+    (ending_in (counted_behind (with_comments p None) block body content) rest)
+ending-at p c block body (Ok said) rest later =
+    let d = more_comments c (comments_in block.kind block.order said body) in
+    ap (λ q. without_comments (ending_in q rest)) (behind-with p d (Ok said))
+    ∙ (later (behind p (Ok said)) d ∙ sym (ap (λ q. ending_in q rest) (behind-with p None (Ok said))))
+ending-at p c block body (Err rule) rest later = refl
+
+ending-with : (p : SectionProgress) (c : Option ℕ) (blocks : List (pieces.PieceItem Block))
+    → without_comments (ending_in (with_comments p c) blocks) ≡ ending_in (with_comments p None) blocks
+unfolding ending_in
+ending-with p c [] = refl
+ending-with p c (pieces.stopped stop ∷ rest) = refl
+ending-with p c (pieces.given block body ∷ rest) =
+    ending-at p c block body (content_in p.interfaces block.kind block.order body) rest
+    (λ q d. ending-with q d rest)
+
+-- and it has their number if they were counted so far
+some-more : (c : Option ℕ) (n : ℕ) → is_some (more_comments c n) ≡ is_some c
+some-more None n = refl
+some-more (Some counted) n = refl
+
+some-at : (p : SectionProgress) (c : Option ℕ) (block : Block) (body : List ℕ) (content : Result BlockContent Rule)
+    (rest : List (pieces.PieceItem Block))
+    → ((q : SectionProgress) (d : Option ℕ) → is_some (ending_in (with_comments q d) rest).comments ≡ is_some d)
+    → is_some (unless_faulty content (ending_with (with_comments p c) None)
+    (ending_in (counted_behind (with_comments p c) block body content) rest)).comments ≡ is_some c
+some-at p c block body (Ok said) rest later =
+    let n = comments_in block.kind block.order said body in
+    ap (λ q. is_some (ending_in q rest).comments) (behind-with p (more_comments c n) (Ok said))
+    ∙ (later (behind p (Ok said)) (more_comments c n) ∙ some-more c n)
+some-at p c block body (Err rule) rest later = refl
+
+some-with : (p : SectionProgress) (c : Option ℕ) (blocks : List (pieces.PieceItem Block))
+    → is_some (ending_in (with_comments p c) blocks).comments ≡ is_some c
+unfolding ending_in
+some-with p c [] = refl
+some-with p c (pieces.stopped stop ∷ rest) = refl
+some-with p c (pieces.given block body ∷ rest) =
+    some-at p c block body (content_in p.interfaces block.kind block.order body) rest (λ q d. some-with q d rest)
+
+pcap-apart : (items : List (pieces.PieceItem Record))
+    → (without_comments (pcap_ending items) ≡ pcap_ending items) × ((pcap_ending items).comments ≡ None)
+unfolding pcap_ending
+pcap-apart [] = (refl, refl)
+pcap-apart (pieces.stopped stop ∷ rest) = (refl, refl)
+pcap-apart (pieces.given r frame ∷ rest) = pcap-apart rest
+
+asked : (comments : Bool) → is_some {T = ℕ} (if comments then Some 0 else None) ≡ comments
+asked true = refl
+asked false = refl
+
+format-apart : (comments pcapng : Bool) (blocks : List (pieces.PieceItem Block))
+    (records : List (pieces.PieceItem Record))
+    → (without_comments (if pcapng then ending_in (beginning comments) blocks else pcap_ending records)
+    ≡ (if pcapng then ending_in fresh blocks else pcap_ending records))
+    × (is_some (if pcapng then ending_in (beginning comments) blocks else pcap_ending records).comments
+    ≡ (comments && pcapng))
+format-apart comments true blocks records = (
+  ending-with fresh (if comments then Some 0 else None) blocks,
+  some-with fresh (if comments then Some 0 else None) blocks ∙ (asked comments ∙ sym (and-true comments)),
+)
+format-apart comments false blocks records = (
+  (pcap-apart records).0,
+  ap is_some (pcap-apart records).1 ∙ sym (and-false comments),
+)
+
+pub comments-law : CommentsApart
+unfolding ending_from
+comments-law comments tail file bytes =
+    format-apart comments (is_pcapng bytes) (block_items_from None tail file 0 bytes)
+    (pcap_file_items tail file 0 bytes)

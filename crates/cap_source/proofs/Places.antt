@@ -343,8 +343,8 @@ ending-from before (pieces.given block body ∷ rest) =
     let content = content_in (known_behind before).interfaces block.kind block.order body in
     ap (λ q. unless_faulty content (ending_with (known_behind before) None) (ending_in (behind q content) rest))
     (uncounted before block body content)
-    ∙ one (λ p content later. unless_faulty content (ending_with p None) later) (λ p rule x y. refl) before (block, body)
-    content (λ p. ending_in p rest) (ending_behind (before ++ (block, body) ∷ []) rest)
+    ∙ one (λ p content later. unless_faulty content (ending_with p None) later) (λ p rule x y. refl) before
+    (block, body) content (λ p. ending_in p rest) (ending_behind (before ++ (block, body) ∷ []) rest)
     (content-tells (known_behind before).interfaces (block, body)) (ending-from (before ++ (block, body) ∷ []) rest)
 
 first-from : (before : List Standing) (items : List (pieces.PieceItem Block))

@@ -84,6 +84,7 @@ with_comments progress comments = record progress { comments = comments }
 abbrev pub beginning : Bool → SectionProgress
 beginning comments = with_comments fresh (if comments then Some 0 else None)
 
+-- the first interface of a file: the one that was read first, or else this one
 abbrev pub first_or : Option Interface → Interface → Interface
 first_or None interface = interface
 first_or (Some first) interface = first
@@ -311,9 +312,9 @@ file_items tail file bytes = items_from tail file fresh 0 bytes
 abbrev pub file_ending : Tail → ℕ → List ℕ → FileEnd
 file_ending tail file bytes = ending_from tail file fresh 0 bytes
 
--- how it ends if the comments of its packets, interfaces and sections are counted, or aren't
-abbrev pub counted_ending : Bool → Tail → ℕ → List ℕ → FileEnd
-counted_ending comments tail file bytes = ending_from tail file (beginning comments) 0 bytes
-
 abbrev pub file_first : Tail → ℕ → List ℕ → Option Interface
 file_first tail file bytes = first_from tail file fresh 0 bytes
+
+-- how a whole file ends if the comments of its packets, interfaces and sections are counted, or aren't
+abbrev pub counted_ending : Bool → Tail → ℕ → List ℕ → FileEnd
+counted_ending comments tail file bytes = ending_from tail file (beginning comments) 0 bytes

@@ -1,4 +1,5 @@
 pub mod Captures
+pub mod Counted
 pub mod FedStates
 pub mod FedSteps
 pub mod Fields

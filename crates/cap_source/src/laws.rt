@@ -1,4 +1,5 @@
 //! Laws of capture files, each the contract of a function that does nothing.
+ghost use Rattle.cap_source.specs.inner.Counted.{CommentsApart};
 ghost use Rattle.cap_source.specs.inner.Fields.{FieldsFit, FramesFit};
 ghost use Rattle.cap_source.specs.inner.Places.{ItemsByPlaces, EndingByPlaces, FirstByPlaces, KindsByPlaces};
 ghost use Rattle.cap_source.specs.inner.Places.{NumbersByPlaces};
@@ -23,6 +24,12 @@ pub fn blocks_by_places()
     ensures first { FirstByPlaces }
     ensures numbers { NumbersByPlaces }
     ensures kinds { KindsByPlaces }
+{}
+
+/// Whether the comments of a file are counted or not, how it ends is the same but for them. Their number is known
+/// exactly if they are counted and the file is a pcapng file.
+pub fn comments_apart()
+    ensures { CommentsApart }
 {}
 
 /// What is written for an interface of which the fields fit is read again as that interface: its link type, its

@@ -22,7 +22,8 @@ loop-source-preserved g c =
     let x = c.in-Some.source in
     let e = c.with_comments-capture.ensures in
     let place : c.loop-source.file ≡ 1 + length (map reader seen) = omega (arith, i.number, length-map seen reader) in
-    let is : IsUnread c.args.comments c.args.tail (1 + length (map reader seen)) (reader x) (capture_feed c.with_comments-capture.result) =
+    let is : IsUnread c.args.comments c.args.tail (1 + length (map reader seen)) (reader x)
+    (capture_feed c.with_comments-capture.result) =
     subst (λ n. IsUnread c.args.comments c.args.tail n (reader x) (capture_feed c.with_comments-capture.result)) place
     (record {
       files = e.files;
@@ -32,9 +33,11 @@ loop-source-preserved g c =
       broken = e.whole;
       can_fail = e.can_fail;
     }) in
-    let more = AreUnread-more c.args.comments c.args.tail 1 (map reader seen) (map capture_feed c.loop-source.captures.items) (reader x)
+    let more = AreUnread-more c.args.comments c.args.tail 1 (map reader seen)
+    (map capture_feed c.loop-source.captures.items) (reader x)
     (capture_feed c.with_comments-capture.result) i.unread is in
-    let pushed : c.push.new.self.items ≡ c.loop-source.captures.items ++ c.with_comments-capture.result ∷ [] = search rules in
+    let pushed : c.push.new.self.items ≡ c.loop-source.captures.items ++ c.with_comments-capture.result ∷ [] =
+    search rules in
     record {
       number = next_number _ _ _ i.number (length-append seen (x ∷ []));
       unread =
@@ -56,7 +59,8 @@ returns-clause-unread g c =
     c.loop-source.yielded c.loop-source.source-iterator c.loop-source.yielded_by c.next.result c.next.new.self
     c.in-None.is c.next.ensures.steps in
     let all : c.loop-source.yielded ≡ c.args.sources.items = sym (map-id c.loop-source.yielded) ∙ end.0 in
-    subst (λ l. AreUnread c.args.comments c.args.tail 1 (map reader l) (map capture_feed c.loop-source.captures.items)) all
+    subst
+    (λ l. AreUnread c.args.comments c.args.tail 1 (map reader l) (map capture_feed c.loop-source.captures.items)) all
     c.loop-source.invariant.unread
 
 pub overflow_add-file : goal.overflow_add-file

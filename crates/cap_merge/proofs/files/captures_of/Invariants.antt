@@ -8,6 +8,7 @@ abbrev pub invariant-loop-source : goal.invariant-loop-source
 invariant-loop-source g l = record {
   number : l.file ≡ 1 + length l.yielded;
   unread :
-      AreUnread l.comments l.tail 1 (map (reader_of g.R.Source.tells_coming g.R.Device.can_fail g.R.Source.coming) l.yielded)
+      AreUnread l.comments l.tail 1
+      (map (reader_of g.R.Source.tells_coming g.R.Device.can_fail g.R.Source.coming) l.yielded)
       (map capture_feed l.captures.items);
 }

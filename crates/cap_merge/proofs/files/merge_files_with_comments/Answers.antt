@@ -49,6 +49,7 @@ pub returns-clause-unread : goal.returns-clause-unread
 returns-clause-unread g c =
     let reader = reader_of g.R.Source.tells_coming g.R.Device.can_fail g.R.Source.coming in
     let sources = c.args.sources in
-    IsCountedRun-feeds c.args.comments c.args.tail (map reader sources.items) (map capture_feed c.in_ok-captures.captures.items) _
+    IsCountedRun-feeds c.args.comments c.args.tail (map reader sources.items)
+    (map capture_feed c.in_ok-captures.captures.items) _
     (omega (arith, length-map sources.items reader, sources.ok.0, c.requires.some)) c.in_ok-captures.ensures.unread
     c.new.ensures.parts c.new.ensures.run

@@ -23,9 +23,10 @@ returns-in-Some-clause-answer g c =
     c.set_packet.ensures
     (block_stepped c.file-file.result c.args.reader.now c.take_packet.new.self p p c.in-Some.block
     (of_body contents.Packet c.enhanced_packet-said.result)
-    c.set_packet.new.known c.set_packet.ensures (behind-packet p c.in-Some.block (unwrap_or c.take_packet.new.self.lent []) c.enhanced_packet-said.result
-    (none_of p.comments (sym c.is_some.ensures ∙ c.if-is_some.false))) (c.file-file.ensures
-    ∙ c.window.ensures.window.file) e.answer e.keeps e.items
+    c.set_packet.new.known c.set_packet.ensures
+    (behind-packet p c.in-Some.block (unwrap_or c.take_packet.new.self.lent []) c.enhanced_packet-said.result
+    (none_of p.comments (sym c.is_some.ensures ∙ c.if-is_some.false)))
+    (c.file-file.ensures ∙ c.window.ensures.window.file) e.answer e.keeps e.items
     (content_lent _ c.deref.result.now p.interfaces c.in-Some.block.kind c.in-Some.block.order
     c.take_packet.new.self.lent c.body.result.now
     c.enhanced_packet-said.ensures c.deref.ensures.value e.kind c.body.ensures.body))
@@ -58,5 +59,6 @@ returns-in-Some-clause-fronts g c = λ told taken.
     (content_lent _ c.deref.result.now p.interfaces c.in-Some.block.kind c.in-Some.block.order
     c.take_packet.new.self.lent c.body.result.now
     c.enhanced_packet-said.ensures c.deref.ensures.value e.kind c.body.ensures.body)
-    c.set_packet.ensures (behind-packet p c.in-Some.block (unwrap_or c.take_packet.new.self.lent []) c.enhanced_packet-said.result
+    c.set_packet.ensures
+    (behind-packet p c.in-Some.block (unwrap_or c.take_packet.new.self.lent []) c.enhanced_packet-said.result
     (none_of p.comments (sym c.is_some.ensures ∙ c.if-is_some.false)))
