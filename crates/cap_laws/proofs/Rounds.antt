@@ -114,7 +114,8 @@ sharing_rounds-in-bytes sharing-law order tail tail_again groups are =
     ≡ run_of_files tail files = ap run_of_packets (all-files tail groups)
     ∙ run-each tail files in
     let rounds = run-each tail_again texts in
-    let packets : numbered (shared []) (run_of_files tail_again texts) ≡ numbered (shared []) (run_of_files tail files) =
+    let packets : numbered (shared []) (run_of_files tail_again texts)
+    ≡ numbered (shared []) (run_of_files tail files) =
     sym (ap (numbered (shared [])) rounds) ∙ (law.0 ∙ ap (numbered (shared [])) whole) in (
       ap (λ ns. section_bytes order ++ packets_bytes order 0 ns) packets,
       sym (ap sharing_refused_by rounds) ∙ (law.1 ∙ ap sharing_refused_by whole),

@@ -44,7 +44,7 @@ RoundsInBytes =
 
 -- ---- shared interfaces
 
--- the file that the merge of a group writes in which interfaces that say the same are one
+-- the file that the merge of a group writes in which equal interfaces are one
 abbrev pub sharing_group_bytes : Tail → FileGroup → List ℕ
 sharing_group_bytes tail group = sharing_bytes group.order (group_run tail group)
 
@@ -58,7 +58,7 @@ pub record IsMergedSharing (tail : Tail) (group : FileGroup) : Type 0 where
 abbrev pub sharing_refused_by : List Item → Option Rule
 sharing_refused_by items = option_map (λ refusal. refusal.rule) (sharing_refusal items)
 
--- The same of merges in which interfaces that say the same are one, in every round.
+-- The same of merges in which equal interfaces are one, in every round.
 abbrev pub SharingRoundsInBytes : Type 0
 SharingRoundsInBytes =
     (order : Order) (tail tail_again : Tail) (groups : List FileGroup) → AllByRecursion (IsMergedSharing tail) groups

@@ -74,7 +74,7 @@ pub fn rounds_bytes()
     rounds_law();
 }
 
-/// The same holds of merges in which interfaces that say the same are one, as `write_merged_sharing` writes them, in
+/// The same holds of merges in which equal interfaces are one, as `write_merged_sharing` writes them, in
 /// every round and at once.
 pub fn sharing_rounds()
     ensures { SharingRoundsInBytes }

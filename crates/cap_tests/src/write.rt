@@ -138,7 +138,7 @@ fn always_memory_files_are_merged(rt: HostRuntime) {
     }
 }
 
-// The packets of two files whose interfaces say the same, though the second's has a name too.
+// The packets of two files whose interfaces are equal, though the second's has a name too.
 const ONE_INTERFACE: File = &[SECTION, INTERFACE, PACKET, PACKET];
 
 // Those of RUNS_BACK and RUNS_ON.
@@ -170,7 +170,7 @@ const SHARED: [Row; 4] = [
     (&[RUNS_ON, RAW_AT_2], TWO_LINKS, Ok(())),
 ];
 
-// What a merge of files writes and answers in which interfaces that say the same are one.
+// What a merge of files writes and answers in which equal interfaces are one.
 fn shares(rt: &impl Abort, alloc: Global, row: &Row) {
     let (input, output, ending) = *row;
     let mut merged = merged_of(rt, alloc, sources_of(rt, alloc, input, 1));

@@ -1,5 +1,5 @@
 -- The packets of a feed, written one by one in the form of pcapng.
-use Rattle.std.proofs.Common.{◌≡◌, ℕ, ◌≤◌, ◌<◌, ◌==◌, List, length, Bool, IsTrue, false, Some, None, refl, arith}
+use Rattle.std.proofs.Common.{◌≡◌, ℕ, ◌≤◌, ◌<◌, ◌==◌, List, Bool, IsTrue, false, Some, None, refl, arith}
 use Rattle.std.proofs.Common.{length-append}
 use Rattle.std.proofs.lemmas.Bool.{eq-eqb, ne_eqb}
 use Rattle.cap_bytes.specs.Device.{Writer}

@@ -1,5 +1,5 @@
 -- What is written of some items, and of others after them, in either format.
-use Rattle.std.proofs.Common.{◌≡◌, ℕ, false, List, [], ◌∷◌, ◌++◌, length, Option, Some, None, Result, Ok, Err, IsTrue}
+use Rattle.std.proofs.Common.{◌≡◌, ℕ, false, List, [], ◌∷◌, ◌++◌, Option, Some, None, Result, Ok, Err, IsTrue}
 use Rattle.std.proofs.Common.{OnOk, refl, sym, ap, ◌∙◌, subst, arith, append-nil, append_assoc}
 use Rattle.cap_bytes.proofs.Putting.{Putting, Putting-all}
 use Rattle.cap_bytes.specs.Device.{Writer}

@@ -23,8 +23,8 @@ origin_of meta = (meta.file, meta.instance)
 abbrev pub is_origin : Origin → Origin → Bool
 is_origin a b = (a.0 == b.0) && (a.1 == b.1)
 
--- What an interface says: its link, its snaplen, the code of its resolution and its offset
--- (draft-ietf-opsawg-pcapng, 4.2).
+-- The description of an interface: its link, its snaplen, the code of its resolution and its offset
+-- (draft-ietf-opsawg-pcapng, 4.2). Interfaces are equal if their descriptions are.
 abbrev pub Description : Type 0
 Description = Described
 
@@ -41,8 +41,8 @@ abbrev pub is_description : Description → Description → Bool
 is_description a b =
     int_eq a.offset b.offset && ((a.snaplen == b.snaplen) && ((a.link == b.link) && (a.resolution == b.resolution)))
 
--- The interfaces that were described before, in the order of their first use. Either each file has its own, and origins
--- tell them apart; or those that say the same are shared, and what they say tells them apart.
+-- The interfaces that were described before, in the order of their first use. Either each file has its own, and their
+-- origins tell them apart; or equal interfaces are shared, and their descriptions tell them apart.
 pub data Origins : Type 0 where
   own : List Origin → Origins
   shared : List Description → Origins

@@ -1,5 +1,5 @@
 -- What is written for a list of packets (draft-ietf-opsawg-pcapng, 4.1 to 4.3).
-use Rattle.std.specs.Prelude.{◌==◌, ℕ, ◌+◌, if◌then◌else◌, List, [], ◌∷◌, ◌++◌, length, Option, Some, None}
+use Rattle.std.specs.Prelude.{◌==◌, ℕ, ◌+◌, if◌then◌else◌, List, [], ◌∷◌, ◌++◌, Option, Some, None}
 use Rattle.cap_bytes.specs.declared.faults.Refusal.{Refusal}
 use Rattle.cap_bytes.specs.declared.faults.Rule.{Rule}
 use Rattle.cap_bytes.specs.declared.numbers.Order.{Order}
@@ -58,7 +58,7 @@ merged_bytes order items = section_text order (own []) items
 abbrev pub merged_refusal : List Item → Option Refusal
 merged_refusal items = refusal_in (own []) items
 
--- what is written for a merged list, in which interfaces that say the same are one
+-- what is written for a merged list, in which equal interfaces are one
 abbrev pub sharing_bytes : Order → List Item → List ℕ
 sharing_bytes order items = section_text order (shared []) items
 

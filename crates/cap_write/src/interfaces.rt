@@ -10,7 +10,7 @@ use indexmap::IndexSet;
 use std::alloc::Global;
 use std::hash::Hash;
 
-/// What an interface says of its packets.
+/// The description of an interface.
 #[derive(Clone, Copy, PartialEq, Eq, Hash)]
 pub(crate) struct Description {
     /// The second from which its times count (`if_tsoffset`).
@@ -29,7 +29,7 @@ pub(crate) enum Origins {
     /// Each file's own, by their origins: the number of the file, and how many interface blocks of the file stand
     /// before the interface's own.
     Own(IndexSet<(u32, u64)>),
-    /// Interfaces that say the same are one.
+    /// Equal interfaces are one.
     Shared(IndexSet<Description>),
 }
 
@@ -41,7 +41,7 @@ impl Origins {
         Origins::Own(IndexSet::new(alloc))
     }
 
-    /// None so far, and those that say the same will be one.
+    /// None so far, and equal ones will be one.
     pub(crate) fn shared(alloc: Global) -> Origins
         ensures { origins_of result ≡ shared [] }
     {
@@ -92,7 +92,7 @@ pub(crate) fn units_of(meta: &Meta) -> Result<u64, Fault>
     }
 }
 
-// What an interface says.
+// The description of an interface.
 fn description_of(interface: &Interface) -> Description
     ensures { result ≡ description_of interface.now }
 {

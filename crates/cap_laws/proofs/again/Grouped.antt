@@ -53,11 +53,13 @@ run_is files = through_items (merged item_time (map opened_track (numbered_files
 
 packets_are : (files : List (List Item)) → merged_packets files
     ≡ numbered (own []) (merge_of item_time (numbered_files 1 files))
-packets_are files = ap (numbered (own [])) (run_is files) ∙ numbered_through (own []) (merge_of item_time (numbered_files 1 files))
+packets_are files = ap (numbered (own [])) (run_is files)
+    ∙ numbered_through (own []) (merge_of item_time (numbered_files 1 files))
 
 refusal_is : (files : List (List Item)) → refusal_in (own []) (run_of_packets files)
     ≡ refusal_in (own []) (merge_of item_time (numbered_files 1 files))
-refusal_is files = ap (refusal_in (own [])) (run_is files) ∙ refusal_through (own []) (merge_of item_time (numbered_files 1 files))
+refusal_is files = ap (refusal_in (own [])) (run_is files)
+    ∙ refusal_through (own []) (merge_of item_time (numbered_files 1 files))
 
 -- ---- other numbers of files
 
@@ -143,8 +145,10 @@ group_next : (file place count : ℕ) (ns : List Origin) (m : Meta) (f : List �
     → write_fault (own ns) m ≡ fault → refusal_or fault m (refusal_in (with_origin (own ns) m) xs) ≡ None
     → AllZip IsItemOf (numbered_or fault (numbered_of (own ns) m f) (numbered (with_origin (own ns) m) xs)) ys
     → InFiles file (file + count) (packet m f)
-    → ((zs : List Item) → refusal_in (with_origin (own ns) m) xs ≡ None → AllZip IsItemOf (numbered (with_origin (own ns) m) xs) zs
-    → AllZip (Renamed (IsOfGroup file place (record { count = count; origins = all_origins (origins_behind ns m) xs }))) xs
+    → ((zs : List Item) → refusal_in (with_origin (own ns) m) xs ≡ None
+    → AllZip IsItemOf (numbered (with_origin (own ns) m) xs) zs
+    → AllZip (Renamed (IsOfGroup file place (record { count = count; origins = all_origins (origins_behind ns m) xs })))
+    xs
     (map (in_file place) zs))
     → AllZip (Renamed (IsOfGroup file place (record { count = count; origins = all_origins (origins_behind ns m) xs })))
     (packet m f ∷ xs) (map (in_file place) ys)
@@ -267,7 +271,8 @@ made (n ∷ ns) = (
   made ns,
 )
 
-all_made : (groups : List (List (List Item))) → AllByRecursion (λ g. refusal_in (own []) (run_of_packets g) ≡ None) groups
+all_made : (groups : List (List (List Item)))
+    → AllByRecursion (λ g. refusal_in (own []) (run_of_packets g) ≡ None) groups
     → AllZip IsMergeOf groups (map (λ g. file_of_packets (merged_packets g)) groups)
 all_made [] h = tt
 all_made (g ∷ gs) h = (record { accepted = h.0; packets = made (merged_packets g) }, all_made gs h.1)

@@ -17,7 +17,8 @@ use Rattle.cap_time.specs.Resolution.{code_of}
 use Rattle.cap_time.specs.declared.resolutions.Interface.{Interface}
 use Rattle.cap_time.specs.declared.resolutions.Resolution.{Resolution}
 use Rattle.cap_write.proofs.Places.{position_or_len-none, position_or_len-some}
-use Rattle.cap_write.specs.Numbering.{Origin, Origins, own, shared, origin_of, is_origin, description_of, is_description}
+use Rattle.cap_write.specs.Numbering.{Origin, Origins, own, shared, origin_of, is_origin, description_of}
+use Rattle.cap_write.specs.Numbering.{is_description}
 use Rattle.cap_write.specs.Numbering.{count_of, is_used, number_of, with_origin, is_full, write_fault, numbered_of}
 use Rattle.cap_write.specs.Numbering.{Description, numbered_or, numbered}
 use Rattle.cap_laws.specs.again.Laws.{AllFit, AllHave, AreNumbered, described_after, all_described}

@@ -6,8 +6,8 @@ use Rattle.std.specs.Option.{option_map}
 use Rattle.indexmap.specs.IndexSet.{insert_key}
 use Rattle.cap_source.specs.Feed.{Item, packet, refused}
 use Rattle.cap_source.specs.declared.packets.Meta.{Meta}
-use Rattle.cap_write.specs.Numbering.{Origin, own, origin_of, is_origin, write_fault, numbered_of, numbered_or, numbered}
-use Rattle.cap_write.specs.Numbering.{refusal_in}
+use Rattle.cap_write.specs.Numbering.{Origin, own, origin_of, is_origin, write_fault, numbered_of, numbered_or}
+use Rattle.cap_write.specs.Numbering.{numbered, refusal_in}
 
 -- the origins after a packet
 abbrev pub origins_behind : List Origin → Meta → List Origin

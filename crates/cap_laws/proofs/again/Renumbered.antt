@@ -18,7 +18,8 @@ use Rattle.cap_time.specs.declared.resolutions.Interface.{Interface}
 use Rattle.cap_write.proofs.Feeding.{count_after-is}
 use Rattle.cap_write.proofs.Places.{position_or_len-none, position_or_len-some}
 use Rattle.cap_source.specs.Feed.{refusal_of}
-use Rattle.cap_write.specs.Numbering.{Origin, Origins, own, shared, origin_of, is_origin, description_of, is_description}
+use Rattle.cap_write.specs.Numbering.{Origin, Origins, own, shared, origin_of, is_origin, description_of}
+use Rattle.cap_write.specs.Numbering.{is_description}
 use Rattle.cap_write.specs.Numbering.{count_of, is_used, number_of, with_origin, write_fault}
 use Rattle.cap_write.specs.Numbering.{Numbered, numbered_of, numbered_or, numbered, refusal_or, refusal_in}
 use Rattle.cap_write.specs.Texts.{interface_part, packet_part, count_after, merged_bytes, sharing_bytes}

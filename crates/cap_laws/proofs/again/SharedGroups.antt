@@ -1,4 +1,4 @@
--- Merging in rounds writes what merging at once writes, if interfaces that say the same are one in each.
+-- Merging in rounds writes what merging at once writes, if equal interfaces are one in each.
 use Rattle.std.proofs.Common.{◌≡◌, ℕ, suc, ◌+◌, List, [], ◌∷◌, length, Option, Some, None, refl, sym, ap, ◌∙◌, subst}
 use Rattle.std.proofs.Common.{arith}
 use Rattle.std.specs.Prelude.{map}
@@ -6,10 +6,10 @@ use Rattle.std.specs.List.{AllZip, flat_map}
 use Rattle.std.specs.Option.{option_map}
 use Rattle.indexmap.specs.IndexSet.{insert_key}
 use Rattle.cap_bytes.specs.declared.faults.Rule.{Rule}
-use Rattle.cap_source.specs.Feed.{Item, packet, refused}
+use Rattle.cap_source.specs.Feed.{Item, packet}
 use Rattle.cap_source.specs.declared.packets.Meta.{Meta}
-use Rattle.cap_write.specs.Numbering.{Origin, Origins, shared, numbered, numbered_of, numbered_or, refusal_in, refusal_or}
-use Rattle.cap_write.specs.Numbering.{Description, description_of, is_description, with_origin, write_fault}
+use Rattle.cap_write.specs.Numbering.{Origin, Origins, shared, numbered, numbered_of, numbered_or, refusal_in}
+use Rattle.cap_write.specs.Numbering.{refusal_or, Description, description_of, is_description, with_origin, write_fault}
 use Rattle.cap_merge.specs.Parts.{item_time}
 use Rattle.cap_merge.proofs.Rounds as merged_rounds
 use Rattle.cap_laws.specs.again.Rounds.{in_file, numbered_files, run_of_packets, IsItemOf}
@@ -20,7 +20,7 @@ use Rattle.cap_laws.proofs.again.Renaming.{IsRenamed, Renamed}
 
 -- ---- other origins
 
--- Other origins of interfaces that say the same change nothing.
+-- Other origins of equal interfaces change nothing.
 module _ (R : Origin → Origin → Type 0) where
   fault-same : (descriptions : List Description) (m n : Meta) → IsRenamed R m n
       → write_fault (shared descriptions) n ≡ write_fault (shared descriptions) m

@@ -45,7 +45,8 @@ kept_origin ns m a n b h = grind (arith, number-more)
 pub number-kept : (ns : List Origin) (xs : List Item) (a : Origin) (n : ℕ) → IsNumberIn ns a n
     → IsNumberIn (all_origins ns xs) a n
 number-kept ns [] a n h = h
-number-kept ns (packet m f ∷ xs) a n h = number-kept (origins_behind ns m) xs a n (kept_origin ns m a n (is_used (own ns) m) h)
+number-kept ns (packet m f ∷ xs) a n h =
+    number-kept (origins_behind ns m) xs a n (kept_origin ns m a n (is_used (own ns) m) h)
 number-kept ns (refused r ∷ xs) a n h = number-kept ns xs a n h
 
 -- an origin that stands in the list has the first place, and another the next one

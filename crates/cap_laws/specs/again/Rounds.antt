@@ -40,9 +40,9 @@ MergeLaw =
     × (refusal_of again ≡ None)
     × (instances again ≡ numbers (numbered (own []) again)))
 
--- What is written of a merge of any files in which interfaces that say the same are one, if it is at most 2^40 bytes
+-- What is written of a merge of any files in which equal interfaces are one, if it is at most 2^40 bytes
 -- long, has the packets of their run, those before a refusal, in order: by their instances there they are numbered as
--- those of the run are by what their interfaces say.
+-- those of the run are by the descriptions of their interfaces.
 abbrev pub SharingLaw : Type 0
 SharingLaw =
     (order : Order) (tail tail_again : Tail) (file_again : ℕ) (files : List (List ℕ)) → AllByRecursion AreBytes files
@@ -157,7 +157,8 @@ file_of_packets packets = map packet_item packets
 -- The run of what the groups' merges write, each as a file, has the packets of the run of all files.
 abbrev pub RoundsLaw : Type 0
 RoundsLaw =
-    (groups : List (List (List Item))) → AllByRecursion (λ group. refusal_in (own []) (run_of_packets group) ≡ None) groups
+    (groups : List (List (List Item)))
+    → AllByRecursion (λ group. refusal_in (own []) (run_of_packets group) ≡ None) groups
     → (merged_packets (map (λ group. file_of_packets (merged_packets group)) groups)
     ≡ merged_packets (flat_map (λ group. group) groups))
     × (merged_rule (map (λ group. file_of_packets (merged_packets group)) groups)

@@ -42,7 +42,8 @@ returns-in_err-put_one-clause-text g c = λ t w.
     rw (p.1, p.2)
     (Prints-one (plan_of c.args.order origins) (plan_of c.args.order (with_origin origins meta))
     c.in_err-put_one.field-0.0 _ _ _ _ _
-    meta shown.frame c.frame.result.now (λ f. numbered_bytes c.args.order (count_of origins) (numbered_of origins meta f))
+    meta shown.frame c.frame.result.now
+    (λ f. numbered_bytes c.args.order (count_of origins) (numbered_of origins meta f))
     (write_fault origins meta) mid.items (drop 1 mid.items)
     (plan_of-refused c.args.order origins meta shown.frame)
     (plan_of-next c.args.order origins meta shown.frame) shows.1 c.frame.ensures.frame
