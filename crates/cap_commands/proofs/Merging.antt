@@ -12,18 +12,19 @@ use Rattle.cap_merge.specs.inner.Readers.{ReaderFacts, IsCountedRun}
 use Rattle.cap_bytes.specs.declared.formats.Format.{Format}
 use Rattle.cap_commands.specs.JoinText.{join_text_in, join_refusal_in}
 use Rattle.cap_commands.specs.MergeText.{merge_text_in, merge_refusal_in}
+use Rattle.cap_commands.specs.declared.counting.RunForm.{RunForm}
 use Rattle.cap_commands.specs.RunText.{datagrams_refusal, datagrams_text, packets_refusal, packets_text}
 
 -- the packets of a merge, written
-pub Prints-merged : {comments : Bool} {A : Type 0} (reader : A → ReaderFacts) (tail : Tail) (format : Format)
+pub Prints-merged : {comments : Bool} {A : Type 0} (reader : A → ReaderFacts) (tail : Tail) (form : RunForm)
     (order : Order) (sources : List A) (ps : List Part)
     (held new : List ℕ) (result : Result (Unit {0}) Fault) → IsCountedRun comments tail (map reader sources) ps
-    → (IsTrue (merged_feed ps).told → Prints (packets_text format order (merged_feed ps).items)
-    (packets_refusal format (merged_feed ps).items) held result new)
+    → (IsTrue (merged_feed ps).told → Prints (packets_text form order (merged_feed ps).items)
+    (packets_refusal form (merged_feed ps).items) held result new)
     → IsTrue (list_all (λ s. (reader s).told) sources)
-    → Prints (merge_text_in format order tail (map (λ s. (reader s).bytes) sources))
-    (merge_refusal_in format tail (map (λ s. (reader s).bytes) sources)) held result new
-Prints-merged reader tail format order sources ps held new result u prints t = grind (arith, run-items, told-readers)
+    → Prints (merge_text_in form order tail (map (λ s. (reader s).bytes) sources))
+    (merge_refusal_in form tail (map (λ s. (reader s).bytes) sources)) held result new
+Prints-merged reader tail form order sources ps held new result u prints t = grind (arith, run-items, told-readers)
 
 -- its datagrams, written
 pub Prints-joined : {comments : Bool} {A : Type 0} (reader : A → ReaderFacts) (tail : Tail) (format : Format)

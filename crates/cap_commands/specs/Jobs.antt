@@ -31,6 +31,7 @@ use Rattle.cap_commands.specs.DiffText.{is_same}
 use Rattle.cap_commands.specs.JoinText.{join_refusal_in, join_text_in}
 use Rattle.cap_commands.specs.ListText.{list_refusal}
 use Rattle.cap_commands.specs.MergeText.{merge_refusal_in, merge_text_in}
+use Rattle.cap_commands.specs.RunText.{run_form}
 use Rattle.cap_commands.specs.Left.{both_cut, done_of, left_of_report, nothing_left, only_cut, only_cuts}
 use Rattle.cap_talks.specs.declared.talks.reports.ReportLeft.{ReportLeft}
 use Rattle.cap_commands.specs.declared.diff.CutEnds.{CutEnds}
@@ -105,40 +106,43 @@ whole_by (Err fault) finding = Err fault
 
 -- What is written, found and returned by a task over files of those bytes, of which a read can fail or not: `list`,
 -- `blocks` and `convert` are of one file, `diff` is of two.
-abbrev pub DoesTask : Task → Ignored → Tail → Form → ℕ → Bool → Order → Option Format → Bool → List Bool
+abbrev pub DoesTask : Task → Ignored → Tail → Form → ℕ → Bool → Order → Option Format → Bool → Bool → List Bool
     → List (List ℕ) → Finding → List ℕ → Result Unit Fault → List ℕ → Type 0
-DoesTask tasks.List ignored tail form shown classed order to digests fails files finding =
+DoesTask tasks.List ignored tail form shown classed order to shares digests fails files finding =
     Prints (list_by classed form shown tail (only_of files)) (list_refusal tail (only_of files))
-DoesTask tasks.Blocks ignored tail form shown classed order to digests fails files finding =
+DoesTask tasks.Blocks ignored tail form shown classed order to shares digests fails files finding =
     Prints (block_list_in form tail (only_of files)) (block_refusal tail (only_of files))
-DoesTask tasks.Diff ignored tail form shown classed order to digests fails files finding =
+DoesTask tasks.Diff ignored tail form shown classed order to shares digests fails files finding =
     Tells (diff_text_in (diff_options ignored form shown) (cuts_in tail files) (comparison_in ignored tail files))
     (diff_refusal (comparison_in ignored tail files))
-DoesTask tasks.Digest ignored tail form shown classed order to digests fails files finding =
+DoesTask tasks.Digest ignored tail form shown classed order to shares digests fails files finding =
     λ old result new. WritesChecks lines.Digest form tail no_names (opened_files fails files) old
     (whole_by result finding) new
-DoesTask tasks.Check ignored tail form shown classed order to digests fails files finding =
+DoesTask tasks.Check ignored tail form shown classed order to shares digests fails files finding =
     λ old result new. WritesChecks (counts_line digests) form tail no_names (opened_files fails files) old
     (whole_by result finding) new
-DoesTask tasks.Info ignored tail form shown classed order to digests fails files finding =
+DoesTask tasks.Info ignored tail form shown classed order to shares digests fails files finding =
     Tells (info_text_in form tail files) (first_refusal tail 1 files)
-DoesTask tasks.Report ignored tail form shown classed order to digests fails files finding =
+DoesTask tasks.Report ignored tail form shown classed order to shares digests fails files finding =
     Tells (report_text_in form (length files) (endings_of_files tail files) (clocked_run tail files))
     (report_refusal (clocked_run tail files))
-DoesTask tasks.Convert ignored tail form shown classed order None digests fails files finding = λ old result new. ⊥
-DoesTask tasks.Convert ignored tail form shown classed order (Some format) digests fails files finding =
+DoesTask tasks.Convert ignored tail form shown classed order None shares digests fails files finding =
+    λ old result new. ⊥
+DoesTask tasks.Convert ignored tail form shown classed order (Some format) shares digests fails files finding =
     Prints (convert_text format order tail (only_of files)) (convert_refusal format tail (only_of files))
-DoesTask tasks.Merge ignored tail form shown classed order to digests fails files finding =
-    Prints (merge_text_in (format_in to) order tail files) (merge_refusal_in (format_in to) tail files)
-DoesTask tasks.Join ignored tail form shown classed order to digests fails files finding =
+DoesTask tasks.Merge ignored tail form shown classed order to shares digests fails files finding =
+    Prints (merge_text_in (run_form shares (format_in to)) order tail files)
+    (merge_refusal_in (run_form shares (format_in to)) tail files)
+DoesTask tasks.Join ignored tail form shown classed order to shares digests fails files finding =
     Prints (join_text_in (format_in to) order tail files) (join_refusal_in (format_in to) tail files)
 
--- What is written, found and returned by a job: what its task is, with its tail, its form, its order, its format, and
--- whether the lines of `list` have the class of their packet and those of `check` a digest.
+-- What is written, found and returned by a job: what its task is, with its tail, its form, its order, its format,
+-- whether interfaces are shared, and whether the lines of `list` have the class of their packet and those of `check` a
+-- digest.
 abbrev pub Does : Job → List Bool → List (List ℕ) → Finding → List ℕ → Result Unit Fault → List ℕ → Type 0
 Does job =
     DoesTask job.task job.ignored (tail_of job.allow_cut) (form_by job.json) (shown_by (form_by job.json) job.data)
-    job.class job.order job.to job.digests
+    job.class job.order job.to job.shares job.digests
 
 -- what is found by whether two captures have the same packets
 abbrev pub finding_by : Bool → Finding

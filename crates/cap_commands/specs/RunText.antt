@@ -1,5 +1,5 @@
 -- What is written of a run in either format: its packets, or its datagrams.
-use Rattle.std.specs.Prelude.{ℕ, List, Option}
+use Rattle.std.specs.Prelude.{ℕ, List, Option, Bool, true, false}
 use Rattle.cap_bytes.specs.declared.faults.Refusal.{Refusal}
 use Rattle.cap_bytes.specs.declared.numbers.Order.{Order}
 use Rattle.cap_merge.specs.Run.{Clocked}
@@ -8,16 +8,26 @@ use Rattle.cap_bytes.specs.declared.formats.Format.{Format}
 use Rattle.cap_bytes.specs.declared.formats.Format.TheVariants.{Pcap, Pcapng}
 use Rattle.cap_write.specs.Joined.{joined_bytes, joined_refusal}
 use Rattle.cap_write.specs.PcapRun.{joined_pcap_bytes, joined_pcap_refusal, run_bytes, run_refusal}
-use Rattle.cap_write.specs.Texts.{merged_bytes, merged_refusal}
+use Rattle.cap_write.specs.Texts.{merged_bytes, merged_refusal, sharing_bytes, sharing_refusal}
+use Rattle.cap_commands.specs.declared.counting.RunForm.{RunForm}
+use Rattle.cap_commands.specs.declared.counting.RunForm.TheVariants as forms
 
--- what is written of its packets in that format and order, and the refusal that is then returned, if there is one
-abbrev pub packets_text : Format → Order → List Item → List ℕ
-packets_text Pcap order items = run_bytes order items
-packets_text Pcapng order items = merged_bytes order items
+-- the form in which packets are written, by whether equal interfaces are shared, and the format
+abbrev pub run_form : Bool → Format → RunForm
+run_form shares Pcap = forms.Pcap
+run_form false Pcapng = forms.Pcapng
+run_form true Pcapng = forms.SharedPcapng
 
-abbrev pub packets_refusal : Format → List Item → Option Refusal
-packets_refusal Pcap items = run_refusal items
-packets_refusal Pcapng items = merged_refusal items
+-- what is written of its packets in that form and order, and the refusal that is then returned, if there is one
+abbrev pub packets_text : RunForm → Order → List Item → List ℕ
+packets_text forms.Pcap order items = run_bytes order items
+packets_text forms.Pcapng order items = merged_bytes order items
+packets_text forms.SharedPcapng order items = sharing_bytes order items
+
+abbrev pub packets_refusal : RunForm → List Item → Option Refusal
+packets_refusal forms.Pcap items = run_refusal items
+packets_refusal forms.Pcapng items = merged_refusal items
+packets_refusal forms.SharedPcapng items = sharing_refusal items
 
 -- the same of its datagrams
 abbrev pub datagrams_text : Format → Order → List (Clocked Item) → List ℕ

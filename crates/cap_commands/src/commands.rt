@@ -8,7 +8,7 @@ ghost use Rattle.cap_commands.specs.Converted.{convert_text, convert_refusal};
 ghost use Rattle.cap_commands.specs.JoinText.{join_text, join_text_in, join_refusal, join_refusal_in};
 ghost use Rattle.cap_commands.specs.MergeText.{merge_text, merge_text_in, merge_refusal, merge_refusal_in};
 
-use crate::counting::{convert_and_count, join_and_count, merge_and_count};
+use crate::counting::{RunForm, convert_and_count, join_and_count, merge_and_count};
 use cap_bytes::{Fault, Order, Sink, Source, Tail};
 use cap_source::Format;
 use std::alloc::Global;
@@ -57,7 +57,7 @@ pub fn merge_to<R: Source, W: Sink>(
     ensures writer { WriterKeeps (writer_of W.Sink writer.old) (is_write result) (writer_of W.Sink writer.new) }
     ensures read { FailsOf (map R.can_fail sources.items) result }
 {
-    merge_and_count(alloc, sources, tail, order, Format::Pcapng, false, writer)?;
+    merge_and_count(alloc, sources, tail, order, RunForm::Pcapng, false, writer)?;
     Ok(())
 }
 
@@ -76,13 +76,13 @@ pub fn merge_to_pcap<R: Source, W: Sink>(
     requires some { 1 ≤ vec_len sources }
     requires most { vec_len sources ≤ 32 }
     ensures text { IsTrue (list_all R.tells_coming sources.items) → IsTrue (W.tells_held writer.old)
-        → Prints (merge_text_in Format.Pcap order tail (map R.coming sources.items))
-        (merge_refusal_in Format.Pcap tail (map R.coming sources.items))
+        → Prints (merge_text_in RunForm.Pcap order tail (map R.coming sources.items))
+        (merge_refusal_in RunForm.Pcap tail (map R.coming sources.items))
         (W.held writer.old) result (W.held writer.new) }
     ensures writer { WriterKeeps (writer_of W.Sink writer.old) (is_write result) (writer_of W.Sink writer.new) }
     ensures read { FailsOf (map R.can_fail sources.items) result }
 {
-    merge_and_count(alloc, sources, tail, order, Format::Pcap, false, writer)?;
+    merge_and_count(alloc, sources, tail, order, RunForm::Pcap, false, writer)?;
     Ok(())
 }
 

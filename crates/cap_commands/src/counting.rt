@@ -29,7 +29,7 @@ use cap_merge::{Merged, merge_files_with_comments};
 use cap_source::{Capture, Format, PacketFeed};
 use cap_write::{
     LeftOut, NO_PACKETS_LEFT_OUT, to_pcap, to_pcapng, write_joined_and_count,
-    write_joined_pcap_and_count, write_merged, write_merged_pcap,
+    write_joined_pcap_and_count, write_merged, write_merged_pcap, write_merged_sharing,
 };
 use std::alloc::Global;
 
@@ -180,17 +180,28 @@ pub fn convert_and_count<R: Source, W: Sink>(
     Ok(left_of_one(&capture))
 }
 
+/// How the packets of a run are written.
+#[derive(Clone, Copy, Debug, PartialEq, Eq)]
+pub enum RunForm {
+    /// As a pcap file.
+    Pcap,
+    /// As a pcapng file, in which the interfaces of each file are its own.
+    Pcapng,
+    /// As a pcapng file, in which interfaces with the same link, snaplen, resolution and offset are one.
+    SharedPcapng,
+}
+
 // Writes the packets of a run, before any was passed.
 fn write_run<F: PacketFeed, W: Sink>(
     alloc: Global,
     merged: &mut Merged<F>,
     order: Order,
-    format: Format,
+    form: RunForm,
     writer: &mut W,
 ) -> Result<(), Fault>
     ensures text { IsTrue (merged_feed (parts_of merged.old)).told → IsTrue (W.tells_held writer.old)
-        → Prints (packets_text format order (merged_feed (parts_of merged.old)).items)
-        (packets_refusal format (merged_feed (parts_of merged.old)).items)
+        → Prints (packets_text form order (merged_feed (parts_of merged.old)).items)
+        (packets_refusal form (merged_feed (parts_of merged.old)).items)
         (W.held writer.old) result (W.held writer.new) }
     ensures writer { WriterKeeps (writer_of W.Sink writer.old) (is_write result) (writer_of W.Sink writer.new) }
     ensures walks { Walks (merged_feed (parts_of merged.old)) result (merged_feed (parts_of merged.new)) }
@@ -198,9 +209,10 @@ fn write_run<F: PacketFeed, W: Sink>(
         → SameEndings (merged_feed (parts_of merged.old)) (merged_feed (parts_of merged.new))) }
     ensures keeps { FeedKeeps (merged_feed (parts_of merged.old)) (merged_feed (parts_of merged.new)) }
 {
-    match format {
-        Format::Pcap => write_merged_pcap(merged, order, writer),
-        Format::Pcapng => write_merged(alloc, merged, order, writer),
+    match form {
+        RunForm::Pcap => write_merged_pcap(merged, order, writer),
+        RunForm::Pcapng => write_merged(alloc, merged, order, writer),
+        RunForm::SharedPcapng => write_merged_sharing(alloc, merged, order, writer),
     }
 }
 
@@ -245,7 +257,7 @@ fn write_datagrams<F: PacketFeed, W: Sink>(
     }
 }
 
-/// Writes what `merge_to` writes, in either format, and returns the faults that it returns, or what is left out: how
+/// Writes what `merge_to` writes, in any of the forms, and returns the faults that it returns, or what is left out: how
 /// many blocks of the files and names of their interfaces aren't carried on, and, if `counts` asks for it, how many
 /// comments of their sections, interfaces and packets, and how many packets had a time that is earlier than that of a
 /// packet before them in their file.
@@ -254,15 +266,15 @@ pub fn merge_and_count<R: Source, W: Sink>(
     sources: Vec<R>,
     tail: Tail,
     order: Order,
-    format: Format,
+    form: RunForm,
     counts: bool,
     writer: &mut W,
 ) -> Result<DroppedInfo, Fault>
     requires some { 1 ≤ vec_len sources }
     requires most { vec_len sources ≤ 32 }
     ensures text { IsTrue (list_all R.tells_coming sources.items) → IsTrue (W.tells_held writer.old)
-        → Prints (merge_text_in format order tail (map R.coming sources.items))
-        (merge_refusal_in format tail (map R.coming sources.items))
+        → Prints (merge_text_in form order tail (map R.coming sources.items))
+        (merge_refusal_in form tail (map R.coming sources.items))
         (W.held writer.old) result (W.held writer.new) }
     ensures writer { WriterKeeps (writer_of W.Sink writer.old) (is_write result) (writer_of W.Sink writer.new) }
     ensures read { FailsOf (map R.can_fail sources.items) result }
@@ -271,7 +283,7 @@ pub fn merge_and_count<R: Source, W: Sink>(
     ensures packets { IfOk result (λ left. left.left_out ≡ None) }
 {
     let mut merged = merge_counted(alloc, sources, tail, counts)?;
-    write_run(alloc, &mut merged, order, format, writer)?;
+    write_run(alloc, &mut merged, order, form, writer)?;
     Ok(left_of_merged(&merged, None))
 }
 

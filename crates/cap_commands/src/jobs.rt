@@ -10,12 +10,13 @@ ghost use Rattle.cap_commands.specs.Jobs.{reported_by, tail_of, whole_by, whole_
 ghost use Rattle.cap_commands.specs.JobLeft.{JobLeaves};
 ghost use Rattle.cap_commands.specs.Left.{done_of};
 ghost use Rattle.cap_commands.specs.ListText.{list_refusal};
+ghost use Rattle.cap_commands.specs.RunText.{run_form};
 ghost use Rattle.cap_bytes.specs.Device.{WriterKeeps, writer_of};
 ghost use Rattle.cap_bytes.specs.Printing.{Prints, is_write};
 ghost use Rattle.cap_source.specs.ReadFaults.{FailsOf};
 
 use crate::blocks::blocks_in;
-use crate::counting::{convert_and_count, join_and_count, merge_and_count};
+use crate::counting::{RunForm, convert_and_count, join_and_count, merge_and_count};
 use crate::diff::{DiffEnd, DiffOptions, diff_in};
 use crate::left::{DroppedInfo, NOTHING_LEFT, both_cut, left_of_report, only_cut, only_cuts};
 use crate::list::list_in;
@@ -165,6 +166,22 @@ fn format_of(to: Option<Format>) -> Format
     to.unwrap_or(Format::Pcapng)
 }
 
+// The form in which `merge` writes packets: in a pcap file no interfaces are shared.
+fn run_form(shares: bool, format: Format) -> RunForm
+    ensures { result ≡ run_form shares format }
+{
+    match format {
+        Format::Pcap => RunForm::Pcap,
+        Format::Pcapng => {
+            if shares {
+                RunForm::SharedPcapng
+            } else {
+                RunForm::Pcapng
+            }
+        }
+    }
+}
+
 // What a job has done that printed files which ended in those rests, by their places, where they were cut.
 fn printed(answer: Result<[Option<CutRest>; 32], Fault>) -> Result<Done, Fault>
     ensures { result ≡ printed_by answer }
@@ -312,8 +329,8 @@ pub fn job_to<R: Source, W: Sink>(
             written(convert_and_count(alloc, source, tail, job.order, format, counts, writer))
         }
         Task::Merge => {
-            let format = format_of(job.to);
-            let answer = merge_and_count(alloc, sources, tail, job.order, format, counts, writer);
+            let form = run_form(job.shares, format_of(job.to));
+            let answer = merge_and_count(alloc, sources, tail, job.order, form, counts, writer);
             written(answer)
         }
         Task::Join => {

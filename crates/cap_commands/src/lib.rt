@@ -15,7 +15,7 @@ mod list;
 
 pub use crate::blocks::{blocks_json_to, blocks_to};
 pub use crate::commands::{convert_to, join_to, join_to_pcap, merge_to, merge_to_pcap};
-pub use crate::counting::{convert_and_count, join_and_count, merge_and_count};
+pub use crate::counting::{RunForm, convert_and_count, join_and_count, merge_and_count};
 pub use crate::diff::{
     CutEnds, DEFAULT_OPTIONS, DiffEnd, DiffOptions, Differences, diff_in, diff_to,
 };

@@ -195,9 +195,17 @@ pub record IsGathering (name : Text) (app : App) : Type 0 where
   pub formats_are : AreNames formats (codes "pcap" ∷ codes "pcapng" ∷ [])
   pub app_is : app ≡ gathering_app name orders formats
 
--- `merge .. FILE..`
-abbrev pub IsMerge : App → Type 0
-IsMerge = IsGathering (codes "merge")
+-- `merge .. [--share-interfaces] FILE..`
+abbrev pub merge_app : ArgumentNames → ArgumentNames → App
+merge_app orders formats =
+    with_rule (gathering_app (codes "merge") orders formats) (flag_rule (codes "share-interfaces"))
+
+pub record IsMerge (app : App) : Type 0 where
+  pub orders : ArgumentNames
+  pub orders_are : AreNames orders (codes "big" ∷ codes "little" ∷ [])
+  pub formats : ArgumentNames
+  pub formats_are : AreNames formats (codes "pcap" ∷ codes "pcapng" ∷ [])
+  pub app_is : app ≡ merge_app orders formats
 
 -- `join .. FILE..`
 abbrev pub IsJoin : App → Type 0

@@ -7,8 +7,8 @@ use Rattle.clap.specs.declared.error.kind.ErrorKind.{ErrorKind}
 use Rattle.clap.specs.declared.error.kind.ErrorKind.TheVariants as kind
 use Rattle.cap_line.specs.Command.{IsCapt}
 use Rattle.cap_bytes.specs.declared.formats.Format.{Format}
-use Rattle.cap_line.specs.Jobs.{IsShownJob, IsWholeJob, can_replace, can_show, can_verify, data_by, format_by}
-use Rattle.cap_line.specs.Jobs.{ignored_by, inputs_fault, is_whole_task, order_by, task_by}
+use Rattle.cap_line.specs.Jobs.{IsShownJob, IsWholeJob, can_replace, can_share, can_show, can_verify, data_by}
+use Rattle.cap_line.specs.Jobs.{format_by, ignored_by, inputs_fault, is_whole_task, order_by, task_by}
 use Rattle.cap_line.specs.declared.jobs.Job.{Job}
 use Rattle.cap_line.specs.declared.jobs.Task.{Task}
 use Rattle.cap_line.specs.declared.faults.LineFault.{LineFault}
@@ -63,6 +63,11 @@ Lacks name rows =
 abbrev pub CannotReplace : List Row → Type 0
 CannotReplace rows = (whole : Bool) × Flags whole (codes "whole") rows × IsFalse (can_replace whole (out_in rows))
 
+-- Interfaces are to be shared, and can't be.
+abbrev pub CannotShare : List Row → Type 0
+CannotShare rows =
+    (shares : Bool) × Flags shares (codes "share-interfaces") rows × IsFalse (can_share shares (to_in rows))
+
 -- Lines are to be verified, and can't be.
 abbrev pub CannotVerify : List Row → Type 0
 CannotVerify rows =
@@ -96,14 +101,15 @@ pub record HasRows (task : Task) (rows : List Row) (job : Job) : Type 0 where
   pub class : Flags job.class (codes "class") rows
   pub digests : Flags job.digests (codes "digest") rows
   pub names : Flags job.names (codes "names") rows
+  pub shares : Flags job.shares (codes "share-interfaces") rows
   pub list : option_map (λ l. l.now) job.list ≡ list_in rows
   pub verify : option_map (λ v. v.now) job.verify ≡ verify_in rows
   pub count : data_in rows ≡ Ok job.data
   pub ignored : job.ignored ≡ ignored_by (names_in (codes "ignore") rows)
 
 -- What a subcommand of that name with those rows gives: a whole job, or the first fault. A name that is no task's, a
--- task that lacks what it takes, standard output that is to take a name, what can't be shown, and lines that can't be
--- verified, are refused as the line.
+-- task that lacks what it takes, standard output that is to take a name, interfaces that can't be shared, what can't be
+-- shown, and lines that can't be verified, are refused as the line.
 abbrev pub IsJobBy : Text → List Row → Result Job LineFault → Type 0
 IsJobBy name rows (Ok job) =
     (task : Task) × (task_by name ≡ Some task)
@@ -111,8 +117,8 @@ IsJobBy name rows (Ok job) =
     × HasRows task rows job × IsWholeJob job × IsShownJob job
 IsJobBy name rows (Err Help) = ⊥
 IsJobBy name rows (Err Line) =
-    (task_by name ≡ None) ⊎ Lacks name rows ⊎ CannotReplace rows ⊎ CannotShow name rows ⊎ CannotVerify rows
-    ⊎ RefusesFiles name rows Line
+    (task_by name ≡ None) ⊎ Lacks name rows ⊎ CannotReplace rows ⊎ CannotShare rows ⊎ CannotShow name rows
+    ⊎ CannotVerify rows ⊎ RefusesFiles name rows Line
 IsJobBy name rows (Err Files) = RefusesFiles name rows Files
 IsJobBy name rows (Err Input) = RefusesFiles name rows Input
 IsJobBy name rows (Err Output) = RefusesFiles name rows Output

@@ -106,6 +106,12 @@ abbrev pub can_replace : Bool → Option (List ℕ) → Bool
 can_replace whole None = true
 can_replace whole (Some out) = not (whole && bytes_eq out (codes "-"))
 
+-- whether interfaces can be shared, if that is asked for: a pcap file has one interface
+abbrev pub can_share : Bool → Option Format → Bool
+can_share shares None = true
+can_share shares (Some Pcap) = not shares
+can_share shares (Some Pcapng) = true
+
 -- whether the lines of a file can be verified, if that is asked for: a list of names besides, or names that are asked
 -- for, are refused with it
 abbrev pub can_verify : Bool → Bool → Bool → Bool
@@ -175,6 +181,7 @@ pub record IsWholeJob (job : Job) : Type 0 where
   pub most : vec_len job.files ≤ most_files job.task
   pub taken : IsTrue (is_whole_task job.task (vec_len job.files) job.to (option_map (λ o. o.now) job.out))
   pub replaced : IsTrue (can_replace job.whole (option_map (λ o. o.now) job.out))
+  pub shared : IsTrue (can_share job.shares job.to)
 
 -- A job's task can show what is asked for, and at most 262,144 bytes of each packet.
 pub record IsShownJob (job : Job) : Type 0 where

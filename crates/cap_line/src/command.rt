@@ -125,6 +125,14 @@ fn whole<'a>(alloc: Global) -> Arg<'a>
     flag(alloc, "whole", texts::WHOLE_HELP)
 }
 
+// `--share-interfaces`
+fn share_interfaces<'a>(alloc: Global) -> Arg<'a>
+    ensures rule { rule_of result ≡ flag_rule (codes "share-interfaces") }
+    ensures local { result.global ≡ false }
+{
+    flag(alloc, "share-interfaces", texts::SHARE_HELP)
+}
+
 // The argument of that name, which is required
 fn required<'a>(alloc: Global, name: &'a str, help: &'a str) -> Arg<'a>
     ensures rule { rule_of result ≡ required_rule name.entry.now }
@@ -178,17 +186,11 @@ fn choice<'a>(
 }
 
 // `--order`
-fn order<'a>(alloc: Global) -> Arg<'a>
+fn order<'a>(alloc: Global, help: &'a str) -> Arg<'a>
     ensures rule { IsOrderRule (rule_of result) }
     ensures local { result.global ≡ false }
 {
-    choice(
-        alloc,
-        "order",
-        ORDERS.as_slice(),
-        "ORDER",
-        texts::ORDER_HELP,
-    )
+    choice(alloc, "order", ORDERS.as_slice(), "ORDER", help)
 }
 
 // `--ignore`, which may be given more than once
@@ -320,12 +322,13 @@ fn writing<'a>(
     name: &'a str,
     about: &'a str,
     help: &'a str,
+    order_help: &'a str,
 ) -> Result<Command<'a>, AllocError>
     ensures app { IfOk result (λ c. IsWriting name.entry.now (app_of c)) }
     ensures local { IfOk result (λ c. (fields_of c).has_globals ≡ false) }
 {
     let before = reading(alloc, name, about, help);
-    let named = with_argument(with_argument(before, order(alloc)), out(alloc));
+    let named = with_argument(with_argument(before, order(alloc, order_help)), out(alloc));
     with_argument(named, whole(alloc))
 }
 
@@ -427,7 +430,13 @@ fn convert<'a>(alloc: Global) -> Result<Command<'a>, AllocError>
     ensures app { IfOk result (λ c. IsConvert (app_of c)) }
     ensures local { IfOk result (λ c. (fields_of c).has_globals ≡ false) }
 {
-    let before = writing(alloc, "convert", texts::CONVERT_ABOUT, texts::CONVERT_HELP);
+    let before = writing(
+        alloc,
+        "convert",
+        texts::CONVERT_ABOUT,
+        texts::CONVERT_HELP,
+        texts::ORDER_HELP,
+    );
     with_argument(with_argument(before, required_to(alloc)), file(alloc))
 }
 
@@ -437,11 +446,12 @@ fn gathering<'a>(
     name: &'a str,
     about: &'a str,
     help: &'a str,
+    order_help: &'a str,
 ) -> Result<Command<'a>, AllocError>
     ensures app { IfOk result (λ c. IsGathering name.entry.now (app_of c)) }
     ensures local { IfOk result (λ c. (fields_of c).has_globals ≡ false) }
 {
-    let before = writing(alloc, name, about, help);
+    let before = writing(alloc, name, about, help, order_help);
     let named = with_argument(before, to(alloc, texts::TO_DEFAULT_HELP));
     with_argument(named, files(alloc))
 }
@@ -451,7 +461,16 @@ fn merge<'a>(alloc: Global) -> Result<Command<'a>, AllocError>
     ensures app { IfOk result (λ c. IsMerge (app_of c)) }
     ensures local { IfOk result (λ c. (fields_of c).has_globals ≡ false) }
 {
-    gathering(alloc, "merge", texts::MERGE_ABOUT, texts::MERGE_HELP)
+    with_argument(
+        gathering(
+            alloc,
+            "merge",
+            texts::MERGE_ABOUT,
+            texts::MERGE_HELP,
+            texts::ORDER_SHORT_HELP,
+        ),
+        share_interfaces(alloc),
+    )
 }
 
 // `join`
@@ -459,7 +478,13 @@ fn join<'a>(alloc: Global) -> Result<Command<'a>, AllocError>
     ensures app { IfOk result (λ c. IsJoin (app_of c)) }
     ensures local { IfOk result (λ c. (fields_of c).has_globals ≡ false) }
 {
-    gathering(alloc, "join", texts::JOIN_ABOUT, texts::JOIN_HELP)
+    gathering(
+        alloc,
+        "join",
+        texts::JOIN_ABOUT,
+        texts::JOIN_HELP,
+        texts::ORDER_HELP,
+    )
 }
 
 // `capt` without its subcommands

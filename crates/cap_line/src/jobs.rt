@@ -3,8 +3,8 @@ ghost use Rattle.std.specs.Prelude.{◌≡◌, map, count_by, codes, option_map,
 ghost use Rattle.std.specs.Char.{is_ascii_digit};
 ghost use Rattle.std.specs.List.{list_all, list_any};
 ghost use Rattle.std.specs.Str.{bytes_eq};
-ghost use Rattle.cap_line.specs.Jobs.{can_replace, can_show, can_verify, count_in, data_by, files_fault, format_by};
-ghost use Rattle.cap_line.specs.Jobs.{ignored_by, inputs_fault, is_also_file, is_digits, is_surveying};
+ghost use Rattle.cap_line.specs.Jobs.{can_replace, can_share, can_show, can_verify, count_in, data_by, files_fault};
+ghost use Rattle.cap_line.specs.Jobs.{format_by, ignored_by, inputs_fault, is_also_file, is_digits, is_surveying};
 ghost use Rattle.cap_line.specs.Jobs.{is_whole_task, most_files, number_in, order_by, task_by};
 
 use crate::faults::LineFault;
@@ -100,6 +100,8 @@ pub struct Job<'a> {
     pub digests: bool,
     /// Whether each line of `Digest` and `Check` names its file, also in text.
     pub names: bool,
+    /// Whether equal interfaces are one in what `Merge` writes.
+    pub shares: bool,
 }
 
 /// The task of that name, if it is one's: `list`, `blocks`, `diff`, `digest`, `check`, `info`, `report`,
@@ -163,6 +165,17 @@ pub fn can_replace(whole: bool, out: Option<&str>) -> bool
 {
     match out {
         Some(out) => !(whole && out == "-"),
+        None => true,
+    }
+}
+
+/// Whether interfaces can be shared, if that is asked for: a pcap file, with its one interface, shares none.
+pub fn can_share(shares: bool, to: Option<Format>) -> bool
+    ensures { result ≡ can_share shares to }
+{
+    match to {
+        Some(Format::Pcap) => !shares,
+        Some(Format::Pcapng) => true,
         None => true,
     }
 }

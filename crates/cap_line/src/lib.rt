@@ -13,7 +13,7 @@ mod words;
 
 pub use crate::faults::LineFault;
 pub use crate::jobs::{
-    Ignored, Job, NOTHING_IGNORED, Task, can_replace, can_show, can_verify, check_files,
+    Ignored, Job, NOTHING_IGNORED, Task, can_replace, can_share, can_show, can_verify, check_files,
     check_inputs, data_of, files_limit, format_of, ignored_of, is_surveying, is_whole, number_of,
     order_of, standard_inputs, task_of,
 };

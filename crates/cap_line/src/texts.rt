@@ -170,11 +170,15 @@ carried on: names, descriptions and filters of interfaces, comments and other
 options, secrets, name records, statistics. At a terminal, or with --explain, a
 line tells how many blocks and comments aren't, and one how many packets ran
 back: had a time below the greatest so far in their file.
+As pcapng, each capture has interfaces of its own in OUT, at most 1,024 in all.
+With --share-interfaces those of the same link type, snaplen, time resolution
+and time offset are one, whichever captures they are of.
 More than 32 captures are merged in rounds: 32 at a time, in order, and then
 the results.
 
 Examples: capt merge -o day.pcapng morning.pcap evening.pcapng
-          capt merge --to pcap -o day.pcap morning.pcap evening.pcap";
+          capt merge --to pcap -o day.pcap morning.pcap evening.pcap
+          capt merge --share-interfaces -o day.pcapng ring-*.pcapng";
 
 pub(crate) const JOIN_ABOUT: &str = "Writes the whole IPv4 datagrams of captures, fragments joined";
 
@@ -221,7 +225,13 @@ pub(crate) const WHOLE_HELP: &str = "Write OUT beside itself and rename it once 
 done: a fault or a refusal leaves it as it was. If
 capt is killed, a file OUT.capt-1 may be left";
 
+pub(crate) const SHARE_HELP: &str = "Write equal interfaces as one";
+
 pub(crate) const ORDER_HELP: &str = "Byte order, default little";
+
+// The same beside a long option.
+pub(crate) const ORDER_SHORT_HELP: &str = "Byte order,
+default little";
 
 pub(crate) const TO_HELP: &str = "The format of OUT";
 

@@ -55,6 +55,8 @@ Options:
                  printed, whether its file still has that line
       --whole    Of convert, merge and join: leave OUT as it was until all is
                  done
+      --share-interfaces
+                 Of merge: write equal interfaces as one
 
 A refusal names the file, the offset and the broken rule.
 Status 0: success; 1: a capture is refused, or one that is checked isn't whole,
@@ -88,6 +90,15 @@ For more information, try '--help'.
 
 // What is printed for `--whole` with standard output.
 pub(crate) const WHOLE_DASH: &str = "error: the argument '--whole' cannot be used with '--output -'
+
+For more information, try '--help'.
+";
+
+// What is printed for `--share-interfaces` with `--to pcap`.
+pub(crate) const SHARE_PCAP: &str =
+    "error: the argument '--share-interfaces' cannot be used with '--to pcap'
+
+  tip: a pcap file has one interface
 
 For more information, try '--help'.
 ";

@@ -11,13 +11,13 @@ ghost use Rattle.cap_line.specs.Shown.{IsSeenOrLine};
 use crate::command::capt;
 use crate::faults::LineFault;
 use crate::jobs::{
-    Ignored, Job, NOTHING_IGNORED, Task, can_replace, can_show, can_verify, check_inputs, data_of,
-    format_of, ignored_of, is_whole, order_of, task_of,
+    Ignored, Job, NOTHING_IGNORED, Task, can_replace, can_share, can_show, can_verify,
+    check_inputs, data_of, format_of, ignored_of, is_whole, order_of, task_of,
 };
 use crate::shown::{escape, escape_lines};
 use crate::usage::{
     DATA_ALONE, DATA_NUMBER, FILES_BESIDE_LIST, FILES_BESIDE_VERIFY, LIST_BESIDE_VERIFY,
-    NAMES_BESIDE_VERIFY, NO_FILES, TALKS_TIP, WHOLE_DASH, WRITE_TIP,
+    NAMES_BESIDE_VERIFY, NO_FILES, SHARE_PCAP, TALKS_TIP, WHOLE_DASH, WRITE_TIP,
 };
 use clap::error::ErrorKind;
 use clap::{ArgMatches, Error};
@@ -97,8 +97,9 @@ fn said_by<S: AsStr>(alloc: Global, error: Error, words: &[S]) -> Option<String>
 }
 
 // What is wrong with a line that clap takes and that gives no job, by the matches of its subcommand: the text of
-// `--data` is no number, or is one without `--json`; standard output can't take its name once all is done; `--verify`
-// has beside it what it can't have; there are files beside a list of them; or there is neither.
+// `--data` is no number, or is one without `--json`; a pcap file is to share interfaces; standard output can't take its
+// name once all is done; `--verify` has beside it what it can't have; there are files beside a list of them; or there
+// is neither.
 fn line_text(matches: &ArgMatches<'_>) -> &'static str {
     if let Some(text) = text_of(matches, "data") {
         return if data_of(Some(text)).is_ok() {
@@ -106,6 +107,10 @@ fn line_text(matches: &ArgMatches<'_>) -> &'static str {
         } else {
             DATA_NUMBER
         };
+    }
+    let shares = is_set(text_of(matches, "share-interfaces"));
+    if !can_share(shares, format_of(text_of(matches, "to"))) {
+        return SHARE_PCAP;
     }
     if is_set(text_of(matches, "whole")) {
         return WHOLE_DASH;
@@ -220,7 +225,8 @@ fn job_of<'a>(alloc: Global, name: &str, matches: &ArgMatches<'a>) -> Result<Job
     let to = format_of(text_of(matches, "to"));
     let whole = is_set(text_of(matches, "whole"));
     let json = is_set(text_of(matches, "json"));
-    if !is_whole(task, files.len(), to, out) || !can_replace(whole, out) {
+    let shares = is_set(text_of(matches, "share-interfaces"));
+    if !is_whole(task, files.len(), to, out) || !can_replace(whole, out) || !can_share(shares, to) {
         return Err(LineFault::Line);
     }
     let data = data_of(text_of(matches, "data"))?;
@@ -245,6 +251,7 @@ fn job_of<'a>(alloc: Global, name: &str, matches: &ArgMatches<'a>) -> Result<Job
         class: is_set(text_of(matches, "class")),
         digests: is_set(text_of(matches, "digest")),
         names: is_set(text_of(matches, "names")),
+        shares,
     })
 }
 

@@ -2,9 +2,9 @@
 use crate::checks::same;
 use cap_bytes::Order;
 use cap_line::{
-    Ignored, LineFault, Task, can_replace, can_show, can_verify, check_files, check_inputs,
-    data_of, files_limit, format_of, ignored_of, is_surveying, is_whole, number_of, order_of,
-    standard_inputs, task_of, unescape,
+    Ignored, LineFault, Task, can_replace, can_share, can_show, can_verify, check_files,
+    check_inputs, data_of, files_limit, format_of, ignored_of, is_surveying, is_whole, number_of,
+    order_of, standard_inputs, task_of, unescape,
 };
 use cap_source::Format;
 
@@ -102,6 +102,22 @@ const REPLACED: [(bool, Option<&str>, bool); 5] = [
 fn standard_output_takes_no_name(rt: HostRuntime) {
     for (whole, out, can) in &REPLACED {
         same!(&rt; can_replace(*whole, *out), *can, *out);
+    }
+}
+
+// Whether interfaces are shared, the format that is asked for, and whether they can be.
+const SHARED: [(bool, Option<Format>, bool); 5] = [
+    (true, None, true),
+    (true, Some(Format::Pcapng), true),
+    (true, Some(Format::Pcap), false),
+    (false, Some(Format::Pcap), true),
+    (false, None, true),
+];
+
+#[test]
+fn a_pcap_file_shares_no_interfaces(rt: HostRuntime) {
+    for (shares, to, can) in &SHARED {
+        same!(&rt; can_share(*shares, *to), *can, *to);
     }
 }
 

@@ -6,7 +6,7 @@ use crate::hex_vectors::{
     COMMENTS_PCAPNG, CUT_PCAP, File, LATE, OPTIONS_PCAPNG, RUNS_BACK, RUNS_ON, SKIPPED_PCAPNG,
 };
 use cap_bytes::{CutRest, Fault, Order, Pieces, Refusal, Rule, Sink, Source, Tail};
-use cap_commands::{DroppedInfo, convert_and_count, join_and_count, merge_and_count};
+use cap_commands::{DroppedInfo, RunForm, convert_and_count, join_and_count, merge_and_count};
 use cap_merge::{Merged, merge_files};
 use cap_print::Form;
 use cap_source::{Capture, Format, PacketFeed};
@@ -56,8 +56,8 @@ fn merge<R: Source, W: Sink>(
 ) -> Result<DroppedInfo, Fault> {
     holds!(rt; !sources.is_empty());
     holds!(rt; sources.len() <= 32);
-    let format = Format::Pcapng;
-    merge_and_count(alloc, sources, tail, Order::Little, format, true, writer)
+    let form = RunForm::Pcapng;
+    merge_and_count(alloc, sources, tail, Order::Little, form, true, writer)
 }
 
 // What a join of 1 to 32 files answers, whose packets that run backward are counted.

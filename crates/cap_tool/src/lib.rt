@@ -63,7 +63,7 @@ pub use crate::systems::System;
 pub use crate::verify::{Verdict, verify_lines};
 pub use crate::whole::{AtomicOutput, create_beside};
 pub use cap_commands::{
-    DEFAULT_OPTIONS, DiffOptions, Differences, Done, DroppedInfo, Finding, blocks_json_to,
+    DEFAULT_OPTIONS, DiffOptions, Differences, Done, DroppedInfo, Finding, RunForm, blocks_json_to,
     blocks_to, convert_and_count, convert_to, diff_in, diff_to, fault_line, job_to, join_and_count,
     join_to, join_to_pcap, list_json_to, list_to, merge_and_count, merge_to, merge_to_pcap,
 };

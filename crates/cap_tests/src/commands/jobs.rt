@@ -6,7 +6,7 @@ use crate::commands::captures::{
 use crate::files::{ask_written, readers_of, room_of};
 use cap_bytes::{CutRest, Fault, Order, Sink};
 use cap_commands::{Done, DroppedInfo, Finding, NOTHING_LEFT, job_to};
-use cap_line::{Job, NOTHING_IGNORED, Task, can_replace, is_whole};
+use cap_line::{Job, NOTHING_IGNORED, Task, can_replace, can_share, is_whole};
 use cap_source::Format;
 use cap_talks::NO_OTHERS;
 use cap_write::NO_PACKETS_LEFT_OUT;
@@ -131,6 +131,7 @@ fn does<W: Sink>(
     holds!(rt; job.verify.is_none());
     holds!(rt; is_whole(job.task, job.files.len(), job.to, job.out));
     holds!(rt; can_replace(job.whole, job.out));
+    holds!(rt; can_share(job.shares, job.to));
     let done = job_to(alloc, job, sources, false, writer)?;
     Ok(done.finding)
 }
@@ -151,6 +152,7 @@ fn counts<W: Sink>(
     holds!(rt; job.verify.is_none());
     holds!(rt; is_whole(job.task, job.files.len(), job.to, job.out));
     holds!(rt; can_replace(job.whole, job.out));
+    holds!(rt; can_share(job.shares, job.to));
     job_to(alloc, job, sources, true, writer)
 }
 
@@ -175,6 +177,7 @@ fn printing(rt: &impl Abort, alloc: Global, task: Task, allow_cut: bool) -> Job<
         class: false,
         digests: false,
         names: false,
+        shares: false,
     }
 }
 
@@ -289,6 +292,7 @@ fn writes(rt: &impl Abort, alloc: Global, row: &Written) {
         class: false,
         digests: false,
         names: false,
+        shares: false,
     };
     let mut writer = room_of(rt, alloc, 1024);
     let answer = does(rt, alloc, &job, captures, &mut writer);

@@ -20,7 +20,7 @@ returns-in_err-write_run-clause-text g c =
     rw (p.1, p.2)
     (λ t w. Prints-fault (Unit {0}) DroppedInfo c.in_err-write_run.field-0.0 _ _ (g.W.Sink.held c.args.writer.now)
     (g.W.Sink.held c.write_run.new.writer)
-    (Prints-merged reader c.args.tail c.args.format c.args.order c.args.sources.items _
+    (Prints-merged reader c.args.tail c.args.form c.args.order c.args.sources.items _
     (g.W.Sink.held c.args.writer.now) (g.W.Sink.held c.write_run.new.writer) (Err c.in_err-write_run.field-0.0)
     c.in_ok-merged.ensures.unread (λ told. c.in_err-write_run.ensures.text told w) t))
 
@@ -37,7 +37,7 @@ returns-in_err-write_run-clause-read g c =
 pub returns-clause-text : goal.returns-clause-text
 returns-clause-text g c = λ t w.
     let reader = reader_of g.R.Source.tells_coming g.R.Device.can_fail g.R.Source.coming in
-    Prints-merged reader c.args.tail c.args.format c.args.order c.args.sources.items _
+    Prints-merged reader c.args.tail c.args.form c.args.order c.args.sources.items _
     (g.W.Sink.held c.args.writer.now) (g.W.Sink.held c.write_run.new.writer) (Ok c.in_ok-write_run.field-0)
     c.in_ok-merged.ensures.unread (λ told. c.in_ok-write_run.ensures.text told w) t
 

@@ -26,6 +26,7 @@ returns c =
         most = whole.2;
         taken = grind (arith, common_steps);
         replaced = grind (arith, common_steps);
+        shared = grind (arith, common_steps);
       },
       grind (arith, common_steps),
     )
