@@ -124,7 +124,7 @@ class Count:
 
 # The command of each task that writes a capture.
 WRITING = {"merge": ["merge"], "join": ["join"], "pcap": ["convert", "--to", "pcap"], "pcapng": ["convert", "--to", "pcapng"],
-           "merge-pcap": ["merge", "--to", "pcap"], "join-pcap": ["join", "--to", "pcap"]}
+           "merge-shared": ["merge", "--share-interfaces"], "merge-pcap": ["merge", "--to", "pcap"], "join-pcap": ["join", "--to", "pcap"]}
 
 # The command of each task that prints, if its name isn't the task's.
 PRINTING = {"classed": ["list", "--class"], "check-digest": ["check", "--digest"]}
@@ -132,7 +132,7 @@ PRINTING = {"classed": ["list", "--class"], "check-digest": ["check", "--digest"
 
 def words_of(task, files, allow_cut=False, order="<", out=None):
     """The command line of a task: a command, `pcap` or `pcapng` for `convert` to that format, `merge-pcap` or `join-pcap`,
-    `check-digest`, or `classed`."""
+    `merge-shared`, `check-digest`, or `classed`."""
     words, writes = {**WRITING, **PRINTING}.get(task, [task]), task in WRITING
     return words + ["--allow-cut"] * allow_cut + ["--order", "big"] * (writes and order == ">") + ["-o", out] * writes + files
 

@@ -70,6 +70,7 @@ GROWTHS = {
     "check": ["runs-back and options", "cut", "interfaces", "longest, twice"],
     "check-digest": ["runs-back and options", "cut", "longest, twice"],
     "merge": ["runs-back", "interfaces"],
+    "merge-shared": ["runs-back", "interfaces"],
     "merge-pcap": ["runs-back"],
     "join": ["overlapped-fragments", "interfaces"],
     "join-pcap": ["overlapped-fragments"],
@@ -87,6 +88,7 @@ DEVICES = {
     "check": ["runs-back and options", "tagged-frames", "cut", "simple and two sections", "five interfaces, one packet"],
     "check-digest": ["runs-back and options", "tagged-frames", "cut"],
     "merge": ["runs-back", "runs-back and options"],
+    "merge-shared": ["runs-back", "runs-back and options"],
     "merge-pcap": ["runs-back", "runs-back and options"],
     "join": ["overlapped-fragments", "runs-back"],
     "join-pcap": ["overlapped-fragments", "runs-back"],
@@ -238,7 +240,7 @@ def reads_of(count, bench, shim, out, task, row):
                 is_so = seen[:3] == wanted and seen[5] == 0
             if task in ("list", "classed", "blocks"):
                 is_so = is_so and seen[1] == wanted_of(task, [content[:offset]])[1]
-            if task in ("merge", "merge-pcap"):
+            if task in ("merge", "merge-shared", "merge-pcap"):
                 is_so = is_so and len(model.File(1, seen[1], True).packets) == MERGED_BEFORE[row][number, offset]
             count.check(f"{task} of {row}, read {call} of file {number}", is_so, seen)
 
@@ -279,7 +281,7 @@ def endless(count, bench, shim, out):
     seen = bench.run("digest", [SECTION], faults=(shim, {"ENDLESS": 1}))
     is_so = seen[:3] == (1, f"digest 1 {told}\n".encode(), b"") and seen[4] < 16_384
     count.check("digest of a file without end", is_so, seen)
-    for task in ("list", "blocks", "info", "report", "pcap", "pcapng", "merge", "join", "merge-pcap", "join-pcap"):
+    for task in ("list", "blocks", "info", "report", "pcap", "pcapng", "merge", "join", "merge-shared", "merge-pcap", "join-pcap"):
         seen = bench.run(task, [SECTION], task == "list", out=out, faults=(shim, {"ENDLESS": 1}))
         is_so = (seen[0], seen[2]) == (1, f"refused: file 1 offset {offset} rule 14 file-limit\n".encode())
         count.check(f"{task} of a file without end", is_so and seen[4] < 16_384 and (task != "blocks" or seen[1].count(b"\n") == 257), seen)
@@ -314,7 +316,7 @@ def far(count, bench, shim, out):
     seen = bench.run("digest", [SECTION], faults=(shim, {"ENDLESS": 1, "READ": "3-99999"}))
     is_so = seen[:4] == (1, f"digest 1 read offset {offset}\n".encode(), b"", 1)
     count.check("digest, a read that fails beyond byte 2^32", is_so, seen)
-    for task in ("list", "blocks", "info", "report", "pcap", "pcapng", "merge", "join", "merge-pcap", "join-pcap"):
+    for task in ("list", "blocks", "info", "report", "pcap", "pcapng", "merge", "join", "merge-shared", "merge-pcap", "join-pcap"):
         seen = bench.run(task, [SECTION], out=out, faults=(shim, {"ENDLESS": 1, "READ": "3-99999"}))
         is_so = (seen[0], seen[2], seen[3]) == (1, f"fault: read file 1 offset {offset}\n".encode(), 1)
         count.check(f"{task}, a read that fails beyond byte 2^32", is_so, seen)

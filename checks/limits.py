@@ -157,6 +157,16 @@ def interfaces(edges):
             edges.count.check("no more than 1,024 packets are written", text.count(b"\n") == 1_024, status)
     edges.accepts("512 and 512 of two files", ["merge", "-o", again, first, first])
     edges.accepts("512 and 512 of two files, read again", ["list", again], "packet 1024 ")
+    # shared: equal ones are one, and 1,024 that differ are written
+    share = ["merge", "--share-interfaces", "-o", again]
+    edges.accepts("1,025 interfaces of two files, shared", [*share, first, files[1]])
+    edges.accepts("1,025 interfaces of two files, shared, checked", ["check", again], " packets 1025 ", " interfaces 1 whole\n")
+    differing = [block(1, struct.pack("<HHI", 1, 0, n)) for n in range(1_025)]
+    most = edges.file("differing", SECTION, *differing[:1_024], *packets(1_024))
+    last = edges.file("last", SECTION, differing[1_024], packet(0, 1_024, b""))
+    edges.accepts("1,024 interfaces that differ, shared", [*share, most, most])
+    edges.accepts("1,024 interfaces that differ, shared, checked", ["check", again], " packets 2048 ", " interfaces 1024 whole\n")
+    edges.refuses("1,025 interfaces that differ, shared", [*share, most, last], "refused: file 2 offset 48 rule 13 interface-limit")
     # joined: a datagram on each interface
     whole = datagram(udp((1, 2)))
     file = edges.file("join", *[SECTION, RAW * 1_024, *[packet(n, n, whole) for n in range(1_024)]] * 2)

@@ -628,8 +628,8 @@ def written_interface(order, interface):
     return block(order, INTERFACE, body + bytes(4))
 
 
-def write_packets(order, packets, refusal, first=None):
-    """The text of packets as pcapng, up to the first refusal."""
+def write_packets(order, packets, refusal, first=None, shares=False):
+    """The text of packets as pcapng, up to the first refusal; if interfaces are shared, equal ones are one."""
     out, numbers = [section(order)], {}
     if first is not None:
         numbers[1, 0] = 0
@@ -637,7 +637,7 @@ def write_packets(order, packets, refusal, first=None):
     for packet in packets:
         if packet.units is None:
             return b"".join(out), Refusal(packet.file, packet.offset, 17)
-        name = packet.file, packet.instance
+        name = packet.interface if shares else (packet.file, packet.instance)
         if name not in numbers:
             if len(numbers) >= MOST_INTERFACES:
                 return b"".join(out), Refusal(packet.file, packet.offset, 13)
@@ -708,10 +708,13 @@ def join(to, order, files):
 
 def answer(task, contents, allow_cut=False, order="<", ignored=()):
     """What a task has to write over the contents of files, and the refusal or None. The task is a command's name, `pcap` or
-    `pcapng` for `convert` to that format, `merge-pcap` or `join-pcap` for `merge` or `join` to pcap, `check-digest` for
-    `check --digest`, or `classed` for `list --class`. `diff` ignores times, link types or original lengths, if these are named."""
+    `pcapng` for `convert` to that format, `merge-pcap` or `join-pcap` for `merge` or `join` to pcap, `merge-shared` for
+    `merge --share-interfaces`, `check-digest` for `check --digest`, or `classed` for `list --class`. `diff` ignores times, link types or original lengths, if these are named."""
     files = [File(number, data, allow_cut, task == "blocks") for number, data in enumerate(contents, 1)]
     to = "pcap" if task.endswith("-pcap") else "pcapng"
+    if task == "merge-shared":
+        run, refusal = run_of(files)
+        return write_packets(order, [packet for _, packet in run], refusal, shares=True)
     if task in ("merge", "merge-pcap"):
         run, refusal = run_of(files)
         return write_run(to, order, [packet for _, packet in run], refusal)

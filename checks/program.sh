@@ -246,6 +246,11 @@ done
 { cat "$work/want.pcapng"; tail -c +29 "$work/want.pcapng" | head -c 32
   printf '\x06\0\0\0\x24\0\0\0\x01\0\0\0\0\0\0\0\xa0\x25\x26\0\x04\0\0\0\x04\0\0\0\x01\x02\x03\x04\x24\0\0\0'; } > "$work/twice"
 run merge -o "$work/new" "$one" "$one"; check 'merge' 0 '' ''; same 'merge' "$work/new" "$work/twice"
+# the same, behind one interface
+{ cat "$work/want.pcapng"; tail -c 36 "$work/want.pcapng"; } > "$work/shared"
+run merge --share-interfaces -o "$work/new" "$one" "$one"; check 'shared interfaces' 0 '' ''; same 'shared interfaces' "$work/new" "$work/shared"
+run merge --to pcapng --share-interfaces -o - "$one" "$work/want.pcapng"; check 'shared interfaces of both formats' 0 '*' ''; same 'shared interfaces of both formats' "$work/out" "$work/shared"
+run merge --share-interfaces -o "$work/new" "$work/twice"; check 'shared interfaces of one capture' 0 '' ''; same 'shared interfaces of one capture' "$work/new" "$work/shared"
 input=$one; run merge -o - "$one" -; check 'merge with standard streams' 0 '*' ''; input=; same 'merge with standard streams' "$work/out" "$work/twice"
 run merge -o "$work/new" "$one" "$work/cut.pcap"; check 'a refusal in the second file' 1 '' 'refused: file 2 offset 24 rule 3 cut'
 run merge -o "$work/none" "$one" "$work/missing"; check 'a second file that is missing' 1 '' 'fault: open file 2'; absent 'a second file that is missing' "$work/none"
@@ -674,6 +679,7 @@ completed little capt join --order l
 completed merge capt help m
 completed '--explain' capt list --e
 completed '--output' capt merge --ou
+completed '--share-interfaces' capt merge --s
 completed '--json' capt info --j
 completed '--json' capt diff --j
 completed 'diff digest' capt help d

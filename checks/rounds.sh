@@ -88,6 +88,15 @@ for clock, number, place, instance, form, units, original, frame in listed:
     parts.append(packet(numbers[number, instance], units, original, frame))
 with open(f"{work}/sorted", "wb") as out:
     out.write(b"".join(parts))
+# the same, but that interfaces of one form are one
+numbers, parts = {}, [SECTION]
+for clock, number, place, instance, form, units, original, frame in listed:
+    if form not in numbers:
+        numbers[form] = len(numbers)
+        parts.append(interface(*form))
+    parts.append(packet(numbers[form], units, original, frame))
+with open(f"{work}/shared", "wb") as out:
+    out.write(b"".join(parts))
 PY
 
 passed=0
@@ -121,6 +130,10 @@ for jobs in 1 4; do
     says "70 captures, $jobs at once" 0 ''
     same "70 captures, $jobs at once" out sorted
 done
+rounds --share-interfaces -o out "${all[@]}"; says '70 captures, shared interfaces' 0 ''
+same '70 captures, shared interfaces' out shared
+"$program" merge --share-interfaces -o out sorted; same 'shared interfaces of one capture' out shared
+rm out; rounds -o out "${all[@]}"
 chmod 0640 out; rounds -o out "${all[@]}"; says 'over an older OUT' 0 ''; same 'over an older OUT' out sorted
 holds 'the mode of an older OUT' [ "$(stat -c %a out)" = 640 ]
 
@@ -173,6 +186,13 @@ printf '\xd4\xc3\xb2\xa1\x02\0\x04\0\0\0\0\0\0\0\0\0\0\0\x04\0\x01\0\0\0' > empt
 mapfile -t empty < <(yes empty | head -n 31)
 rounds -o none many1 "${empty[@]}" many2 "${empty[@]}" empty
 holds '1,025 interfaces' grep -qx 'refused: file [12] offset [0-9]* rule 13 interface-limit, of the merge of files \(1 to 32\|33 to 64\)' said
+holds 'the word that shares interfaces' grep -qx 'rounds.sh: --share-interfaces writes equal interfaces as one' said
+rounds --share-interfaces -o out many1 "${empty[@]}" many2 "${empty[@]}" empty; says '1,025 interfaces, shared' 0 ''
+"$program" merge --share-interfaces -o wanted many1 many2; same '1,025 interfaces, shared' out wanted
+holds 'interfaces of 1,025 that are shared' [ "$("$program" blocks out | grep -c ' kind 00000001 ')" = 1 ]
+rounds --share-interfaces --to pcap -o out many1 "${empty[@]}" many2 "${empty[@]}" empty; says '1,025 interfaces, to pcap' 0 ''
+"$program" merge --to pcap -o wanted many1 many2
+same '1,025 interfaces, to pcap' out wanted
 
 # options go on to each merge; names of any kind are names
 rounds --allow-cut --order big -o out "${all[@]}" one.pcap; says 'a missing file with options' 1 'fault: open file 71
@@ -203,7 +223,7 @@ done
 
 # what is wrong with a command line
 # shellcheck disable=SC2016 # as it is printed
-usage='Usage: rounds.sh [--allow-cut] [--order ORDER] [--to FORMAT] -o OUT FILE...
+usage='Usage: rounds.sh [--allow-cut] [--order ORDER] [--to FORMAT] [--share-interfaces] -o OUT FILE...
 It takes room in $TMPDIR: see rounds.sh --help.'
 rounds; says 'no words' 2 "rounds.sh: OUT and FILE are missing
 $usage"

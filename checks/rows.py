@@ -19,9 +19,10 @@ SECTION_BIG = "0a0d0d0a 0000001c 1a2b3c4d 0001 0000 ffffffffffffffff 0000001c"
 CARRIED = f"{ETHERNET} 02000000 20a10700 04000000 04000000 01020304"
 # The same in the other order.
 CARRIED_BIG = "a1b2c3d4 0002 0004 00000000 00000000 00040000 00000001 00000002 0007a120 00000004 00000004 01020304"
-# CARRY_PCAPNG in the other order, and three times: a section, and for each file its interface and its packet.
+# CARRY_PCAPNG in the other order; its packet three times, behind one interface, and each behind an interface of its file.
 CARRY_BIG = (f"{SECTION_BIG} 00000001 00000020 0001 0000 00040000 0009 0001 06000000 0000 0000 00000020 "
              "00000006 00000024 00000000 00000000 002625a0 00000004 00000004 01020304 00000024")
+SHARED = f"{SECTION}{INTERFACE}" + f" 06000000 24000000 00000000 00000000 {PACKET} 24000000" * 3
 THRICE = SECTION + "".join(f"{INTERFACE} 06000000 24000000 0{n}000000 00000000 {PACKET} 24000000" for n in range(3))
 
 
@@ -820,6 +821,7 @@ LINES = [
     ("convert a -o - --order=big --to=pcapng --allow-cut", gives(CARRY_BIG)), ("convert --to pcap -o a a", OUTPUT),
     ("merge -o c a b -", writes(THRICE)), ("merge --order big -o - -", gives(CARRY_BIG)), ("join -o c --order=big a b", writes(SECTION_BIG)),
     ("merge --to pcap -o c a", writes(CARRIED)), ("merge --to=pcap --order big -o - -", gives(CARRIED_BIG)),
+    ("merge --share-interfaces -o c a b -", writes(SHARED)), ("merge --to=pcapng -o c a b - --share-interfaces", writes(SHARED)),
     ("merge -o c --to pcapng a b -", writes(THRICE)), ("merge --whole --to pcap -o c a", writes(CARRIED)),
     ("join --to pcap -o c a b", (1, b"", f"refused: {NO_PACKET}\n".encode(), b"")), ("join --to pcapng -o c --order=big a b", writes(SECTION_BIG)),
     ("merge -o c - -", INPUT), ("merge -o a a b", OUTPUT), ("merge -o a a - -", INPUT), (f"merge -o a a - - {'a ' * 30}", FILES),
@@ -861,7 +863,9 @@ LINES = [
         "convert -o c a", "convert --to pcap a", "convert --to pcap -o c", "convert --to tar -o c a", "convert --to pcap -o c a b",
         "convert --order middle --to pcap -o c a", "convert --to pcap --to pcap -o c a", "merge a b", "merge -o c", "merge --to tar -o c a",
         "merge -o c -o d a", "merge -o c --output d a", "merge --whole -o - a", "report --whole a", "join a", "join --to pcap a",
-        "merge --to pcap --to pcap -o c a", "report --to pcap a",
+        "merge --to pcap --to pcap -o c a", "report --to pcap a", "merge --share-interfaces --to pcap -o c a",
+        "merge --share-interfaces=yes -o c a", "merge --share-interfaces --share-interfaces -o c a", "join --share-interfaces -o c a",
+        "convert --share-interfaces --to pcapng -o c a",
         "list --data 4 a", "list --data 4 --allow-cut a", "list --json --data", "list --json --data= a", "list --json --data +4 a",
         "list --json --data 4.0 a", "list --json --data -4 a", "list --json --data 262145 a", "list --json --data 4 --data 4 a",
         "list --class", "list --class=yes a", "list --class --class a", "blocks --class a", "report --class a", "merge --class -o c a",

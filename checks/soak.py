@@ -11,8 +11,8 @@ import model
 from captures import PROGRAM, VECTORS, WRITING, Bench, datagram, make_shim, run, udp, vector, wanted_of, words_of
 
 TASKS = ["list", "classed", "blocks", "diff", "info", "report", "digest", "check", "check-digest", "merge", "join", "pcap", "pcapng",
-         "merge-pcap", "join-pcap"]
-MANY = ("info", "report", "digest", "check", "check-digest", "merge", "join", "merge-pcap", "join-pcap")
+         "merge-shared", "merge-pcap", "join-pcap"]
+MANY = ("info", "report", "digest", "check", "check-digest", "merge", "join", "merge-shared", "merge-pcap", "join-pcap")
 NUMBERS = [0, 1, 2, 3, 4, 28, 32, 262_144, 262_145, 524_288, 524_292, 2**31, 2**32 - 4, 2**32 - 1]
 LINE = re.compile(rb"refused: file \d+ offset \d+ rule \d+ [a-z-]+\n|fault: (read file \d+ offset \d+|write|memory|open file \d+|create output)\n|")
 MOST_MEMORY = 16 * 1024     # KiB

@@ -20,7 +20,8 @@ _capt() {
     esac
     case ${COMP_WORDS[1]} in
         help) mapfile -t COMPREPLY < <(compgen -W "$commands" -- "$word"); return ;;
-        convert | merge | join) options='--allow-cut --explain --order --output --to --whole -o --help' ;;
+        convert | join) options='--allow-cut --explain --order --output --to --whole -o --help' ;;
+        merge) options='--allow-cut --explain --order --output --to --whole --share-interfaces -o --help' ;;
         list) options='--allow-cut --explain --class --json --data --help' ;;
         diff) options='--allow-cut --explain --ignore --json --data --help' ;;
         digest) options='--allow-cut --explain --json --names --files0-from --verify --help' ;;

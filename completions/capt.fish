@@ -29,3 +29,4 @@ complete -c capt -n '__fish_seen_subcommand_from convert merge join' -l order -x
 complete -c capt -n '__fish_seen_subcommand_from convert merge join' -l to -x -a 'pcap pcapng' -d 'Format of the output'
 complete -c capt -n '__fish_seen_subcommand_from convert merge join' -s o -l output -r -d 'Output file'
 complete -c capt -n '__fish_seen_subcommand_from convert merge join' -l whole -d 'Leave the output as it was until all is done'
+complete -c capt -n '__fish_seen_subcommand_from merge' -l share-interfaces -d 'Write equal interfaces as one'

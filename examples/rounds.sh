@@ -4,10 +4,11 @@
 # written beside itself, in a folder OUT.XXXXXX, and renamed when all is done: after a refusal or a fault it is as it
 # was before. Only kill -9 leaves that folder.
 #
-# Use: rounds.sh [--allow-cut] [--order ORDER] [--to FORMAT] -o OUT FILE...
+# Use: rounds.sh [--allow-cut] [--order ORDER] [--to FORMAT] [--share-interfaces] -o OUT FILE...
 #
 # Without -o the first word is OUT, if there is no such file: rounds.sh *.pcap writes over no capture. CAPT names the program (capt), JOBS how many merges run at once (one for each processor). The status is 0 if all is
-# done, 1 after a refusal or a fault, 2 if the command line is invalid.
+# done, 1 after a refusal or a fault, 2 if the command line is invalid. --share-interfaces makes equal interfaces one in
+# each merge, except in the last one of --to pcap.
 #
 # Room: with more than 32 FILEs, all packets stand once in $TMPDIR (/tmp) as pcapng: as many bytes as the FILEs have,
 # but up to twice as many for pcap files of small packets. With more than 1,024 FILEs they stand there twice.
@@ -28,6 +29,7 @@ misused() {
 cut=()
 order=()
 to=()
+share=()
 given=
 has_out=
 while [[ ${1-} == -?* ]]; do
@@ -45,6 +47,7 @@ while [[ ${1-} == -?* ]]; do
             if [[ ${2-} != pcap && ${2-} != pcapng ]]; then misused '--to is pcap or pcapng'; fi
             shift
             ;;
+        --share-interfaces) share=(--share-interfaces) ;;
         -o | --output)
             if [ $# = 1 ]; then misused "$1 wants OUT"; fi
             given=$2
@@ -130,7 +133,7 @@ finish() {
 # is the last merge, and --to asks for another. It stands for itself: a cluster's queue may take its place.
 begin() {
     if [ "${#running[@]}" -ge "$jobs" ]; then finish; fi
-    "$capt" merge "${cut[@]}" "${order[@]}" "${format[@]}" -o "$1.pcapng" -- "${@:2}" < /dev/null 2> "$1.told" &
+    "$capt" merge "${cut[@]}" "${order[@]}" "${shares[@]}" "${format[@]}" -o "$1.pcapng" -- "${@:2}" < /dev/null 2> "$1.told" &
     running+=($!)
 }
 
@@ -140,11 +143,14 @@ round=1
 while
     merged=()
     format=()
+    shares=("${share[@]}")
     if [ "${#files[@]}" -gt 32 ]; then
         name=$work/$round
     else
         name=$beside/all
         format=("${to[@]}")
+        # a pcap file has one interface
+        if [ "${to[*]}" = --to=pcap ]; then shares=(); fi
     fi
     for ((first = 0; first < ${#files[@]}; first += 32)); do
         begin "$name-$first" "${files[@]:first:32}"
@@ -153,6 +159,9 @@ while
     while [ "${#running[@]}" -gt 0 ]; do finish; done
     if [ "$failed" ]; then
         for ((first = 0; first < ${#files[@]}; first += 32)); do explain "$name-$first" "$first"; done
+        if [ "${#share[@]}" = 0 ] && grep -q ' rule 13 interface-limit$' "$name"-*.told; then
+            echo 'rounds.sh: --share-interfaces writes equal interfaces as one' >&2
+        fi
         exit 1
     fi
     [ "${#files[@]}" -gt 32 ]
