@@ -127,12 +127,12 @@ WRITING = {"merge": ["merge"], "join": ["join"], "pcap": ["convert", "--to", "pc
            "merge-shared": ["merge", "--share-interfaces"], "merge-pcap": ["merge", "--to", "pcap"], "join-pcap": ["join", "--to", "pcap"]}
 
 # The command of each task that prints, if its name isn't the task's.
-PRINTING = {"classed": ["list", "--class"], "check-digest": ["check", "--digest"]}
+PRINTING = {"classed": ["list", "--class"], "check-digest": ["check", "--digest"], "top": ["report", "--top", "2"]}
 
 
 def words_of(task, files, allow_cut=False, order="<", out=None):
     """The command line of a task: a command, `pcap` or `pcapng` for `convert` to that format, `merge-pcap` or `join-pcap`,
-    `merge-shared`, `check-digest`, or `classed`."""
+    `merge-shared`, `check-digest`, `classed`, or `top`."""
     words, writes = {**WRITING, **PRINTING}.get(task, [task]), task in WRITING
     return words + ["--allow-cut"] * allow_cut + ["--order", "big"] * (writes and order == ">") + ["-o", out] * writes + files
 

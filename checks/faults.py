@@ -65,6 +65,7 @@ ROWS = {
 GROWTHS = {
     "report": ["equal-resolutions", "tagged-frames", "overlapped-fragments", "thirty-seconds", "thirty-seconds, whole", "overlap-map", "cut",
                "conversations", "groups", "interfaces", "longest"],
+    "top": ["tagged-frames", "conversations", "cut"],
     "info": ["runs-back and options", "cut"],
     "digest": ["runs-back and options", "cut"],
     "check": ["runs-back and options", "cut", "interfaces", "longest, twice"],
@@ -83,6 +84,7 @@ GROWTHS = {
 }
 DEVICES = {
     "report": ["tagged-frames", "overlapped-fragments", "runs-back and options"],
+    "top": ["overlapped-fragments", "runs-back and options"],
     "info": ["runs-back and options"],
     "digest": ["runs-back and options", "cut", "simple and two sections"],
     "check": ["runs-back and options", "tagged-frames", "cut", "simple and two sections", "five interfaces, one packet"],

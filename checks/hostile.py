@@ -16,9 +16,9 @@ import multiprocessing, os, tempfile
 import model
 from captures import PROGRAM, VECTORS, Bench, Count, block, make_shim, vector
 
-ONE = ["list", "classed", "blocks", "info", "report", "digest", "check", "check-digest", "pcapng", "pcap", "merge", "join",
+ONE = ["list", "classed", "blocks", "info", "report", "top", "digest", "check", "check-digest", "pcapng", "pcap", "merge", "join",
        "merge-shared", "merge-pcap", "join-pcap"]
-MANY = ["diff", "info", "report", "digest", "check", "check-digest", "merge", "join", "merge-shared", "merge-pcap", "join-pcap"]
+MANY = ["diff", "info", "report", "top", "digest", "check", "check-digest", "merge", "join", "merge-shared", "merge-pcap", "join-pcap"]
 
 # The lengths at which `list` accepts a worked file that is cut; at every other it is refused by rule 3, at the greatest of
 # these and 0 that isn't above the length.

@@ -528,7 +528,9 @@ def end_text(protocol, end):
     return address if end[1] is None else f"{address}:{end[1]}"
 
 
-def report(files):
+def report(files, most=None):
+    """The report, with a line for each conversation, or for so many of them, those with the most bytes both ways: the greatest first, and of
+    equal bytes the one that began first."""
     run, refusal = run_of(files)
     table = Table()
     for place, (clock, packet) in enumerate(run):
@@ -541,7 +543,11 @@ def report(files):
     lines = [info(files)[0], f"total {sums_of([packet for _, packet in run])}\n",
              "frames " + " ".join(f"{name} {count}" for name, count in table.classes.items()) + "\n",
              f"joined {table.joined} given-up {table.joiner.given_up}\n", f"talks {len(table.talks)}\n"]
-    for (protocol, lesser, greater), (sums, frames) in table.talks.items():
+    talks = list(table.talks.items())
+    if most is not None:
+        places = sorted(range(len(talks)), key=lambda place: (-talks[place][1][0][1] - talks[place][1][0][3], place))
+        talks = [talks[place] for place in places[:most]]
+    for (protocol, lesser, greater), (sums, frames) in talks:
         first, last = (printed(frames[0][1]), printed(frames[1][1])) if frames else ("-", "-")
         lines.append(f"talk {protocol_text(protocol)} {end_text(protocol, lesser)} {end_text(protocol, greater)} forward {sums[0]} {sums[1]} "
                      f"backward {sums[2]} {sums[3]} first {first} last {last}\n")
@@ -709,7 +715,8 @@ def join(to, order, files):
 def answer(task, contents, allow_cut=False, order="<", ignored=()):
     """What a task has to write over the contents of files, and the refusal or None. The task is a command's name, `pcap` or
     `pcapng` for `convert` to that format, `merge-pcap` or `join-pcap` for `merge` or `join` to pcap, `merge-shared` for
-    `merge --share-interfaces`, `check-digest` for `check --digest`, or `classed` for `list --class`. `diff` ignores times, link types or original lengths, if these are named."""
+    `merge --share-interfaces`, `check-digest` for `check --digest`, `classed` for `list --class`, or `top` for
+    `report --top 2`. `diff` ignores times, link types or original lengths, if these are named."""
     files = [File(number, data, allow_cut, task == "blocks") for number, data in enumerate(contents, 1)]
     to = "pcap" if task.endswith("-pcap") else "pcapng"
     if task == "merge-shared":
@@ -726,8 +733,8 @@ def answer(task, contents, allow_cut=False, order="<", ignored=()):
         return join(to, order, files)
     if task == "diff":
         return diff(files, ignored)
-    return {"list": list_, "classed": classed, "blocks": blocks, "info": info, "report": report, "digest": digest,
-            "check": check, "check-digest": check_digest}[task](files)
+    return {"list": list_, "classed": classed, "blocks": blocks, "info": info, "report": report,
+            "top": lambda files: report(files, 2), "digest": digest, "check": check, "check-digest": check_digest}[task](files)
 
 
 def status_of(task, text, refusal):

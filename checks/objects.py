@@ -2,7 +2,7 @@
 """JSON Lines: what `list`, `blocks`, `diff`, `info`, `report`, `digest` and `check` print with --json is, object for
 object and byte for byte, what the text lines of the model say of the same files, and Python's json reads each line as
 those values. Over the files of checks/corpus/, the examples, the worked captures, and captures made at random, some of
-them damaged; `list` and `diff` also with --data, `list` with --class, and `diff` with --ignore. A refusal and a fault are an object too, with the file's path.
+them damaged; `list` and `diff` also with --data, `list` with --class, `report` with --top, and `diff` with --ignore. A refusal and a fault are an object too, with the file's path.
 
 Use: checks/objects.py [PROGRAM [CAPTURES]]     (as after `rt run` or `rt ci` in crates/capt; 10,000 random captures in about a minute)
 """
@@ -17,7 +17,7 @@ import model
 from captures import PROGRAM, TOP, VECTORS, Bench, Count, make_shim, run, vector, wanted_of, words_of
 from soak import mutated, some_capture, some_pair
 
-TASKS = ("list", "classed", "blocks", "info", "report", "digest", "check", "check-digest")
+TASKS = ("list", "classed", "blocks", "info", "report", "top", "digest", "check", "check-digest")
 PROTOCOLS = {"udp": 17, "tcp": 6}
 TIME = re.compile(r"(-?\d+)\+(\d+)/(\d+)")
 
@@ -195,7 +195,7 @@ def main():
             for place, content in enumerate(contents):
                 for _ in range(rng.choice([0, 0, 0, 1, 2])):
                     contents[place] = mutated(rng, content, rng.choice(contents))
-            task, allow_cut = rng.choice(("info", "report", "digest", "check", "check-digest", "blocks")), rng.random() < 0.5
+            task, allow_cut = rng.choice(("info", "report", "top", "digest", "check", "check-digest", "blocks")), rng.random() < 0.5
             holds(bench, task, contents[:1] if task == "blocks" else contents, allow_cut)
             holds(bench, rng.choice(("list", "classed")), contents[:1], allow_cut, rng.choice((None, None, 0, 20, 262_144)))
             pair, ignored = some_pair(rng, contents), [kind for kind in ("time", "link", "original") if rng.random() < 0.3]

@@ -696,6 +696,9 @@ completed '--data' capt diff --da
 completed '--ignore' capt diff --i
 completed 'time' capt diff --ignore t
 completed '' capt list --json --data 1
+completed '--top' capt report --t
+completed '' capt report --top 1
+completed '' capt info --t
 
 echo "$passed passed, $failed failed"
 [ "$failed" = 0 ]

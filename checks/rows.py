@@ -11,6 +11,7 @@ import hashlib, itertools, json, os, re, struct, tempfile
 
 from captures import (CARRIED as PACKET, INTERFACE, MICRO_LITTLE, PROGRAM, SECTION, Bench, Count, datagram, make_shim, packet, pcap_header,
                       record, run, vector, wanted_of, words_of)
+import model
 from model import SURVEYS
 from objects import all_objects
 
@@ -265,6 +266,22 @@ def halves(first, second):
 
 for order, form in (((0, 1), "0+512/1024"), ((1, 0), "0+5/10")):
     REPORTED.append((halves(*order), f"joined 1 given-up 0\ntalks 1\ntalk udp {TALK} 3 86 backward 0 0 {times(form)}\n"))
+
+
+# Conversations of 28, 20, 60, 28 and 41 bytes: the one of 60 has 30 each way, and of the two of 28 the first began first. With --top, the one
+# with the most bytes both ways comes first.
+TALKS = of_link(101, at(1, WHOLE), at(2, "45000014 00010000 40ff0000 ffffffff ffffffff"), at(3, ICMP),
+                at(4, "4500001c 00010000 40110000 0a000001 0a000001 00090007 00080000"),
+                at(5, "45000029 00010000 40060000 0a000001 0a000002 00500050 00000000 00000000 50000000 00000000 00"),
+                at(6, "4500001e 00010000 40010000 0a000002 0a000001 03e807d0 000a0000 6869"))
+IN_ORDER = [f"udp {TALK} 1 28 backward 0 0 {times(SECOND)}", f"p255 255.255.255.255 255.255.255.255 forward 1 20 backward 0 0 {times('2+0/1000000')}",
+            f"p1 10.0.0.1 10.0.0.2 forward 1 30 backward 1 30 {times('3+0/1000000', '6+0/1000000')}",
+            f"udp 10.0.0.1:7 10.0.0.1:9 forward 0 0 backward 1 28 {times('4+0/1000000')}",
+            f"tcp 10.0.0.1:80 10.0.0.2:80 forward 1 41 backward 0 0 {times('5+0/1000000')}"]
+BY_BYTES = [IN_ORDER[place] for place in (2, 4, 0, 3, 1)]
+REPORTED.append((TALKS, frames(counted=6, talks=IN_ORDER)))
+# a number, and the conversations that have a line
+TOPPED = [(1, BY_BYTES[:1]), (2, BY_BYTES[:2]), (3, BY_BYTES[:3]), (4, BY_BYTES[:4]), (5, BY_BYTES), (6, BY_BYTES), (4_294_967_295, BY_BYTES)]
 
 
 def alone(kind, talk):
@@ -871,7 +888,9 @@ LINES = [
         "list --class", "list --class=yes a", "list --class --class a", "blocks --class a", "report --class a", "merge --class -o c a",
         "list --json --json a", "list --json=yes a", "blocks --json --data 4 a", "digest --json --data 4 a", "check --json --data 4 a",
         "info --json --data 4 a",
-        "report --json --data 4 a",
+        "report --json --data 4 a", "report --top 0 a", "report --top 00 a", "report --top a", "report --top", "report --top= a", "report --top +1 a",
+        "report --top -1 a", "report --top 1.0 a", "report --top 4294967296 a", "report --top 1 --top 1 a", "report --top=x a", "info --top 1 a",
+        "list --top 1 a", "check --top 1 a", "merge --top 1 -o c a",
         "convert --json --to pcap -o c a", "merge --json -o c a", "join --json -o c a")),
 ]
 
@@ -969,6 +988,16 @@ def main():
         for content, text in REPORTED:
             holds(content[:200], "report", [content], False,
                   lambda status, out, error: (status, error) == (0, b"") and out.endswith(text.encode()))
+        head = frames(counted=6, talks=IN_ORDER).partition("talk ")[0]
+        for most, talks in TOPPED:
+            text = f"{head}{''.join(f'talk {talk}' + chr(10) for talk in talks)}".encode()
+            for by_bytes in (None, (shim, {"PIECE": 1})):
+                seen = run(["report", "--top", str(most), bench.name(bytes.fromhex(TALKS))], program, by_bytes)[:3]
+                count.check(f"report --top {most}", seen[0::2] == (0, b"") and seen[1].endswith(b"\n" + text), seen)
+            answer = model.report([model.File(1, bytes.fromhex(TALKS), False)], most)[0].encode()
+            count.check(f"the model's report --top {most}", answer.endswith(b"\n" + text), answer)
+        holds("five conversations", "top", [TALKS], False, lambda *seen: seen[0::2] == (0, b"") and seen[1].endswith(b"\n" + (
+            head + "".join(f"talk {talk}\n" for talk in BY_BYTES[:2])).encode()))
         for content, told in DESCRIBED:
             holds(content[:200], "classed", [content], False, lambda status, out, error: (status, error) == (0, b"")
                   and [line.partition(" class ")[2] for line in out.decode().splitlines()] == told)

@@ -10,9 +10,9 @@ from concurrent.futures import ProcessPoolExecutor
 import model
 from captures import PROGRAM, VECTORS, WRITING, Bench, datagram, make_shim, run, udp, vector, wanted_of, words_of
 
-TASKS = ["list", "classed", "blocks", "diff", "info", "report", "digest", "check", "check-digest", "merge", "join", "pcap", "pcapng",
+TASKS = ["list", "classed", "blocks", "diff", "info", "report", "top", "digest", "check", "check-digest", "merge", "join", "pcap", "pcapng",
          "merge-shared", "merge-pcap", "join-pcap"]
-MANY = ("info", "report", "digest", "check", "check-digest", "merge", "join", "merge-shared", "merge-pcap", "join-pcap")
+MANY = ("info", "report", "top", "digest", "check", "check-digest", "merge", "join", "merge-shared", "merge-pcap", "join-pcap")
 NUMBERS = [0, 1, 2, 3, 4, 28, 32, 262_144, 262_145, 524_288, 524_292, 2**31, 2**32 - 4, 2**32 - 1]
 LINE = re.compile(rb"refused: file \d+ offset \d+ rule \d+ [a-z-]+\n|fault: (read file \d+ offset \d+|write|memory|open file \d+|create output)\n|")
 MOST_MEMORY = 16 * 1024     # KiB
@@ -194,7 +194,7 @@ def complaint(task, contents, seen, wanted, faults):
         return None if error == b"" and is_unread(task, contents, text, wanted[1]) else "a read that failed isn't on its line"
     if not error.startswith({"GROWTHS": b"fault: memory", "READ": b"fault: read", "WRITE": b"fault: write"}[next(iter(faults))]):
         return "another fault than was made"
-    if task in ("diff", "report", "info") and text and "WRITE" not in faults:
+    if task in ("diff", "report", "top", "info") and text and "WRITE" not in faults:
         return "something was written"
     return None if wanted[1].startswith(text) else "no prefix was written"
 

@@ -27,8 +27,8 @@ ROOTS = {
     "diff": ["cap_commands.DiffText.comparison_of", "cap_commands.DiffText.diff_text_in", "cap_commands.DiffText.diff_refusal", "cap_commands.DiffText.is_same", TELLS],
     "info": ["cap_talks.talks.InfoText.info_text_in", "cap_talks.talks.InfoText.first_refusal", TELLS],
     "report": [
-        "cap_laws.InOrder.text_by_places_in", "cap_laws.InOrder.refusal_by_places", "cap_merge.Files.clocked_run",
-        "cap_merge.Files.endings_of_files", TELLS,
+        "cap_laws.InOrder.text_by_places_in", "cap_laws.InOrder.top_by_places_in", "cap_laws.InOrder.refusal_by_places",
+        "cap_merge.Files.clocked_run", "cap_merge.Files.endings_of_files", TELLS,
     ],
     "digest": ["cap_tool.CheckedNames.ChecksNames"],
     "check": ["cap_tool.CheckedNames.ChecksNames"],

@@ -14,7 +14,7 @@ _capt() {
     fi
     case $before in
         --order) mapfile -t COMPREPLY < <(compgen -W 'big little' -- "$word"); return ;;
-        --data) COMPREPLY=(); return ;;
+        --data | --top) COMPREPLY=(); return ;;
         --ignore) mapfile -t COMPREPLY < <(compgen -W 'time link original' -- "$word"); return ;;
         --to) mapfile -t COMPREPLY < <(compgen -W 'pcap pcapng' -- "$word"); return ;;
     esac
@@ -26,6 +26,7 @@ _capt() {
         diff) options='--allow-cut --explain --ignore --json --data --help' ;;
         digest) options='--allow-cut --explain --json --names --files0-from --verify --help' ;;
         check) options='--allow-cut --explain --digest --json --names --files0-from --help' ;;
+        report) options='--allow-cut --explain --json --top --help' ;;
         *) options='--allow-cut --explain --json --help' ;;
     esac
     if [[ $word == -* ]]; then

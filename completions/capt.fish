@@ -24,6 +24,7 @@ complete -c capt -n '__fish_seen_subcommand_from digest check' -l names -d 'Name
 complete -c capt -n '__fish_seen_subcommand_from digest check' -l files0-from -r -d 'Read the names of captures from a list'
 complete -c capt -n '__fish_seen_subcommand_from digest' -l verify -r -d 'Verify the lines that digest --names printed'
 complete -c capt -n '__fish_seen_subcommand_from list diff' -l data -x -d 'With --json, bytes of each packet that are shown'
+complete -c capt -n '__fish_seen_subcommand_from report' -l top -x -d 'Lines of so many conversations, those with the most bytes'
 complete -c capt -n '__fish_seen_subcommand_from diff' -l ignore -x -a 'time link original' -d 'Let packets differ in this'
 complete -c capt -n '__fish_seen_subcommand_from convert merge join' -l order -x -a 'big little' -d 'Byte order of the output'
 complete -c capt -n '__fish_seen_subcommand_from convert merge join' -l to -x -a 'pcap pcapng' -d 'Format of the output'

@@ -21,7 +21,7 @@ use Rattle.cap_merge.specs.Files.{clocked_run, endings_of_files}
 use Rattle.cap_bytes.specs.declared.formats.Format.{Format}
 use Rattle.cap_bytes.specs.declared.formats.Format.TheVariants.{Pcapng}
 use Rattle.cap_talks.specs.talks.InfoText.{first_refusal, info_text_in}
-use Rattle.cap_talks.specs.talks.ReportText.{report_refusal, report_text_in}
+use Rattle.cap_talks.specs.talks.ReportText.{report_refusal, report_shown_in}
 use Rattle.cap_talks.specs.talks.Telling.{Tells}
 use Rattle.cap_commands.specs.BlockText.{block_list_in, block_refusal}
 use Rattle.cap_commands.specs.ClassText.{list_by}
@@ -86,6 +86,15 @@ abbrev pub shown_by : Form → Option ℕ → ℕ
 shown_by Text count = 16
 shown_by Json count = unwrap_or count 16
 
+-- what a job shows: at most so many bytes of a packet, and the conversations with the most bytes in a report, if so
+-- many of them are asked for
+pub record JobShows : Type 0 where
+  pub bytes : ℕ
+  pub top : Option ℕ
+
+abbrev pub job_shows : Job → JobShows
+job_shows job = record { bytes = shown_by (form_by job.json) job.data; top = job.top }
+
 -- the options of `diff`, by what is ignored, the form, and how many bytes are shown
 abbrev pub diff_options : Ignored → Form → ℕ → DiffOptions
 diff_options ignored form shown = record { ignored = ignored; form = form; most = shown }
@@ -106,14 +115,14 @@ whole_by (Err fault) finding = Err fault
 
 -- What is written, found and returned by a task over files of those bytes, of which a read can fail or not: `list`,
 -- `blocks` and `convert` are of one file, `diff` is of two.
-abbrev pub DoesTask : Task → Ignored → Tail → Form → ℕ → Bool → Order → Option Format → Bool → Bool → List Bool
+abbrev pub DoesTask : Task → Ignored → Tail → Form → JobShows → Bool → Order → Option Format → Bool → Bool → List Bool
     → List (List ℕ) → Finding → List ℕ → Result Unit Fault → List ℕ → Type 0
 DoesTask tasks.List ignored tail form shown classed order to shares digests fails files finding =
-    Prints (list_by classed form shown tail (only_of files)) (list_refusal tail (only_of files))
+    Prints (list_by classed form shown.bytes tail (only_of files)) (list_refusal tail (only_of files))
 DoesTask tasks.Blocks ignored tail form shown classed order to shares digests fails files finding =
     Prints (block_list_in form tail (only_of files)) (block_refusal tail (only_of files))
 DoesTask tasks.Diff ignored tail form shown classed order to shares digests fails files finding =
-    Tells (diff_text_in (diff_options ignored form shown) (cuts_in tail files) (comparison_in ignored tail files))
+    Tells (diff_text_in (diff_options ignored form shown.bytes) (cuts_in tail files) (comparison_in ignored tail files))
     (diff_refusal (comparison_in ignored tail files))
 DoesTask tasks.Digest ignored tail form shown classed order to shares digests fails files finding =
     λ old result new. WritesChecks lines.Digest form tail no_names (opened_files fails files) old
@@ -124,7 +133,7 @@ DoesTask tasks.Check ignored tail form shown classed order to shares digests fai
 DoesTask tasks.Info ignored tail form shown classed order to shares digests fails files finding =
     Tells (info_text_in form tail files) (first_refusal tail 1 files)
 DoesTask tasks.Report ignored tail form shown classed order to shares digests fails files finding =
-    Tells (report_text_in form (length files) (endings_of_files tail files) (clocked_run tail files))
+    Tells (report_shown_in form shown.top (length files) (endings_of_files tail files) (clocked_run tail files))
     (report_refusal (clocked_run tail files))
 DoesTask tasks.Convert ignored tail form shown classed order None shares digests fails files finding =
     λ old result new. ⊥
@@ -141,8 +150,8 @@ DoesTask tasks.Join ignored tail form shown classed order to shares digests fail
 -- digest.
 abbrev pub Does : Job → List Bool → List (List ℕ) → Finding → List ℕ → Result Unit Fault → List ℕ → Type 0
 Does job =
-    DoesTask job.task job.ignored (tail_of job.allow_cut) (form_by job.json) (shown_by (form_by job.json) job.data)
-    job.class job.order job.to job.shares job.digests
+    DoesTask job.task job.ignored (tail_of job.allow_cut) (form_by job.json) (job_shows job) job.class job.order job.to
+    job.shares job.digests
 
 -- what is found by whether two captures have the same packets
 abbrev pub finding_by : Bool → Finding

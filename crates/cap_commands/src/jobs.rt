@@ -25,7 +25,7 @@ use cap_check::{CheckLine, check_all_to};
 use cap_line::{Job, Task};
 use cap_print::Form;
 use cap_source::Format;
-use cap_talks::{ReportLeft, file_lines_and_cuts, report_and_count};
+use cap_talks::{ReportLeft, ReportOptions, file_lines_and_cuts, report_with};
 use std::alloc::Global;
 
 /// What a job that was done found, by which its run ends.
@@ -320,8 +320,12 @@ pub fn job_to<R: Source, W: Sink>(
         }
         Task::Info => printed(file_lines_and_cuts(alloc, sources, tail, form, writer)),
         Task::Report => {
-            let answer = report_and_count(alloc, sources, tail, form, counts, writer);
-            reported(answer)
+            let options = ReportOptions {
+                form,
+                top: job.top,
+                counts,
+            };
+            reported(report_with(alloc, sources, tail, options, writer))
         }
         Task::Convert => {
             let format = job.to.unwrap();

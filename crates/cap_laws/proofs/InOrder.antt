@@ -25,14 +25,17 @@ use Rattle.cap_talks.proofs.LoneFragments.{no-lone}
 use Rattle.cap_class.proofs.Recount.{place_of}
 use Rattle.cap_class.specs.Classes.{classes, classes_in}
 use Rattle.cap_laws.specs.InOrder.{ByPlaces, IsByPlaces, ReportByPlaces, refusal_by_places, refusal_with}
-use Rattle.cap_laws.specs.InOrder.{text_by_places_in, unit_after, unit_by_places, units_at}
+use Rattle.cap_laws.specs.InOrder.{text_by_places_in, top_by_places_in, unit_after, unit_by_places, units_at}
 use Rattle.cap_talks.specs.talks.InfoText.{or_else}
 use Rattle.cap_class.specs.Runs.{with_item, taken_after}
 use Rattle.cap_talks.specs.talks.ReportText.{refusal_after, refusal_here}
 use Rattle.cap_class.specs.Taken.{Taken, events_classified, events_of, Classification, plain, datagram, fragment}
 use Rattle.cap_class.specs.Taken.{classify}
 use Rattle.cap_class.specs.Taken.{stamped_of}
-use Rattle.cap_talks.specs.table.TakenText.{body_by_in, body_text_in, files_part_in}
+use Rattle.cap_talks.specs.table.Conversations.{rows_of}
+use Rattle.cap_talks.specs.table.TakenText.{body_by_in, body_showing_in, body_text_in, counts_by_in, files_part_in}
+use Rattle.cap_talks.specs.table.TalkLines.{talk_texts_in}
+use Rattle.cap_talks.specs.table.TopRows.{top_rows}
 
 turned_by : (r s : Ordering) → r ≡ ordering_reverse s → is_gt s ≡ false → is_lt r ≡ false
 turned_by r s e h = grind arith
@@ -200,7 +203,7 @@ refusal-run (a ∷ run) clock xs h p =
     λ i. or_else (here i) (later i)
 
 pub report-by-places : ReportByPlaces
-unfolding body_text_in text_by_places_in
+unfolding body_showing_in body_text_in text_by_places_in top_by_places_in
 report-by-places count endings files =
     let r = run item_time is_refusal (map opened_track files) in
     let rises = run-rises item_time is_refusal files in
@@ -210,5 +213,8 @@ report-by-places count endings files =
     record {
       text = λ form i. files_part_in form count (Some endings) xs
           ++ body_by_in form xs (is.classes_are i) (is.units_are i) (is.joined i) (is.given_up i);
+      top = λ form most i. files_part_in form count (Some endings) xs
+          ++ (counts_by_in form xs (is.classes_are i) (is.units_are i) (is.joined i) (is.given_up i)
+          ++ talk_texts_in form (top_rows most (rows_of (is.units_are i))));
       refusal = refusal-run r None [] rises places-none;
     }

@@ -21,9 +21,12 @@ use Rattle.cap_class.specs.Classes.{classes, classes_in}
 use Rattle.cap_join.specs.Completed.{completed_pieces_at, if_complete}
 use Rattle.cap_talks.specs.talks.InfoText.{or_else}
 use Rattle.cap_class.specs.Runs.{taken_after, with_item}
-use Rattle.cap_talks.specs.talks.ReportText.{report_refusal, report_text_in}
+use Rattle.cap_talks.specs.table.Conversations.{rows_of}
+use Rattle.cap_talks.specs.table.TalkLines.{talk_texts_in}
+use Rattle.cap_talks.specs.table.TopRows.{top_rows}
+use Rattle.cap_talks.specs.talks.ReportText.{report_refusal, report_text_in, report_top_in}
 use Rattle.cap_class.specs.Taken.{Taken, events_of, Classification, plain, datagram, fragment, classify, stamped_of}
-use Rattle.cap_talks.specs.table.TakenText.{body_by_in, files_part_in}
+use Rattle.cap_talks.specs.table.TakenText.{body_by_in, counts_by_in, files_part_in}
 
 -- what is known of the fragments among some packets
 abbrev pub marks_of : List Taken → List Mark
@@ -73,6 +76,14 @@ text_by_places_in form count endings run =
     files_part_in form count (Some endings) xs
     ++ body_by_in form xs (classes_at xs) (units_at xs) (counted_in (groups_at xs)) (times_given_up (marks_of xs))
 
+-- the same with the lines of the conversations with the most bytes alone, so many of them
+unfoldable pub top_by_places_in : Form → ℕ → ℕ → (ℕ → FileEnd) → List (Clocked Item) → List ℕ
+top_by_places_in form most count endings run =
+    let xs = taken_after [] run in
+    files_part_in form count (Some endings) xs
+    ++ (counts_by_in form xs (classes_at xs) (units_at xs) (counted_in (groups_at xs)) (times_given_up (marks_of xs))
+    ++ talk_texts_in form (top_rows most (rows_of (units_at xs))))
+
 -- the refusal of a packet that would open a conversation too many, and the one that ends a run
 abbrev pub refusal_with : List Taken → Option Stamp → Item → Option Refusal
 refusal_with xs clock (packet meta frame) =
@@ -86,9 +97,12 @@ refusal_by_places xs [] = None
 refusal_by_places xs (x ∷ run) = or_else (refusal_with xs x.clock x.item)
     (refusal_by_places (with_item x.clock x.item xs) run)
 
--- The report of a run of files, in either form, and the refusal that is returned instead, are those by places.
+-- The report of a run of files, in either form, with the lines of all conversations or of those with the most bytes,
+-- and the refusal that is returned instead, are those by places.
 pub record ReportsByPlaces (count : ℕ) (endings : ℕ → FileEnd) (run : List (Clocked Item)) : Type 0 where
   pub text : (form : Form) → report_text_in form count endings run ≡ text_by_places_in form count endings run
+  pub top : (form : Form) (most : ℕ)
+      → report_top_in form most count endings run ≡ top_by_places_in form most count endings run
   pub refusal : report_refusal run ≡ refusal_by_places [] run
 
 abbrev pub ReportByPlaces : Type 0

@@ -110,6 +110,10 @@ option_rule name = record (new_rule name) { long = Some name; value_names = 1 }
 abbrev pub data_rule : Rule
 data_rule = option_rule (codes "data")
 
+-- the option `--top`
+abbrev pub top_rule : Rule
+top_rule = option_rule (codes "top")
+
 -- the option `--files0-from`
 abbrev pub list_rule : Rule
 list_rule = option_rule (codes "files0-from")
@@ -158,9 +162,9 @@ check_app = surveying_app (with_rule (showing_app (codes "check")) (flag_rule (c
 abbrev pub info_app : App
 info_app = with_rule (showing_app (codes "info")) files_rule
 
--- `report FILE..`
+-- `report [--top N] FILE..`
 abbrev pub report_app : App
-report_app = with_rule (showing_app (codes "report")) files_rule
+report_app = with_rule (with_rule (showing_app (codes "report")) top_rule) files_rule
 
 -- the subcommand of that name with `[--order ORDER] -o OUT [--whole]`, before its files
 abbrev pub writing_app : Text → ArgumentNames → App

@@ -8,7 +8,7 @@ use Rattle.clap.specs.declared.error.kind.ErrorKind.TheVariants as kind
 use Rattle.cap_line.specs.Command.{IsCapt}
 use Rattle.cap_bytes.specs.declared.formats.Format.{Format}
 use Rattle.cap_line.specs.Jobs.{IsShownJob, IsWholeJob, can_replace, can_share, can_show, can_verify, data_by}
-use Rattle.cap_line.specs.Jobs.{format_by, ignored_by, inputs_fault, is_whole_task, order_by, task_by}
+use Rattle.cap_line.specs.Jobs.{format_by, ignored_by, inputs_fault, is_whole_task, order_by, task_by, top_by}
 use Rattle.cap_line.specs.declared.jobs.Job.{Job}
 use Rattle.cap_line.specs.declared.jobs.Task.{Task}
 use Rattle.cap_line.specs.declared.faults.LineFault.{LineFault}
@@ -49,6 +49,10 @@ to_in rows = format_by (first_of (codes "to") rows)
 abbrev pub data_in : List Row → Result (Option ℕ) LineFault
 data_in rows = data_by (first_of (codes "data") rows)
 
+-- how many conversations they ask for
+abbrev pub top_in : List Row → Result (Option ℕ) LineFault
+top_in rows = top_by (first_of (codes "top") rows)
+
 -- The flag of that name was given or not.
 abbrev pub Flags : Bool → Text → List Row → Type 0
 Flags given name rows = IsTrue given ↔ (first_of name rows ≡ Some (codes "true"))
@@ -74,10 +78,10 @@ CannotVerify rows =
     (names : Bool) × Flags names (codes "names") rows
     × IsFalse (can_verify (is_some (verify_in rows)) (is_some (list_in rows)) names)
 
--- What is to be shown is no number of bytes, or a task can't show it.
+-- What is to be shown is no number of bytes or of conversations, or a task can't show it.
 abbrev pub CannotShow : Text → List Row → Type 0
 CannotShow name rows =
-    (data_in rows ≡ Err Line)
+    (data_in rows ≡ Err Line) ⊎ (top_in rows ≡ Err Line)
     ⊎ ((task : Task) × (json : Bool) × (count : Option ℕ) × (task_by name ≡ Some task)
     × Flags json (codes "json") rows × (data_in rows ≡ Ok count) × IsFalse (can_show task json count))
 
@@ -105,6 +109,7 @@ pub record HasRows (task : Task) (rows : List Row) (job : Job) : Type 0 where
   pub list : option_map (λ l. l.now) job.list ≡ list_in rows
   pub verify : option_map (λ v. v.now) job.verify ≡ verify_in rows
   pub count : data_in rows ≡ Ok job.data
+  pub top : top_in rows ≡ Ok job.top
   pub ignored : job.ignored ≡ ignored_by (names_in (codes "ignore") rows)
 
 -- What a subcommand of that name with those rows gives: a whole job, or the first fault. A name that is no task's, a

@@ -2,7 +2,7 @@
 use Rattle.std.specs.Prelude.{◌&&◌, ◌||◌, ◌==◌, ◌≤◌, ℕ, not, Bool, true, false, List, length, codes, count_by, Option}
 use Rattle.std.specs.Prelude.{Some, None, is_some, Result, Ok, Err, if◌then◌else◌, nat_le, nat_lt, option_map, vec_len}
 use Rattle.std.specs.Prelude.{IsTrue, IfSome, IsSome}
-use Rattle.std.specs.Option.{option_or}
+use Rattle.std.specs.Option.{option_map_or, option_or}
 use Rattle.std.specs.Char.{is_ascii_digit}
 use Rattle.std.specs.Str.{bytes_eq}
 use Rattle.std.specs.Str.Parse.{digits_value}
@@ -134,6 +134,12 @@ count_in text = if is_digits text && nat_le (digits_value 10 text) 262144 then S
 abbrev pub data_by : Option (List ℕ) → Result (Option ℕ) LineFault
 data_by None = Ok None
 data_by (Some text) = if is_some (count_in text) then Ok (count_in text) else Err Line
+
+-- how many conversations a text asks for, if one is given: a number from 1 to 4,294,967,295; any other text is refused
+abbrev pub top_by : Option (List ℕ) → Result (Option ℕ) LineFault
+top_by None = Ok None
+top_by (Some text) =
+    if option_map_or (λ most. nat_lt 0 most) (number_in text) false then Ok (number_in text) else Err Line
 
 -- what is ignored of packets that are compared, by the words that name it
 abbrev pub ignored_by : List (List ℕ) → Ignored

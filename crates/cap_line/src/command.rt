@@ -8,7 +8,7 @@ ghost use Rattle.cap_line.specs.Command.{IsToRule, IsWriting, blocks_app, capt_a
 ghost use Rattle.cap_line.specs.Command.{cutting_app, data_rule, digest_app, file_rule, files_rule, flag_rule};
 ghost use Rattle.cap_line.specs.Command.{info_app, list_app, list_rule, listed_rule, listing_app, option_rule};
 ghost use Rattle.cap_line.specs.Command.{out_rule, reading_app, report_app, required_rule, showing_app};
-ghost use Rattle.cap_line.specs.Command.{surveying_app, verify_rule};
+ghost use Rattle.cap_line.specs.Command.{surveying_app, top_rule, verify_rule};
 
 use crate::texts;
 use crate::usage::USAGE;
@@ -99,6 +99,14 @@ fn data<'a>(alloc: Global) -> Arg<'a>
     ensures local { result.global ≡ false }
 {
     option(alloc, "data", "N", texts::DATA_HELP)
+}
+
+// `--top`
+fn top<'a>(alloc: Global) -> Arg<'a>
+    ensures rule { rule_of result ≡ top_rule }
+    ensures local { result.global ≡ false }
+{
+    option(alloc, "top", "N", texts::TOP_HELP)
 }
 
 // `--files0-from`
@@ -419,10 +427,8 @@ fn report<'a>(alloc: Global) -> Result<Command<'a>, AllocError>
     ensures app { IfOk result (λ c. app_of c ≡ report_app) }
     ensures local { IfOk result (λ c. (fields_of c).has_globals ≡ false) }
 {
-    with_argument(
-        showing(alloc, "report", texts::REPORT_ABOUT, texts::REPORT_HELP),
-        files(alloc),
-    )
+    let before = showing(alloc, "report", texts::REPORT_ABOUT, texts::REPORT_HELP);
+    with_argument(with_argument(before, top(alloc)), files(alloc))
 }
 
 // `convert`

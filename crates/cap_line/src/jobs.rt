@@ -5,7 +5,7 @@ ghost use Rattle.std.specs.List.{list_all, list_any};
 ghost use Rattle.std.specs.Str.{bytes_eq};
 ghost use Rattle.cap_line.specs.Jobs.{can_replace, can_share, can_show, can_verify, count_in, data_by, files_fault};
 ghost use Rattle.cap_line.specs.Jobs.{format_by, ignored_by, inputs_fault, is_also_file, is_digits, is_surveying};
-ghost use Rattle.cap_line.specs.Jobs.{is_whole_task, most_files, number_in, order_by, task_by};
+ghost use Rattle.cap_line.specs.Jobs.{is_whole_task, most_files, number_in, order_by, task_by, top_by};
 
 use crate::faults::LineFault;
 use cap_bytes::{Format, Order};
@@ -92,6 +92,9 @@ pub struct Job<'a> {
     pub json: bool,
     /// How many bytes of each packet are shown at most, if that was asked for: from 0 to 262,144.
     pub data: Option<u32>,
+    /// How many conversations have a line in `Report` at most, those with the most bytes, if that was asked for: from 1
+    /// on.
+    pub top: Option<u32>,
     /// In what packets that are compared may differ.
     pub ignored: Ignored,
     /// Whether each line of `List` says of which class its packet is, and why.
@@ -234,6 +237,20 @@ pub fn data_of(text: Option<&str>) -> Result<Option<u32>, LineFault>
         Some(text) => match count_of(text) {
             Some(count) => Ok(Some(count)),
             None => Err(LineFault::Line),
+        },
+        None => Ok(None),
+    }
+}
+
+/// How many conversations a text asks for, if one is given: a number from 1 to 4,294,967,295 in decimal digits alone,
+/// before which zeros may stand. `Line` comes if it isn't one.
+pub fn top_of(text: Option<&str>) -> Result<Option<u32>, LineFault>
+    ensures { result ≡ top_by (option_map (λ o. o.now) text.entry) }
+{
+    match text {
+        Some(text) => match number_of(text) {
+            Some(most) if most > 0 => Ok(Some(most)),
+            _ => Err(LineFault::Line),
         },
         None => Ok(None),
     }

@@ -15,7 +15,7 @@ pub use crate::faults::LineFault;
 pub use crate::jobs::{
     Ignored, Job, NOTHING_IGNORED, Task, can_replace, can_share, can_show, can_verify, check_files,
     check_inputs, data_of, files_limit, format_of, ignored_of, is_surveying, is_whole, number_of,
-    order_of, standard_inputs, task_of,
+    order_of, standard_inputs, task_of, top_of,
 };
 pub use crate::shown::{escape, escape_lines, is_hidden};
 pub use crate::texts::VERSION;

@@ -24,8 +24,12 @@ counted in a conversation. J datagrams were joined of fragments; G groups of
 fragments were given up, each the oldest of 1,024. A is the lesser of the two
 ends, and forward is from A to B. At a terminal, or with --explain, a line on
 standard error counts the IPv6, the ARP and the other packets of not-ipv4.
+With --top N, only the N conversations with the most bytes, both ways, have a
+talk line, the greatest first; of equal bytes, the one that began first. C
+counts all.
 
 Examples: capt report morning.pcap evening.pcapng
+          capt report --top 10 morning.pcap
           set -o pipefail; zcat trace.pcap.gz | capt report -";
 
 pub(crate) const INFO_ABOUT: &str = "Prints a line for each capture";
@@ -218,6 +222,10 @@ line: lines that capt digest --names printed";
 
 pub(crate) const DATA_HELP: &str = "With --json, show at most N bytes of a packet, from
 0 to 262144, default 16";
+
+pub(crate) const TOP_HELP: &str = "Print a line for each of the N conversations with
+the most bytes, the greatest first, and for no other;
+N is from 1 on";
 
 pub(crate) const IGNORE_HELP: &str = "What may differ";
 

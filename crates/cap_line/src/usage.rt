@@ -4,7 +4,7 @@
 pub const USAGE: &str = "Reads packet captures, pcap 2.4 and pcapng 1.0 and 1.2, reports on them,
 compares and checks them, and converts, merges and joins them.
 
-Usage: capt report [--allow-cut] [--json] FILE...
+Usage: capt report [--allow-cut] [--json] [--top N] FILE...
        capt info [--allow-cut] [--json] FILE...
        capt list [--allow-cut] [--class] [--json [--data N]] FILE
        capt blocks [--allow-cut] [--json] FILE
@@ -41,6 +41,8 @@ Options:
                  JSON Lines
       --data N   Of list and diff with --json: show N bytes of each packet,
                  default 16
+      --top N    Of report: print a line for the N conversations with the most
+                 bytes, the greatest first, and for no others
       --ignore KIND
                  Of diff: let packets differ in KIND, which is time, link or
                  original
@@ -84,6 +86,13 @@ For more information, try '--help'.
 // What is printed for `--data` with what isn't a number that it takes.
 pub(crate) const DATA_NUMBER: &str =
     "error: invalid value for '--data <N>': no number from 0 to 262144
+
+For more information, try '--help'.
+";
+
+// What is printed for `--top` with what isn't a number that it takes.
+pub(crate) const TOP_NUMBER: &str =
+    "error: invalid value for '--top <N>': no number from 1 to 4294967295
 
 For more information, try '--help'.
 ";

@@ -12,12 +12,12 @@ use crate::command::capt;
 use crate::faults::LineFault;
 use crate::jobs::{
     Ignored, Job, NOTHING_IGNORED, Task, can_replace, can_share, can_show, can_verify,
-    check_inputs, data_of, format_of, ignored_of, is_whole, order_of, task_of,
+    check_inputs, data_of, format_of, ignored_of, is_whole, order_of, task_of, top_of,
 };
 use crate::shown::{escape, escape_lines};
 use crate::usage::{
     DATA_ALONE, DATA_NUMBER, FILES_BESIDE_LIST, FILES_BESIDE_VERIFY, LIST_BESIDE_VERIFY,
-    NAMES_BESIDE_VERIFY, NO_FILES, SHARE_PCAP, TALKS_TIP, WHOLE_DASH, WRITE_TIP,
+    NAMES_BESIDE_VERIFY, NO_FILES, SHARE_PCAP, TALKS_TIP, TOP_NUMBER, WHOLE_DASH, WRITE_TIP,
 };
 use clap::error::ErrorKind;
 use clap::{ArgMatches, Error};
@@ -97,9 +97,9 @@ fn said_by<S: AsStr>(alloc: Global, error: Error, words: &[S]) -> Option<String>
 }
 
 // What is wrong with a line that clap takes and that gives no job, by the matches of its subcommand: the text of
-// `--data` is no number, or is one without `--json`; a pcap file is to share interfaces; standard output can't take its
-// name once all is done; `--verify` has beside it what it can't have; there are files beside a list of them; or there
-// is neither.
+// `--data` is no number, or is one without `--json`; that of `--top` is no number; a pcap file is to share interfaces;
+// standard output can't take its name once all is done; `--verify` has beside it what it can't have; there are files
+// beside a list of them; or there is neither.
 fn line_text(matches: &ArgMatches<'_>) -> &'static str {
     if let Some(text) = text_of(matches, "data") {
         return if data_of(Some(text)).is_ok() {
@@ -107,6 +107,9 @@ fn line_text(matches: &ArgMatches<'_>) -> &'static str {
         } else {
             DATA_NUMBER
         };
+    }
+    if top_of(text_of(matches, "top")).is_err() {
+        return TOP_NUMBER;
     }
     let shares = is_set(text_of(matches, "share-interfaces"));
     if !can_share(shares, format_of(text_of(matches, "to"))) {
@@ -230,6 +233,7 @@ fn job_of<'a>(alloc: Global, name: &str, matches: &ArgMatches<'a>) -> Result<Job
         return Err(LineFault::Line);
     }
     let data = data_of(text_of(matches, "data"))?;
+    let top = top_of(text_of(matches, "top"))?;
     if !can_show(task, json, data) {
         return Err(LineFault::Line);
     }
@@ -247,6 +251,7 @@ fn job_of<'a>(alloc: Global, name: &str, matches: &ArgMatches<'a>) -> Result<Job
         whole,
         json,
         data,
+        top,
         ignored: ignored_in(matches),
         class: is_set(text_of(matches, "class")),
         digests: is_set(text_of(matches, "digest")),

@@ -4,7 +4,7 @@ use cap_bytes::Order;
 use cap_line::{
     Ignored, LineFault, Task, can_replace, can_share, can_show, can_verify, check_files,
     check_inputs, data_of, files_limit, format_of, ignored_of, is_surveying, is_whole, number_of,
-    order_of, standard_inputs, task_of, unescape,
+    order_of, standard_inputs, task_of, top_of, unescape,
 };
 use cap_source::Format;
 
@@ -141,6 +141,24 @@ const COUNTS: [(Option<&str>, Result<Option<u32>, LineFault>); 12] = [
 fn bytes_shown_are_a_number(rt: HostRuntime) {
     for (text, count) in &COUNTS {
         same!(&rt; data_of(*text), *count, *text);
+    }
+}
+
+// Texts of how many conversations are shown, and what is read of them.
+const TOPS: [(Option<&str>, Result<Option<u32>, LineFault>); 7] = [
+    (None, Ok(None)),
+    (Some("1"), Ok(Some(1))),
+    (Some("007"), Ok(Some(7))),
+    (Some("4294967295"), Ok(Some(4_294_967_295))),
+    (Some("4294967296"), Err(LineFault::Line)),
+    (Some("00"), Err(LineFault::Line)),
+    (Some("+1"), Err(LineFault::Line)),
+];
+
+#[test]
+fn conversations_shown_are_a_number(rt: HostRuntime) {
+    for (text, most) in &TOPS {
+        same!(&rt; top_of(*text), *most, *text);
     }
 }
 

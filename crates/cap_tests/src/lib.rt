@@ -33,6 +33,8 @@ mod report;
 #[cfg(test)]
 mod steps;
 #[cfg(test)]
+mod top;
+#[cfg(test)]
 mod words;
 #[cfg(test)]
 mod write;

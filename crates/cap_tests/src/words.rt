@@ -29,6 +29,19 @@ fn always_memory_json_is_asked_for(rt: HostRuntime) {
     holds!(&rt; message(rt.alloc(), signed.as_slice()).is_some());
 }
 
+// What is read of a line that asks for the conversations with the most bytes, and what isn't a job of it.
+#[test]
+fn always_memory_conversations_are_asked_for(rt: HostRuntime) {
+    let words = ["capt", "report", "--top", "3", "a.pcap"];
+    match parse(rt.alloc(), words.as_slice()) {
+        Ok(job) => same!(&rt; (job.task, job.top), (Task::Report, Some(3))),
+        Err(fault) => panic!(&rt; "{fault}"),
+    }
+    let none = ["capt", "report", "--top=0", "a.pcap"];
+    same!(&rt; parse(rt.alloc(), none.as_slice()).err(), Some(LineFault::Line));
+    holds!(&rt; message(rt.alloc(), none.as_slice()).is_some());
+}
+
 // Two captures are compared, in the order in which they are named, and no other number of them.
 #[test]
 fn always_memory_two_captures_are_compared(rt: HostRuntime) {

@@ -32,7 +32,7 @@ returns-in-Convert-clause-text c = search rules
 pub returns-in-Report-clause-left : goal.returns-in-Report-clause-left
 returns-in-Report-clause-left g c =
     report-job c.args.job.now c.tail_of-tail.result (map g.R.Source.coming c.args.sources.items) c.args.counts
-    (IsTrue (list_all g.R.Source.tells_coming c.args.sources.items)) c.report_and_count-answer.result
+    (IsTrue (list_all g.R.Source.tells_coming c.args.sources.items)) c.report_with.result
     (length c.args.sources.items) c.reported.result c.in-Report.is c.tail_of-tail.ensures
     (sym (length-map c.args.sources.items g.R.Source.coming)) c.reported.ensures
-    c.report_and_count-answer.ensures.cuts c.report_and_count-answer.ensures.networks
+    c.report_with.ensures.cuts c.report_with.ensures.networks

@@ -13,7 +13,7 @@ returns c =
     let taken : inputs_fault c.in-Some.task (files_in rows) (names_file_in rows) (out_in rows) ≡ Ok tt =
     grind (arith, common_steps) in
     let count : length (files_in rows) ≡ vec_len c.in-Ok.files = grind (arith, common_steps) in
-    let named : option_or (option_map (λ v. v.now) c.text_of-7.result) (option_map (λ l. l.now) c.text_of-6.result)
+    let named : option_or (option_map (λ v. v.now) c.text_of-8.result) (option_map (λ l. l.now) c.text_of-7.result)
     ≡ names_file_in rows = grind (arith, common_steps) in
     let whole = taken-is c.in-Some.task (files_in rows) (names_file_in rows) _ (out_in rows) _ taken count named in (
       c.in-Some.task,

@@ -33,7 +33,8 @@ unfolding tally_text_in
 returns-clause-text g c = λ rows shows w.
     let t = c.self.inside in
     let e = c.in_ok-put_counts.ensures in
-    let shows_inside = subst (λ (n : TallyState). Shows n.talks.rows c.args.shown.now rows) (sym c.self.view_is) shows in
+    let shows_inside = subst (λ (n : TallyState). Shows n.talks.rows c.args.shown.now rows) (sym c.self.view_is)
+    shows in
     rw (← c.self.view_is)
     (Prints-behind None (g.W.Sink.held c.args.writer.now) (g.W.Sink.held c.put_counts.new.writer)
     (g.W.Sink.held c.put_talks.new.writer)
