@@ -110,15 +110,14 @@ is-file files count place is within =
     (is-numbered 1 count place within))
 
 -- of files that were merged
-pub Drops-merged : {comments : Bool} {A : Type 0} (reader : A
-    → ReaderFacts) (tail : Tail) (sources : List A) (ps : List Part) (new : Feed)
-    (result : Result (Unit {0}) Fault) (left : DroppedInfo)
+pub Drops-merged : {comments : Bool} {A : Type 0} (reader : A → ReaderFacts) (tail : Tail) (sources : List A)
+    (ps : List Part) (new : Feed) (result : Result (Unit {0}) Fault) (left : DroppedInfo)
     → IsCountedRun comments tail (map reader sources) ps → FeedKeeps (merged_feed ps) new
     → OnOk result (IsTrue (merged_feed ps).told → SameEndings (merged_feed ps) new)
     → OnOk result (LeavesOut new.endings (length new.files) left)
     → OnOk result (IsTrue (list_all (λ s. (reader s).told) sources)
     → LeavesOut (counted_endings comments tail (map (λ s. (reader s).bytes) sources)) (length sources) left)
-Drops-merged reader tail sources ps new (Ok x) left u keeps ends is = λ t.
+Drops-merged {comments = comments} reader tail sources ps new (Ok x) left u keeps ends is = λ t.
     let told = told-readers reader tail sources ps u t in
     let count : length new.files ≡ length sources =
     ap length (keeps.files ∙ u.files)
