@@ -199,8 +199,8 @@ pub fn json_words()
 {}
 
 /// The line of a refusal, of a read that failed, of a file that couldn't be opened, of a line of a list that isn't
-/// taken and of what explains how a run ended is the text of a value of JSON (RFC 8259), whatever characters the name of
-/// the file and the explanation have.
+/// taken and of what explains how a run ended is the text of a value of JSON (RFC 8259), whatever characters the name
+/// of the file and the explanation have.
 pub fn json_faults()
     ensures refused { IsRefusedLine }
     ensures failed { IsReadLine }
