@@ -183,9 +183,9 @@ pub fn convert_and_count<R: Source, W: Sink>(
 /// How the packets of a run are written.
 #[derive(Clone, Copy, Debug, PartialEq, Eq)]
 pub enum RunForm {
-    /// As a pcap file.
+    /// As a pcap file (draft-ietf-opsawg-pcap, 4 and 5).
     Pcap,
-    /// As a pcapng file, in which the interfaces of each file are its own.
+    /// As a pcapng file (draft-ietf-opsawg-pcapng, 4), in which the interfaces of each file are its own.
     Pcapng,
     /// As a pcapng file, in which interfaces with the same link, snaplen, resolution and offset are one.
     SharedPcapng,

@@ -209,7 +209,7 @@ first-beginning comments tail file offset bytes =
     (interface_of (header_at bytes)))
     (first-with fresh (if comments then Some 0 else None) (block_items_from None tail file offset bytes))
 
--- The end of a file of which the blocks are to come is the same but for the comments, however many were counted.
+-- However many comments were counted, nothing else changes of the end of a file whose blocks are to come.
 ending-at : (p : SectionProgress) (c : Option ℕ) (block : Block) (body : List ℕ) (content : Result BlockContent Rule)
     (rest : List (pieces.PieceItem Block))
     → ((q : SectionProgress) (d : Option ℕ)

@@ -26,8 +26,8 @@ pub fn blocks_by_places()
     ensures kinds { KindsByPlaces }
 {}
 
-/// Whether the comments of a file are counted or not, how it ends is the same but for them. Their number is known
-/// exactly if they are counted and the file is a pcapng file.
+/// Counting the comments of a file changes nothing else of how the file ends. Their number is known exactly if they are
+/// counted and the file is a pcapng file.
 pub fn comments_apart()
     ensures { CommentsApart }
 {}

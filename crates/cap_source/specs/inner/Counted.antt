@@ -8,8 +8,8 @@ use Rattle.cap_source.specs.declared.feeds.FileEnd.{FileEnd}
 abbrev pub without_comments : FileEnd → FileEnd
 without_comments end = record end { comments = None }
 
--- Whether the comments of a file are counted or not, it ends the same but for them. Their number is known exactly if
--- they are counted and it is a pcapng file.
+-- Counting the comments of a file changes nothing else of how the file ends. Their number is known exactly if they are
+-- counted and it is a pcapng file.
 abbrev pub CommentsApart : Type 0
 CommentsApart = (comments : Bool) (tail : Tail) (file : ℕ) (bytes : List ℕ)
     → (without_comments (counted_ending comments tail file bytes) ≡ file_ending tail file bytes)

@@ -258,11 +258,10 @@ pub fn report_and_count<R: Source, W: Sink>(
     report_with(alloc, sources, tail, options, writer)
 }
 
-/// Writes what `report_in` writes, but for the lines of conversations if the options have a number: then those with the
-/// most bytes, both ways, have one each, so many of them at most. The conversation with the most bytes comes first, and
-/// those of equal bytes keep their order; the line `talks` counts all. The conversations with the most bytes are found
-/// once all packets are taken: nothing is written if a growth is refused then. What is returned is what
-/// `report_and_count` returns.
+/// Writes what `report_in` writes. If the options have a number, only so many conversations have a line: those with the
+/// most bytes, both ways. The conversation with the most bytes comes first, and those of equal bytes keep their order;
+/// the line `talks` counts all. The conversations with the most bytes are found once all packets are taken: nothing is
+/// written if a growth is refused then. It returns what `report_and_count` returns.
 pub fn report_with<R: Source, W: Sink>(
     alloc: Global,
     sources: Vec<R>,
