@@ -1,3 +1,5 @@
 pub mod Recount
 pub mod Steps
 pub mod Moves
+pub mod Ipv6Packets
+pub mod Seen

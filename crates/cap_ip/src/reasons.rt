@@ -13,9 +13,9 @@ use crate::ports::{LEAST_TCP_HEADER, UDP, UDP_HEADER};
 pub enum Reason {
     /// The frame ends inside its link header or a tag, and wasn't captured whole.
     LinkShort,
-    /// The packet, or what was captured of it, ends inside its IPv4 header.
+    /// The packet, or what was captured of it, ends inside its IPv4 header, or its IPv6 header of 40 bytes.
     HeaderShort,
-    /// The version isn't 4.
+    /// The version isn't 4, or not 6 where IPv6 was announced.
     Version,
     /// The length of the IPv4 header is below 20 bytes.
     HeaderLength,
@@ -23,16 +23,20 @@ pub enum Reason {
     LengthZero,
     /// The total length is below the length of the IPv4 header.
     LengthShort,
-    /// The packet was captured whole, and has fewer bytes than its total length.
+    /// The packet was captured whole, and has fewer bytes than its total length, or than its IPv6 header and payload.
     BeyondFrame,
     /// A fragment has no data.
     FragmentEmpty,
     /// More fragments follow a fragment the length of whose data isn't a multiple of 8 bytes.
     FragmentBlock,
-    /// A fragment ends past byte 65,515 of its datagram's data, the end of the longest one.
+    /// A fragment ends past byte 65,515 of its datagram's data, the end of the longest one, or past 65,535 in IPv6.
     FragmentBeyond,
     /// Some data of a fragment wasn't captured.
     FragmentCut,
+    /// An extension header of IPv6 reaches past the payload.
+    ExtensionPast,
+    /// An extension header of IPv6 wasn't captured whole.
+    ExtensionCut,
     /// The data of the datagram, or what was captured of it, is shorter than a UDP header, 8 bytes.
     UdpShort,
     /// The UDP length is below 8, or above the length of the datagram's data.
@@ -61,6 +65,8 @@ impl Reason {
             Reason::FragmentBlock => "fragment-block",
             Reason::FragmentBeyond => "fragment-beyond",
             Reason::FragmentCut => "fragment-cut",
+            Reason::ExtensionPast => "extension-past",
+            Reason::ExtensionCut => "extension-cut",
             Reason::UdpShort => "udp-short",
             Reason::UdpLength => "udp-length",
             Reason::TcpShort => "tcp-short",

@@ -26,6 +26,10 @@ pub record Announced : Type 0 where
   pub kind : ℕ
   pub bytes : List ℕ
 
+-- its value
+abbrev pub announced_of : AnnouncedBytes → Announced
+announced_of a = record { kind = a.kind; bytes = a.bytes.now }
+
 -- its value, if anything is announced
 abbrev pub announced_seen : Option AnnouncedBytes → Option Announced
-announced_seen it = option_map (λ a. record { kind = a.kind; bytes = a.bytes.now }) it
+announced_seen it = option_map announced_of it

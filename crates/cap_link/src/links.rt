@@ -1,12 +1,14 @@
 //! The link headers of the five link types (LINKTYPE registry).
-ghost use Rattle.std.specs.Prelude.{◌≡◌, ◌+◌, ◌≤◌, ℕ, is_some};
-ghost use Rattle.cap_link.specs.Seen.{announced_seen, carried_seen};
+ghost use Rattle.std.specs.Prelude.{◌≡◌, ◌+◌, ◌≤◌, ℕ, is_some, option_map};
+ghost use Rattle.std.specs.Bool.{OnTrue};
+ghost use Rattle.cap_link.specs.Seen.{announced_of, announced_seen, carried_seen};
 ghost use Rattle.cap_link.specs.Links.{announced_in, is_not_ipv4, network_of, other_network_of, other_raw};
 ghost use Rattle.cap_link.specs.Links.{other_typed, raw, typed};
+ghost use Rattle.cap_link.specs.Ipv6.{IsUnread, ipv6_behind, ipv6_of, ipv6_raw, ipv6_typed};
 ghost use Rattle.cap_link.specs.inner.Tagged.{TagsLaw};
 
 use crate::networks::{Network, OtherNetwork};
-use crate::tags::{AnnouncedBytes, announced, carried, ended, other_of_kind};
+use crate::tags::{AnnouncedBytes, IPV6, announced, carried, ended, other_of_kind};
 use cap_bytes::{Order, u16_at};
 
 // LINKTYPE_ETHERNET: destination 6, source 6, type 2.
@@ -17,6 +19,8 @@ const RAW: u16 = 101;
 const LINUX_SLL: u16 = 113;
 // LINKTYPE_IPV4: no header, an IPv4 packet.
 const IPV4: u16 = 228;
+// LINKTYPE_IPV6: no header, an IPv6 packet.
+const LINK_IPV6: u16 = 229;
 // LINKTYPE_LINUX_SLL2: protocol 2, reserved 2, interface 4, ARPHRD type 2, packet type 1, address
 // length 1, address 8.
 const LINUX_SLL2: u16 = 276;
@@ -145,6 +149,65 @@ pub fn other_network(link: u16, frame: &[u8]) -> Option<OtherNetwork>
         RAW => other_raw(frame),
         LINUX_SLL => other_typed(LINUX_SLL_HEADER, frame),
         LINUX_SLL2 => other_typed(LINUX_SLL2_HEADER, frame),
+        _ => None,
+    }
+}
+
+// The bytes behind a type field, if it is that of IPv6.
+#[tactic(auto, unfolding(crate::specs::Ipv6::ipv6_behind))]
+#[inline(always)]
+fn ipv6_behind(it: AnnouncedBytes<'_>) -> Option<&[u8]>
+    ensures { option_map (λ bs. bs.now) result ≡ ipv6_behind (announced_of it.entry) }
+{
+    if it.kind == IPV6 {
+        Some(it.bytes)
+    } else {
+        None
+    }
+}
+
+// The IPv6 packet of a frame that begins with such a link header.
+#[tactic(auto, unfolding(crate::specs::Ipv6::ipv6_typed))]
+#[inline(always)]
+fn ipv6_typed(header: LinkHeader, frame: &[u8]) -> Option<&[u8]>
+    requires { header.place + 2 ≤ header.size }
+    ensures { option_map (λ it. it.now) result ≡ ipv6_typed header frame.now }
+{
+    match announced_in(header, frame) {
+        None => None,
+        Some(it) => ipv6_behind(it),
+    }
+}
+
+// The IPv6 packet of a frame without a link header.
+#[tactic(auto, unfolding(crate::specs::Ipv6::ipv6_raw))]
+fn ipv6_raw(frame: &[u8]) -> Option<&[u8]>
+    ensures { option_map (λ it. it.now) result ≡ ipv6_raw frame.now }
+{
+    if *frame.first()? / 16 == VERSION_6 {
+        Some(frame)
+    } else {
+        None
+    }
+}
+
+/// The IPv6 packet that a captured frame carries, by its link type: all bytes after the link header and the tags,
+/// padding among them. It is there if the type after the link header and the tags is `86DD` (RFC 2464, 3), if the high
+/// four bits of the first byte of a frame of 101 RAW are 6 (RFC 8200, 3), and always of 229 IPV6 (LINKTYPE registry).
+/// Of the other link types `network` answers `NotIpv4` wherever there is one, and of 229 `OtherLink`.
+#[tactic(auto, unfolding(crate::specs::Ipv6::ipv6_of))]
+#[inline(always)]
+pub fn ipv6_packet(link: u16, frame: &[u8]) -> Option<&[u8]>
+    ensures value { option_map (λ it. it.now) result ≡ ipv6_of link frame.now }
+    ensures unread { (original : ℕ) → OnTrue (is_some (ipv6_of link frame.now))
+        (IsUnread (network_of link frame.now original)) }
+{
+    match link {
+        ETHERNET => ipv6_typed(ETHERNET_HEADER, frame),
+        RAW => ipv6_raw(frame),
+        LINUX_SLL => ipv6_typed(LINUX_SLL_HEADER, frame),
+        LINUX_SLL2 => ipv6_typed(LINUX_SLL2_HEADER, frame),
+        LINK_IPV6 => Some(frame),
         _ => None,
     }
 }

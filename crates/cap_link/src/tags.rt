@@ -10,8 +10,8 @@ use cap_bytes::{Order, u16_at};
 const IPV4: u16 = 0x0800;
 // The type of an ARP packet (RFC 826).
 const ARP: u16 = 0x0806;
-// The type of an IPv6 packet (RFC 2464, 3).
-const IPV6: u16 = 0x86dd;
+/// The type of an IPv6 packet (RFC 2464, 3).
+pub(crate) const IPV6: u16 = 0x86dd;
 // The type of a C-VLAN tag (IEEE 802.1Q, 9.5).
 const C_TAG: u16 = 0x8100;
 // The type of an S-VLAN tag (IEEE 802.1Q, 9.5).
