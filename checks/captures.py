@@ -124,16 +124,21 @@ class Count:
 
 # The command of each task that writes a capture.
 WRITING = {"merge": ["merge"], "join": ["join"], "pcap": ["convert", "--to", "pcap"], "pcapng": ["convert", "--to", "pcapng"],
-           "merge-shared": ["merge", "--share-interfaces"], "merge-pcap": ["merge", "--to", "pcap"], "join-pcap": ["join", "--to", "pcap"]}
+           "merge-shared": ["merge", "--share-interfaces"], "merge-pcap": ["merge", "--to", "pcap"], "join-pcap": ["join", "--to", "pcap"],
+           **{f"{task}-{unit}": [command, "--to", "pcap", "--unit", unit] for unit in ("micro", "nano")
+              for task, command in (("pcap", "convert"), ("merge", "merge"), ("join", "join"))}}
 
 # The command of each task that prints, if its name isn't the task's.
-PRINTING = {"classed": ["list", "--class"], "check-digest": ["check", "--digest"], "top": ["report", "--top", "2"]}
+PRINTING = {"classed": ["list", "--class"], "check-digest": ["check", "--digest"], "top": ["report", "--top", "2"],
+            "info-skipping": ["info", "--skip-refused"], "report-skipping": ["report", "--skip-refused"]}
 
 
-def words_of(task, files, allow_cut=False, order="<", out=None):
+def words_of(task, files, allow_cut=False, order="<", out=None, times="exact"):
     """The command line of a task: a command, `pcap` or `pcapng` for `convert` to that format, `merge-pcap` or `join-pcap`,
-    `merge-shared`, `check-digest`, `classed`, or `top`."""
+    `pcap-nano` and the like, `merge-shared`, `check-digest`, `classed`, `top`, `info-skipping`, or `report-skipping`;
+    with the form of times, if it isn't the usual one."""
     words, writes = {**WRITING, **PRINTING}.get(task, [task]), task in WRITING
+    words = words + ["--time", times] * (times != "exact")
     return words + ["--allow-cut"] * allow_cut + ["--order", "big"] * (writes and order == ">") + ["-o", out] * writes + files
 
 
@@ -151,10 +156,10 @@ class Bench:
                     out.write(content)
             return self.names[content]
 
-    def run(self, task, contents, allow_cut=False, order="<", out=None, faults=None):
+    def run(self, task, contents, allow_cut=False, order="<", out=None, faults=None, times="exact"):
         """The status, what was written (on standard output, or in OUT), and standard error, and with faults what `run` tells
         of them. With OUT, standard output has to be empty: what it has is answered in place of OUT."""
-        words = words_of(task, [self.name(content) for content in contents], allow_cut, order, out)
+        words = words_of(task, [self.name(content) for content in contents], allow_cut, order, out, times)
         if task in WRITING and os.path.exists(out):
             os.remove(out)
         status, text, error, *told = run(words, self.program, faults)
@@ -170,8 +175,8 @@ class Bench:
         return None if seen == wanted else f"wanted {wanted!r}\n  saw {seen!r}"
 
 
-def wanted_of(task, contents, allow_cut=False, order="<"):
+def wanted_of(task, contents, allow_cut=False, order="<", times="exact"):
     """The status, what is written, and standard error, as the model has them."""
-    text, refusal = model.answer(task, contents, allow_cut, order)
+    text, refusal = model.answer(task, contents, allow_cut, order, times=times)
     written = text if isinstance(text, bytes) else text.encode()
     return model.status_of(task, text, refusal), written, model.told(refusal).encode() if refusal else b""

@@ -67,6 +67,8 @@ GROWTHS = {
                "conversations", "groups", "interfaces", "longest"],
     "top": ["tagged-frames", "conversations", "cut"],
     "info": ["runs-back and options", "cut"],
+    "info-skipping": ["runs-back and options", "cut"],
+    "report-skipping": ["overlapped-fragments", "cut"],
     "digest": ["runs-back and options", "cut"],
     "check": ["runs-back and options", "cut", "interfaces", "longest, twice"],
     "check-digest": ["runs-back and options", "cut", "longest, twice"],
@@ -86,6 +88,8 @@ DEVICES = {
     "report": ["tagged-frames", "overlapped-fragments", "runs-back and options"],
     "top": ["overlapped-fragments", "runs-back and options"],
     "info": ["runs-back and options"],
+    "info-skipping": ["options", "carry-pcap"],
+    "report-skipping": ["overlapped-fragments"],
     "digest": ["runs-back and options", "cut", "simple and two sections"],
     "check": ["runs-back and options", "tagged-frames", "cut", "simple and two sections", "five interfaces, one packet"],
     "check-digest": ["runs-back and options", "tagged-frames", "cut"],
@@ -263,6 +267,18 @@ def checked_reads_of(count, bench, shim, out, task, row):
             count.check(f"{task} of {row}, read {read + 1} of file {number}", is_so, wanted, seen)
 
 
+def skipped_reads_of(count, bench, shim, out, task, row):
+    """The same of `info` and `report` with --skip-refused, which read a file twice, over one file that isn't refused. Both times it is the
+    open file 3."""
+    [content] = ROWS[row]
+    places, reads = places_of(content), len(content) + 1
+    for call in range(1, 2 * reads + 1):
+        seen = bench.run(task, [content], faults=(shim, {"READ": f"3-{call}", "PIECE": 1}))
+        offset = max(place for place in places if place <= (call - 1) % reads)
+        is_so = seen[:4] == (1, b"", f"fault: read file 1 offset {offset}\n".encode(), 1) and seen[5] == 0
+        count.check(f"{task} of {row}, read {call}", is_so, seen)
+
+
 def writes_of(count, bench, shim, out, task, row):
     """A writer that takes nothing, or fails, after each number of bytes; one that a signal interrupts is asked again."""
     wanted = wanted_of(task, ROWS[row])
@@ -328,7 +344,7 @@ def devices(count, bench, shim, pool):
     jobs = []
     for task, rows in DEVICES.items():
         for row in rows:
-            for check in (checked_reads_of if task in model.SURVEYS else reads_of, writes_of):
+            for check in (checked_reads_of if task in model.SURVEYS else skipped_reads_of if task in model.SKIPPING else reads_of, writes_of):
                 jobs.append(pool.submit(check, count, bench, shim, os.path.join(bench.folder, f"{check.__name__}-{task}-{row}"), task, row))
     for check in (endless, far, standard):
         jobs.append(pool.submit(check, count, bench, shim, os.path.join(bench.folder, check.__name__)))

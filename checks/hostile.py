@@ -16,9 +16,9 @@ import multiprocessing, os, tempfile
 import model
 from captures import PROGRAM, VECTORS, Bench, Count, block, make_shim, vector
 
-ONE = ["list", "classed", "blocks", "info", "report", "top", "digest", "check", "check-digest", "pcapng", "pcap", "merge", "join",
+ONE = ["list", "classed", "blocks", "info", "report", "top", "info-skipping", "report-skipping", "digest", "check", "check-digest", "pcapng", "pcap", "merge", "join",
        "merge-shared", "merge-pcap", "join-pcap"]
-MANY = ["diff", "info", "report", "top", "digest", "check", "check-digest", "merge", "join", "merge-shared", "merge-pcap", "join-pcap"]
+MANY = ["diff", "info", "report", "top", "info-skipping", "report-skipping", "digest", "check", "check-digest", "merge", "join", "merge-shared", "merge-pcap", "join-pcap"]
 
 # The lengths at which `list` accepts a worked file that is cut; at every other it is refused by rule 3, at the greatest of
 # these and 0 that isn't above the length.
@@ -136,7 +136,8 @@ def main():
         for content, offset, rule in lying_lengths():
             refusal = f"refused: file 1 offset {offset} rule {rule} {model.RULES[rule]}\n".encode()
             end = f"refused offset {offset} rule {rule} {model.RULES[rule]}"
-            lines = {"digest": f"digest 1 {end}\n", "check": CHECKED.format(end), "check-digest": CHECKED.format(f"sha256 - {end}")}
+            lines = {"digest": f"digest 1 {end}\n", "check": CHECKED.format(end), "check-digest": CHECKED.format(f"sha256 - {end}"),
+                     **dict.fromkeys(model.SKIPPING, f"left out 1 offset {offset} rule {rule} {model.RULES[rule]}\n")}
             for task in ONE:
                 seen = bench.run(task, [section + content], out=os.path.join(folder, "out"))
                 is_so = seen == (1, lines[task].encode(), b"") if task in lines else seen[0] == 1 and seen[2] == refusal

@@ -3,7 +3,7 @@ draft-ietf-opsawg-pcapng, RFC 791, RFC 768, RFC 9293) and from what docs/RULES.m
 not from capt's code. The scripts of this folder hold the built program to it.
 
 `answer(task, files, ..)` gives what is written (a text, or the bytes of OUT) and the refusal, or none."""
-import hashlib, struct
+import datetime, hashlib, re, struct
 from collections import namedtuple
 from fractions import Fraction
 from itertools import accumulate, zip_longest
@@ -18,6 +18,7 @@ SECTION, INTERFACE, OBSOLETE, SIMPLE, ENHANCED = 0x0A0D0D0A, 1, 2, 3, 6
 LEAST = {SECTION: 28, INTERFACE: 20, OBSOLETE: 32, SIMPLE: 16, ENHANCED: 32}
 MOST_CAPTURED, MOST_BLOCK, MOST_INTERFACES, MOST_GROUPS, MOST_TALKS = 262_144, 524_288, 1_024, 1_024, 1_048_576
 MOST_FILE, MOST_END = 2**40, 65_515
+UNITS = {"micro": 10**6, "nano": 10**9}      # of `--unit`, in a second
 
 Refusal = namedtuple("Refusal", "file offset rule")
 Interface = namedtuple("Interface", "link snaplen code seconds")
@@ -55,11 +56,48 @@ def printed(packet):
     return f"{seconds}+{rest}/{d}"
 
 
+def places_of(denominator):
+    """The fewest decimal places with which every fraction of that denominator ends."""
+    return next(places for places in range(64) if 10**places % denominator == 0)
+
+
+def with_places(whole, part, denominator):
+    """Whole seconds and a fraction, in decimal."""
+    places = places_of(denominator)
+    return f"{whole}.{part * 10**places // denominator:0{places}}" if places else f"{whole}"
+
+
+def in_decimal(seconds, part, denominator):
+    """A time as a decimal fraction."""
+    units = seconds * denominator + part
+    return ("-" if units < 0 else "") + with_places(*divmod(abs(units), denominator), denominator)
+
+
+def in_utc(seconds, part, denominator):
+    """A time as a date and a time of day, if it is in the years 0000 to 9999. Python has no year 0000, so dates of that year are
+    made 400 years later, in which time a calendar repeats itself."""
+    later = seconds + 62_167_219_200
+    if not 0 <= later < 315_569_520_000:
+        return in_decimal(seconds, part, denominator)
+    early = later < 366 * 86_400
+    date = datetime.datetime(1, 1, 1) + datetime.timedelta(seconds=later - 366 * 86_400 + (146_097 * 86_400 if early else 0))
+    _, point, places = with_places(0, part, denominator).partition(".")
+    return f"{date.year - 400 * early:04}-{date:%m-%dT%H:%M:%S}{point}{places}Z"
+
+
+def in_form(text, times):
+    """The text of an answer with its times in a form: `exact`, `decimal` or `utc`."""
+    if times == "exact":
+        return text
+    spell = in_utc if times == "utc" else in_decimal
+    return re.sub(r"(?<= )(-?\d+)\+(\d+)/(\d+)\b", lambda found: spell(*map(int, found.groups())), text)
+
+
 class File:
     """What a file gives: its packets, its blocks, its first interface, its refusal or how it ended."""
 
     def __init__(self, number, data, allow_cut, blocks_alone=False):
-        self.number, self.data, self.blocks_alone = number, data, blocks_alone
+        self.number, self.data, self.allow_cut, self.blocks_alone = number, data, allow_cut, blocks_alone
         self.packets, self.blocks, self.first, self.refusal, self.ending = [], [], None, None, None
         self.skipped, self.instances, self.format, begun = 0, 0, "pcapng", False
         try:
@@ -423,6 +461,7 @@ def canonical(packet):
 
 # Tasks that have a line for each file, also for one that isn't whole, and go on.
 SURVEYS = ("digest", "check", "check-digest")
+SKIPPING = ("info-skipping", "report-skipping")
 
 
 def digest_of(packets):
@@ -654,9 +693,10 @@ def write_packets(order, packets, refusal, first=None, shares=False):
     return b"".join(out), refusal
 
 
-def write_records(order, first, packets, refusal):
-    """The text of packets as pcap, with the link, the snaplen and the fraction of that interface, up to the first refusal."""
-    unit = 10**6 if 10**6 % units_in_second(first.code) == 0 else 10**9
+def write_records(order, first, packets, refusal, unit=None):
+    """The text of packets as pcap, with the link, the snaplen and the fraction of that interface, or the unit that is asked for, up to
+    the first refusal."""
+    unit = unit or (10**6 if 10**6 % units_in_second(first.code) == 0 else 10**9)
     out = [struct.pack(order + "IHHIIII", 0xA1B2C3D4 if unit == 10**6 else 0xA1B23C4D, 2, 4, 0, 0, first.snaplen, first.link)]
     for packet in packets:
         time = time_of(packet)
@@ -669,21 +709,21 @@ def write_records(order, first, packets, refusal):
     return b"".join(out), refusal
 
 
-def to_pcap(order, file):
+def to_pcap(order, file, unit=None):
     if file.first is None:
         return b"", file.refusal or Refusal(1, 0, 21)
-    return write_records(order, file.first, file.packets, file.refusal)
+    return write_records(order, file.first, file.packets, file.refusal, unit)
 
 
-def write_run(to, order, packets, refusal):
-    """The text of the packets of a run in that format: in pcap by the first one's interface."""
+def write_run(to, order, packets, refusal, unit=None):
+    """The text of the packets of a run in that format: in pcap by the first one's interface, or in the unit that is asked for."""
     if to == "pcapng":
         return write_packets(order, packets, refusal)
     if not packets:
         return b"", refusal or Refusal(1, 0, 21)
     if packets[0].units is None:
         return b"", Refusal(packets[0].file, packets[0].offset, 17)
-    return write_records(order, packets[0].interface, packets, refusal)
+    return write_records(order, packets[0].interface, packets, refusal, unit)
 
 
 def checksum(header):
@@ -693,7 +733,7 @@ def checksum(header):
     return ~total & 0xFFFF
 
 
-def join(to, order, files):
+def join(to, order, files, unit=None):
     run, refusal = run_of(files)
     table, packets = Table(), []
     for place, (clock, packet) in enumerate(run):
@@ -709,32 +749,60 @@ def join(to, order, files):
             datagram = struct.pack(">BBHHHBBHII", *fields) + data
             packets.append(packet._replace(interface=packet.interface._replace(link=101, snaplen=0), data=datagram,
                                            captured=len(datagram), original=len(datagram)))
-    return write_run(to, order, packets, refusal)
+    return write_run(to, order, packets, refusal, unit)
 
 
-def answer(task, contents, allow_cut=False, order="<", ignored=()):
+def in_unit(task):
+    """The task without the unit that it asks for, and that unit or None."""
+    name, _, last = task.rpartition("-")
+    if last not in UNITS:
+        return task, None
+    return name if name == "pcap" else f"{name}-pcap", UNITS[last]
+
+
+def skipping(task, files):
+    """`info` or `report` without the files that are refused: a line for each of these, and then what the task prints of the others, which are
+    numbered from 1. A refusal of that names the file by its number among all."""
+    lines = "".join(f"left out {file.number} offset {file.refusal.offset} rule {file.refusal.rule} {RULES[file.refusal.rule]}\n"
+                    for file in files if file.refusal)
+    others = [file for file in files if not file.refusal]
+    if not others:
+        return lines, None
+    text, refusal = task([File(number, file.data, file.allow_cut) for number, file in enumerate(others, 1)])
+    return lines + text, refusal and refusal._replace(file=others[refusal.file - 1].number)
+
+
+def answer(task, contents, allow_cut=False, order="<", ignored=(), times="exact"):
     """What a task has to write over the contents of files, and the refusal or None. The task is a command's name, `pcap` or
     `pcapng` for `convert` to that format, `merge-pcap` or `join-pcap` for `merge` or `join` to pcap, `merge-shared` for
-    `merge --share-interfaces`, `check-digest` for `check --digest`, `classed` for `list --class`, or `top` for
-    `report --top 2`. `diff` ignores times, link types or original lengths, if these are named."""
+    `merge --share-interfaces`, `pcap-micro`, `merge-nano` and the like for these to pcap with `--unit`, `check-digest` for
+    `check --digest`, `classed` for `list --class`, or `top` for `report --top 2`, or `info-skipping` and `report-skipping`
+    for `info` and `report` with `--skip-refused`. `diff` ignores times, link types or original lengths, if these are named.
+    Times are printed in that form."""
+    if times != "exact":
+        text, refusal = answer(task, contents, allow_cut, order, ignored)
+        return in_form(text, times), refusal
     files = [File(number, data, allow_cut, task == "blocks") for number, data in enumerate(contents, 1)]
+    task, unit = in_unit(task)
     to = "pcap" if task.endswith("-pcap") else "pcapng"
     if task == "merge-shared":
         run, refusal = run_of(files)
         return write_packets(order, [packet for _, packet in run], refusal, shares=True)
     if task in ("merge", "merge-pcap"):
         run, refusal = run_of(files)
-        return write_run(to, order, [packet for _, packet in run], refusal)
+        return write_run(to, order, [packet for _, packet in run], refusal, unit)
     if task == "pcapng":
         return write_packets(order, files[0].packets, files[0].refusal, files[0].first)
     if task == "pcap":
-        return to_pcap(order, files[0])
+        return to_pcap(order, files[0], unit)
     if task in ("join", "join-pcap"):
-        return join(to, order, files)
+        return join(to, order, files, unit)
     if task == "diff":
         return diff(files, ignored)
     return {"list": list_, "classed": classed, "blocks": blocks, "info": info, "report": report,
-            "top": lambda files: report(files, 2), "digest": digest, "check": check, "check-digest": check_digest}[task](files)
+            "top": lambda files: report(files, 2), "info-skipping": lambda files: skipping(info, files),
+            "report-skipping": lambda files: skipping(report, files), "digest": digest, "check": check,
+            "check-digest": check_digest}[task](files)
 
 
 def status_of(task, text, refusal):
@@ -742,4 +810,6 @@ def status_of(task, text, refusal):
     if task in SURVEYS:
         whole = " packets " if task == "digest" else " whole"
         return 0 if all(whole in line for line in text.splitlines()) else 1
+    if task in SKIPPING and text.startswith("left out "):
+        return 1
     return 1 if refusal else 3 if task == "diff" and text.startswith("differ") else 0

@@ -2,7 +2,8 @@
 """JSON Lines: what `list`, `blocks`, `diff`, `info`, `report`, `digest` and `check` print with --json is, object for
 object and byte for byte, what the text lines of the model say of the same files, and Python's json reads each line as
 those values. Over the files of checks/corpus/, the examples, the worked captures, and captures made at random, some of
-them damaged; `list` and `diff` also with --data, `list` with --class, `report` with --top, and `diff` with --ignore. A refusal and a fault are an object too, with the file's path.
+them damaged; `list` and `diff` also with --data, `list` with --class, `report` with --top, `info` and
+`report` with --skip-refused, `diff` with --ignore, and each form of times. A refusal and a fault are an object too, with the file's path.
 
 Use: checks/objects.py [PROGRAM [CAPTURES]]     (as after `rt run` or `rt ci` in crates/capt; 10,000 random captures in about a minute)
 """
@@ -15,16 +16,16 @@ from concurrent.futures import ThreadPoolExecutor
 
 import model
 from captures import PROGRAM, TOP, VECTORS, Bench, Count, make_shim, run, vector, wanted_of, words_of
-from soak import mutated, some_capture, some_pair
+from soak import TIMED, mutated, some_capture, some_pair
 
-TASKS = ("list", "classed", "blocks", "info", "report", "top", "digest", "check", "check-digest")
+TASKS = ("list", "classed", "blocks", "info", "report", "top", "info-skipping", "report-skipping", "digest", "check", "check-digest")
 PROTOCOLS = {"udp": 17, "tcp": 6}
 TIME = re.compile(r"(-?\d+)\+(\d+)/(\d+)")
 
 
 def time_of(word):
     found = TIME.fullmatch(word)
-    return [int(found[1]), int(found[2]), int(found[3])] if found else None
+    return [int(found[1]), int(found[2]), int(found[3])] if found else None if word == "-" else word
 
 
 def end_of(word):
@@ -77,6 +78,9 @@ def object_of(line):
     if kind == "block":
         n, _, offset, _, order, _, number, _, total = words
         return {"type": kind, "n": int(n), "offset": int(offset), "order": order, "kind": number, "total": int(total)}
+    if kind == "left":
+        _, number, _, offset, _, rule, name = words
+        return {"type": "left out", "file": int(number), "offset": int(offset), "rule": int(rule), "name": name}
     if kind == "file":
         number, form, *sums, _, first, _, last = words[:-1] if words[-1] == "cut" else words
         return {"type": kind, "file": int(number), "format": form, **pairs_of(sums), "first": time_of(first), "last": time_of(last),
@@ -138,9 +142,9 @@ def refused_object(refusal, path):
                     "path": path})
 
 
-def wanted_objects(task, contents, paths, allow_cut, data=None, ignored=()):
+def wanted_objects(task, contents, paths, allow_cut, data=None, ignored=(), times="exact"):
     """The status, standard output and standard error with --json."""
-    text, refusal = model.answer(task, contents, allow_cut, ignored=ignored)
+    text, refusal = model.answer(task, contents, allow_cut, ignored=ignored, times=times)
     objects = all_objects(text)
     if task in model.SURVEYS:
         objects = [{**told, "path": name} for told, name in zip(objects, paths)]
@@ -164,12 +168,12 @@ def main():
     with tempfile.TemporaryDirectory() as folder:
         shim = make_shim(folder)
 
-        def holds(bench, task, contents, allow_cut, data=None, faults=None, ignored=()):
+        def holds(bench, task, contents, allow_cut, data=None, faults=None, ignored=(), times="exact"):
             paths = [bench.name(content) for content in contents]
-            words = [*words_of(task, []), "--json", *(["--allow-cut"] if allow_cut else []), *([] if data is None else ["--data", str(data)]),
+            words = [*words_of(task, [], times=times), "--json", *(["--allow-cut"] if allow_cut else []), *([] if data is None else ["--data", str(data)]),
                      *(f"--ignore={kind}" for kind in ignored), *paths]
             seen = run(words, program, faults)[:3]
-            wanted = wanted_objects(task, contents, paths, allow_cut, data, ignored)
+            wanted = wanted_objects(task, contents, paths, allow_cut, data, ignored, times)
             count.check(f"capt {' '.join(words)}", seen == wanted, f"wanted {wanted!r:.600}\n  saw {seen!r:.600}")
             try:
                 for line in (seen[1] + seen[2]).splitlines():
@@ -182,6 +186,8 @@ def main():
             for task in TASKS:
                 for allow_cut in (False, True):
                     holds(bench, task, [content], allow_cut, faults=(shim, {"PIECE": 1}) if allow_cut else None)
+                for times in ("decimal", "utc") if task in TIMED else ():
+                    holds(bench, task, [content], False, times=times)
             for other in (content, vector("CARRY_PCAPNG")):
                 for data in (None, 0, 3, 128, 129, 262_144):
                     holds(bench, "diff", [content, other], False, data)
@@ -195,11 +201,12 @@ def main():
             for place, content in enumerate(contents):
                 for _ in range(rng.choice([0, 0, 0, 1, 2])):
                     contents[place] = mutated(rng, content, rng.choice(contents))
-            task, allow_cut = rng.choice(("info", "report", "top", "digest", "check", "check-digest", "blocks")), rng.random() < 0.5
-            holds(bench, task, contents[:1] if task == "blocks" else contents, allow_cut)
-            holds(bench, rng.choice(("list", "classed")), contents[:1], allow_cut, rng.choice((None, None, 0, 20, 262_144)))
+            task, allow_cut = rng.choice(("info", "report", "top", "info-skipping", "report-skipping", "digest", "check", "check-digest", "blocks")), rng.random() < 0.5
+            times = rng.choice(("exact", "decimal", "utc"))
+            holds(bench, task, contents[:1] if task == "blocks" else contents, allow_cut, times=times if task in TIMED else "exact")
+            holds(bench, rng.choice(("list", "classed")), contents[:1], allow_cut, rng.choice((None, None, 0, 20, 262_144)), times=times)
             pair, ignored = some_pair(rng, contents), [kind for kind in ("time", "link", "original") if rng.random() < 0.3]
-            holds(bench, "diff", pair, allow_cut, rng.choice((None, None, 0, 20, 262_144)), ignored=ignored)
+            holds(bench, "diff", pair, allow_cut, rng.choice((None, None, 0, 20, 262_144)), ignored=ignored, times=times)
             for name in os.listdir(bench.folder):
                 os.remove(os.path.join(bench.folder, name))
 

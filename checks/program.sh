@@ -158,6 +158,17 @@ run check --explain --json "$work/missing"; check 'check, explained as an object
 run list --explain --json "$work/cut.pcap"; check 'a cut file, explained as an object' 1 '' '{"type":"refused","file":1,"offset":24,"rule":3,"name":"cut","path":"'"$work/cut.pcap"'"}
 {"type":"hint","hint":"'"$work/cut.pcap"': it is cut off: --allow-cut drops a last record or block"}'
 run check - -; check 'check of standard input twice' 2 '' 'fault: input'
+# captures that are refused are left out; others that can't be opened or read aren't, and then nothing is printed
+run info --skip-refused "$work/cut.pcap" "$one"; check 'info without a cut file' 1 "left out 1 offset 24 rule 3 cut
+files 1
+file 1 pcap $(echo "$held" | sed 's/ backward.*//; s/\(packets . bytes .\)/\1 truncated 0 skipped 0/')" ''
+run info --skip-refused --explain "$work/cut.pcap" "$work/folder"; check 'info of a folder, without what is refused' 1 '' "fault: read file 2 offset 0
+  $work/folder: it is a folder"
+run report --skip-refused --json --explain "$work/missing" "$work/cut.pcap"
+check 'report of a missing file, without what is refused' 1 '' '{"type":"fault","fault":"open","file":1,"path":"'"$work/missing"'"}
+{"type":"hint","hint":"'"$work/missing"': No such file or directory (os error 2)"}'
+run info --skip-refused --explain "$one" -; check 'info of standard input, read twice' 2 '' 'fault: input
+  standard input, -, can be read once'
 cp "$one" "$work/a name"; run check --names "$work/a name" "$work/missing"; check 'check, with names' 1 "check 1 pcap $held whole name $work/a name
 check 2 - $none 0 open name $work/missing" ''
 run check --names '' $'\e]0;\xc3\xa4\a"\\' $'\xc2\x9b\xe2\x80\xae\x7f'
@@ -251,6 +262,10 @@ run merge -o "$work/new" "$one" "$one"; check 'merge' 0 '' ''; same 'merge' "$wo
 run merge --share-interfaces -o "$work/new" "$one" "$one"; check 'shared interfaces' 0 '' ''; same 'shared interfaces' "$work/new" "$work/shared"
 run merge --to pcapng --share-interfaces -o - "$one" "$work/want.pcapng"; check 'shared interfaces of both formats' 0 '*' ''; same 'shared interfaces of both formats' "$work/out" "$work/shared"
 run merge --share-interfaces -o "$work/new" "$work/twice"; check 'shared interfaces of one capture' 0 '' ''; same 'shared interfaces of one capture' "$work/new" "$work/shared"
+# pcap in nanoseconds, and back
+{ printf '\x4d\x3c\xb2\xa1'; tail -c +5 "$work/want.pcap" | head -c 24; printf '\0\x65\xcd\x1d'; tail -c 12 "$work/want.pcap"; } > "$work/nano"
+run convert --to pcap --unit nano -o "$work/new" "$one"; check 'in nanoseconds' 0 '' ''; same 'in nanoseconds' "$work/new" "$work/nano"
+run merge --to pcap --unit micro -o "$work/new" "$work/nano"; check 'in microseconds' 0 '' ''; same 'in microseconds' "$work/new" "$work/want.pcap"
 input=$one; run merge -o - "$one" -; check 'merge with standard streams' 0 '*' ''; input=; same 'merge with standard streams' "$work/out" "$work/twice"
 run merge -o "$work/new" "$one" "$work/cut.pcap"; check 'a refusal in the second file' 1 '' 'refused: file 2 offset 24 rule 3 cut'
 run merge -o "$work/none" "$one" "$work/missing"; check 'a second file that is missing' 1 '' 'fault: open file 2'; absent 'a second file that is missing' "$work/none"
@@ -675,6 +690,8 @@ completed() {
 completed big capt merge --order = b
 completed 'big little' capt merge --order =
 completed 'pcap pcapng' capt convert --to = p
+completed 'micro nano' capt merge --unit =
+completed '--unit' capt join --un
 completed little capt join --order l
 completed merge capt help m
 completed '--explain' capt list --e
@@ -696,9 +713,17 @@ completed '--data' capt diff --da
 completed '--ignore' capt diff --i
 completed 'time' capt diff --ignore t
 completed '' capt list --json --data 1
-completed '--top' capt report --t
+completed '--time --top' capt report --t
+completed '--top' capt report --to
 completed '' capt report --top 1
-completed '' capt info --t
+completed '--time' capt info --t
+completed '--time' capt check --t
+completed 'exact decimal utc' capt list --time ''
+completed 'decimal' capt diff --time = d
+completed '' capt blocks --t
+completed '' capt digest --t
+completed '--skip-refused' capt info --s
+completed '--skip-refused' capt report --s
 
 echo "$passed passed, $failed failed"
 [ "$failed" = 0 ]

@@ -214,7 +214,7 @@ rm -f bare; rounds bare "${all[@]}"; says 'OUT as a bare word' 0 ''; same 'OUT a
 mapfile -t alike < <(yes one.pcap | head -n 40)
 { cat empty; printf '\x01\0\0\0\x60\xe3\x16\0\x04\0\0\0\x04\0\0\0\x01\x02\x03\x04'; } > one.pcap
 rounds -o all.pcapng "${alike[@]}"; says '40 captures of one link' 0 ''
-for words in '--to pcap' '--to=pcap --order big' '--to pcapng'; do
+for words in '--to pcap' '--to=pcap --order big' '--to pcapng' '--to pcap --unit nano' '--unit=micro --to=pcap'; do
     # shellcheck disable=SC2086 # words of a command line
     rounds $words -o out "${alike[@]}"; says "40 captures $words" 0 ''
     # shellcheck disable=SC2086 # words of a command line
@@ -223,7 +223,7 @@ done
 
 # what is wrong with a command line
 # shellcheck disable=SC2016 # as it is printed
-usage='Usage: rounds.sh [--allow-cut] [--order ORDER] [--to FORMAT] [--share-interfaces] -o OUT FILE...
+usage='Usage: rounds.sh [--allow-cut] [--order ORDER] [--to FORMAT] [--unit UNIT] [--share-interfaces] -o OUT FILE...
 It takes room in $TMPDIR: see rounds.sh --help.'
 rounds; says 'no words' 2 "rounds.sh: OUT and FILE are missing
 $usage"
@@ -234,6 +234,10 @@ $usage"
 rounds --order middle -o out 00; says 'a wrong order' 2 "rounds.sh: --order is big or little
 $usage"
 rounds --to text -o out 00; says 'a wrong format' 2 "rounds.sh: --to is pcap or pcapng
+$usage"
+rounds --unit milli --to pcap -o out 00; says 'a wrong unit' 2 "rounds.sh: --unit is micro or nano
+$usage"
+rounds --unit nano -o out 00; says 'a unit of pcapng' 2 "rounds.sh: --unit goes with --to pcap
 $usage"
 rounds 00 -o; says 'no output' 2 "rounds.sh: 00 exists: -o OUT names the output
 $usage"

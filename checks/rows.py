@@ -148,6 +148,18 @@ NOT_BLOCKS = [
 LATE, EARLY = (f"{ETHERNET} {second:02x}000000 00000000 00000000 00000000 0000000000000000" for second in (5, 1))
 CUT = vector("CARRY_PCAP")[:-1].hex()
 
+# Captures, whether --allow-cut is given, and what `info --skip-refused` prints.
+ONE_HELD = "file %d pcap packets 1 bytes 4 truncated 0 skipped 0 first 2+500000/1000000 last 2+500000/1000000\n"
+KEPT = [
+    ([vector("CARRY_PCAP").hex()], False, "files 1\n" + ONE_HELD % 1),
+    ([CUT, vector("CARRY_PCAP").hex()], False, "left out 1 offset 24 rule 3 cut\nfiles 1\n" + ONE_HELD % 1),
+    ([vector("CARRY_PCAP").hex(), "", CUT, vector("CARRY_PCAP").hex(), "00000000"], False,
+     "left out 2 offset 0 rule 3 cut\nleft out 3 offset 24 rule 3 cut\nleft out 5 offset 0 rule 1 magic\nfiles 2\n" + ONE_HELD % 1 + ONE_HELD % 2),
+    (["", CUT], False, "left out 1 offset 0 rule 3 cut\nleft out 2 offset 24 rule 3 cut\n"),
+    (["", CUT], True, "left out 1 offset 0 rule 3 cut\nfiles 1\nfile 1 pcap packets 0 bytes 0 truncated 0 skipped 0 first - last - cut\n"),
+    ([vector("CARRY_PCAP").hex()] * 31 + [CUT], False, "left out 32 offset 24 rule 3 cut\nfiles 31\n" + "".join(ONE_HELD % n for n in range(1, 32))),
+]
+
 # Captures of which a command prints nothing, with --allow-cut or without, and the refusal: that of the lowest place in the order of clocks
 # for `report`, and of the first file for `info`.
 NOT_PRINTED = [
@@ -266,6 +278,49 @@ def halves(first, second):
 
 for order, form in (((0, 1), "0+512/1024"), ((1, 0), "0+5/10")):
     REPORTED.append((halves(*order), f"joined 1 given-up 0\ntalks 1\ntalk udp {TALK} 3 86 backward 0 0 {times(form)}\n"))
+
+
+def at_time(code, offset, units):
+    """A packet whose interface counts in units of that code from that second on, so many of them."""
+    options = f"0900 0100 {code:02x}000000 0e00 0800 {offset.to_bytes(8, 'little', signed=True).hex()}"
+    stamp = f"{(units >> 32).to_bytes(4, 'little').hex()} {(units % 2**32).to_bytes(4, 'little').hex()}"
+    return f"{SECTION} {interface(options)} 06000000 24000000 00000000 {stamp} 04000000 04000000 01020304 24000000"
+
+
+# A code of units, a second from which they count, and their number; and the time as it is printed in each form.
+TIMED = [
+    ((6, 0, 2_500_000), "2+500000/1000000", "2.500000", "1970-01-01T00:00:02.500000Z"),
+    ((9, 0, 1), "0+1/1000000000", "0.000000001", "1970-01-01T00:00:00.000000001Z"),
+    ((0, 0, 86_399), "86399+0/1", "86399", "1970-01-01T23:59:59Z"),
+    ((1, 0, 5), "0+5/10", "0.5", "1970-01-01T00:00:00.5Z"),
+    ((19, 0, 1), f"0+1/1{'0' * 19}", f"0.{'0' * 18}1", f"1970-01-01T00:00:00.{'0' * 18}1Z"),
+    ((0x80, 7, 0), "7+0/1", "7", "1970-01-01T00:00:07Z"),
+    ((0x81, 0, 1), "0+1/2", "0.5", "1970-01-01T00:00:00.5Z"),
+    ((0x8A, 0, 1_537), "1+513/1024", "1.5009765625", "1970-01-01T00:00:01.5009765625Z"),
+    ((0xBF, 0, 1), "0+1/9223372036854775808", "0.000000000000000000108420217248550443400745280086994171142578125",
+     "1970-01-01T00:00:00.000000000000000000108420217248550443400745280086994171142578125Z"),
+    # before second 0: half a second, and a whole one
+    ((6, -1, 500_000), "-1+500000/1000000", "-0.500000", "1969-12-31T23:59:59.500000Z"),
+    ((6, -1, 0), "-1+0/1000000", "-1.000000", "1969-12-31T23:59:59.000000Z"),
+    ((6, -2, 1), "-2+1/1000000", "-1.999999", "1969-12-31T23:59:58.000001Z"),
+    # leap days, none in 1900 and 2100; ends of months and of years
+    ((0, -2_203_891_200, 0), "-2203891200+0/1", "-2203891200", "1900-03-01T00:00:00Z"),
+    ((0, -2_203_891_201, 0), "-2203891201+0/1", "-2203891201", "1900-02-28T23:59:59Z"),
+    ((3, 951_825_600, 0), "951825600+0/1000", "951825600.000", "2000-02-29T12:00:00.000Z"),
+    ((0, 951_868_800, 0), "951868800+0/1", "951868800", "2000-03-01T00:00:00Z"),
+    ((0, 1_709_251_199, 0), "1709251199+0/1", "1709251199", "2024-02-29T23:59:59Z"),
+    ((0, 4_107_542_400, 0), "4107542400+0/1", "4107542400", "2100-03-01T00:00:00Z"),
+    ((0, 1_735_689_599, 0), "1735689599+0/1", "1735689599", "2024-12-31T23:59:59Z"),
+    # the first and the last second with a date, and those beyond them
+    ((0, -62_167_219_200, 0), "-62167219200+0/1", "-62167219200", "0000-01-01T00:00:00Z"),
+    ((0, -62_162_035_201, 0), "-62162035201+0/1", "-62162035201", "0000-02-29T23:59:59Z"),
+    ((1, -62_167_219_201, 9), "-62167219201+9/10", "-62167219200.1", "-62167219200.1"),
+    ((6, 253_402_300_799, 999_999), "253402300799+999999/1000000", "253402300799.999999", "9999-12-31T23:59:59.999999Z"),
+    ((6, 253_402_300_800, 0), "253402300800+0/1000000", "253402300800.000000", "253402300800.000000"),
+    # the least time and the greatest
+    ((19, -2**63, 0), f"-9223372036854775808+0/1{'0' * 19}", f"-9223372036854775808.{'0' * 19}", f"-9223372036854775808.{'0' * 19}"),
+    ((0, 2**63 - 1, 2**64 - 1), "27670116110564327422+0/1", "27670116110564327422", "27670116110564327422"),
+]
 
 
 # Conversations of 28, 20, 60, 28 and 41 bytes: the one of 60 has 30 each way, and of the two of 28 the first began first. With --top, the one
@@ -645,6 +700,43 @@ JOINED_AS_PCAP = [
     ([of_link(101, at(1, FRAGMENTS[0])) + "00"], "", "file 1 offset 68 rule 3 cut"),
 ]
 
+# The same in the unit of time that is asked for, with the task.
+CARRIED_NANO = f"{NANO} 01000000 {at(2, '01020304', micros=500_000_000)}"
+IN_UNITS = [
+    ("pcap-micro", [CARRIED], CARRIED, None), ("pcap-nano", [CARRIED], CARRIED_NANO, None), ("pcap-nano", [CARRIED_NANO], CARRIED_NANO, None),
+    ("pcap-micro", [CARRIED_NANO], CARRIED, None), ("pcap-nano", [vector("CARRY_PCAPNG").hex()], CARRIED_NANO, None),
+    # times in nanoseconds that are whole microseconds, and one that isn't
+    ("pcap-micro", [of_units(9, 2_000_001_000)], of_link(1, at(2, "0a", micros=1)), None),
+    ("pcap-micro", [of_units(9, 2_000_001_000, 2_000_001_001)], of_link(1, at(2, "0a", micros=1)), "file 1 offset 92 rule 19 inexact"),
+    # 512, 8 and 1 of 1,024 parts of a second
+    ("pcap-micro", [of_units(138, 512, 8)], of_link(1, at(0, "0a", micros=500_000)), "file 1 offset 92 rule 19 inexact"),
+    ("pcap-nano", [of_units(138, 8, 1)], f"{NANO} 01000000 {at(0, '0a', micros=7_812_500)}", "file 1 offset 92 rule 19 inexact"),
+    # an interface without a packet; no interface; a packet without a time; a record that is cut
+    ("pcap-nano", [ETHERNET], f"{NANO} 01000000", None), ("pcap-nano", [SECTION], "", NO_PACKET),
+    ("pcap-nano", [f"{SECTION} {PLAIN} {enhanced(0)} {SIMPLE}"], CARRIED_NANO, "file 1 offset 84 rule 17 no-time"),
+    ("pcap-nano", [CARRIED + "00000000"], CARRIED_NANO, "file 1 offset 44 rule 3 cut"),
+    # the last second in nanoseconds, and the one after it
+    ("pcap-nano", [f"{SECTION} {LAST_SECOND}" + packet(0, 0, b"\x0b").hex() + packet(0, 1_000_000, b"\x0b").hex()],
+     f"{NANO} 01000000 {at(2**32 - 1, '0b')}", "file 1 offset 96 rule 20 time-range"),
+    # a time that isn't whole in the fraction of the first packet, and one that isn't whole in any
+    ("merge-nano", [of_link(1, at(0, "0b")), of_units(9, 1_000_000_001)], f"{NANO} 01000000 {at(0, '0b')} {at(1, '0a', micros=1)}", None),
+    ("merge-nano", [of_link(1, at(0, "0b")), of_units(138, 1_025)], f"{NANO} 01000000 {at(0, '0b')}", "file 2 offset 56 rule 19 inexact"),
+    # the first packet's interface has nanoseconds
+    ("merge-micro", [of_units(9, 1_000), of_link(1, at(1, "0b", micros=5))], of_link(1, at(0, "0a", micros=1), at(1, "0b", micros=5)), None),
+    ("merge-micro", [of_units(9, 1), of_link(1, at(1, "0b"))], ETHERNET, "file 1 offset 56 rule 19 inexact"),
+    # a second link; a packet without a time; no packet
+    ("merge-nano", [of_link(1, at(1, "0a"), at(3, "0c")), of_link(101, at(2, "0b"))], f"{NANO} 01000000 {at(1, '0a')}",
+     "file 2 offset 24 rule 18 link-mixed"),
+    ("merge-micro", [of_link(1, at(1, "0a")), f"{SECTION} {PLAIN} {SIMPLE}"], "", "file 2 offset 48 rule 17 no-time"),
+    ("merge-nano", [ETHERNET, f"{SECTION} {PLAIN}"], "", NO_PACKET),
+    ("join-nano", [of_link(101, at(1, UDP)), of_units(9, 1_000_000_001, data=UDP, link="6500")],
+     f"{NANO_RAW} {at(1, WHOLE_UDP)} {at(1, WHOLE_UDP, micros=1)}", None),
+    ("join-micro", [of_units(9, 1_000_001_000, data=UDP, link="6500"), of_link(101, at(2, UDP, micros=5))],
+     f"{RAW} {at(1, WHOLE_UDP, micros=1)} {at(2, WHOLE_UDP, micros=5)}", None),
+    ("join-micro", [of_units(9, 1_000_000_001, data=UDP, link="6500")], RAW, "file 1 offset 56 rule 19 inexact"),
+    ("join-nano", [of_link(1, at(1, "00" * 13))], "", NO_PACKET),
+]
+
 # Two captures, whether a cut end is accepted, and what `diff` prints, or how it is refused: the packet of CARRIED in other forms, with one thing
 # changed, and beside others.
 SAME = "same packets 1\n"
@@ -755,6 +847,13 @@ def gives(content):
 
 LATER_LINE = f"{listed(1, 24, '2+500001/1000000')[:-3]}05\n"
 LISTED_JSON = '{"type":"packet","n":1,"offset":60,"time":[2,500000,1000000],"captured":4,"original":4,"link":1,"data":"%s"}\n'
+LEFT_OUT_JSON = '{"type":"left out","file":%d,"offset":60,"rule":3,"name":"cut"}\n'
+INFO_ONE_JSON = ('{"type":"files","files":1}\n{"type":"file","file":1,"format":"pcapng","packets":1,"bytes":4,"truncated":0,"skipped":0,'
+                 '"first":[2,500000,1000000],"last":[2,500000,1000000],"cut":false}\n')
+# of a pcap file, an empty one, one whose end is dropped, and a pcapng file
+TOLD_SKIPPED = ("left out 2 offset 0 rule 3 cut\nfiles 3\n"
+                "file 1 pcap packets 1 bytes 4 truncated 0 skipped 0 first 2+500001/1000000 last 2+500001/1000000\n"
+                f"file 2 pcapng packets 0 bytes 0 truncated 0 skipped 0 first - last - cut\n{TOLD.format(3)}")
 INFO_JSON = ('{"type":"files","files":1}\n{"type":"file","file":1,"format":"pcapng","packets":0,"bytes":0,"truncated":0,"skipped":0,'
              '"first":null,"last":null,"cut":true}\n')
 SIDE_JSON = '{"type":"side","side":"%s","packet":%s}\n'
@@ -832,6 +931,15 @@ LINES = [
     ("check --names cut --digest a none", (1, checked(CUT_AT_60, "whole", "open", names=("cut", "a", "none"), has_digest=True).encode(), b"", None)),
     ("check --digest --json a none", (1, ((CHECK_JSON % (1, "a")).replace(*DIGEST_IN_CHECK)
                                           + (OPEN_JSON % (2, "none")).replace(*NO_DIGEST_IN_CHECK)).encode(), b"", None)),
+    ("info --skip-refused a b", prints(TWO)), ("info --json --skip-refused cut a", (1, (LEFT_OUT_JSON % 1 + INFO_ONE_JSON).encode(), b"", None)),
+    ("report --skip-refused a cut b", (1, f"left out 2 offset 60 rule 3 cut\n{TWO}total packets 2 bytes 8 truncated 0\n{frames(short=2)}".encode(), b"", None)),
+    ("report --skip-refused --allow-cut cut", prints(f"{TOLD_CUT}total packets 0 bytes 0 truncated 0\n{frames()}")),
+    ("info --skip-refused cut", (1, b"left out 1 offset 60 rule 3 cut\n", b"", None)), ("info --skip-refused -", INPUT),
+    ("info --skip-refused cut none", (1, b"", b"fault: open file 2\n", None)), ("report --skip-refused a -", INPUT),
+    ("info --skip-refused --explain cut none a", (1, b"", b"fault: open file 2\n  none: No such file or directory (os error 2)\n", None)),
+    ("info --explain --skip-refused --allow-cut none", (1, b"", b"fault: open file 1\n  none: No such file or directory (os error 2)\n", None)),
+    ("info --allow-cut --explain --skip-refused moved empty cut a",
+     (1, TOLD_SKIPPED.encode(), b"cut: file 3 offset 60, 35 bytes dropped\n", None)),
     ("report a b", prints(f"{TWO}total packets 2 bytes 8 truncated 0\n{frames(short=2)}")), ("report - -", INPUT),
     ("report - --allow-cut < cut", prints(f"{TOLD_CUT}total packets 0 bytes 0 truncated 0\n{frames()}")),
     ("convert --to pcap -o c a", writes(CARRIED)), ("convert --order little --to pcap -o - -", gives(CARRIED)),
@@ -840,6 +948,9 @@ LINES = [
     ("merge --to pcap -o c a", writes(CARRIED)), ("merge --to=pcap --order big -o - -", gives(CARRIED_BIG)),
     ("merge --share-interfaces -o c a b -", writes(SHARED)), ("merge --to=pcapng -o c a b - --share-interfaces", writes(SHARED)),
     ("merge -o c --to pcapng a b -", writes(THRICE)), ("merge --whole --to pcap -o c a", writes(CARRIED)),
+    ("convert --to pcap --unit nano -o c a", writes(CARRIED_NANO)), ("convert --unit=micro --to pcap -o - -", gives(CARRIED)),
+    ("merge --unit nano --to pcap -o c a", writes(CARRIED_NANO)), ("merge --to=pcap --unit=micro -o c a", writes(CARRIED)),
+    ("join --to pcap --unit nano -o c a b", (1, b"", f"refused: {NO_PACKET}\n".encode(), b"")),
     ("join --to pcap -o c a b", (1, b"", f"refused: {NO_PACKET}\n".encode(), b"")), ("join --to pcapng -o c --order=big a b", writes(SECTION_BIG)),
     ("merge -o c - -", INPUT), ("merge -o a a b", OUTPUT), ("merge -o a a - -", INPUT), (f"merge -o a a - - {'a ' * 30}", FILES),
     ("list --explain a", prints(listed(1, 60))), ("merge --output c a b -", writes(THRICE)), ("merge a b - --output=c", writes(THRICE)),
@@ -883,6 +994,9 @@ LINES = [
         "merge --to pcap --to pcap -o c a", "report --to pcap a", "merge --share-interfaces --to pcap -o c a",
         "merge --share-interfaces=yes -o c a", "merge --share-interfaces --share-interfaces -o c a", "join --share-interfaces -o c a",
         "convert --share-interfaces --to pcapng -o c a",
+        "convert --to pcapng --unit nano -o c a", "merge --unit micro -o c a", "merge --to pcapng --unit micro -o c a", "join --unit nano -o c a",
+        "convert --to pcap --unit milli -o c a", "convert --to pcap --unit -o c a", "convert --to pcap --unit= -o c a", "report --unit nano a",
+        "convert --to pcap --unit nano --unit nano -o c a", "merge --to pcap --unit NANO -o c a", "list --unit micro a",
         "list --data 4 a", "list --data 4 --allow-cut a", "list --json --data", "list --json --data= a", "list --json --data +4 a",
         "list --json --data 4.0 a", "list --json --data -4 a", "list --json --data 262145 a", "list --json --data 4 --data 4 a",
         "list --class", "list --class=yes a", "list --class --class a", "blocks --class a", "report --class a", "merge --class -o c a",
@@ -891,6 +1005,11 @@ LINES = [
         "report --json --data 4 a", "report --top 0 a", "report --top 00 a", "report --top a", "report --top", "report --top= a", "report --top +1 a",
         "report --top -1 a", "report --top 1.0 a", "report --top 4294967296 a", "report --top 1 --top 1 a", "report --top=x a", "info --top 1 a",
         "list --top 1 a", "check --top 1 a", "merge --top 1 -o c a",
+        "list --time", "list --time a", "list --time= a", "list --time local a", "list --time UTC a", "list --time utc --time utc a",
+        "info --time exact,utc a", "report --time 0 a", "check --time iso a", "diff --time rfc3339 a b", "blocks --time utc a",
+        "digest --time utc a", "convert --time utc --to pcap -o c a", "merge --time utc -o c a", "join --time utc -o c a",
+        "list --skip-refused a", "check --skip-refused a",
+        "merge --skip-refused -o c a", "info --skip-refused=yes a", "info --skip-refused --skip-refused a", "report --skip-refused",
         "convert --json --to pcap -o c a", "merge --json -o c a", "join --json -o c a")),
 ]
 
@@ -913,6 +1032,26 @@ def is_json(count, bench, contents):
                         "path": names[int(found[1]) - 1]}] if found else []
             lines = [[json.loads(line) for line in part.splitlines()] for part in seen[1:]]
             count.check(f"{task} --json of {names}", (seen[0], *lines) == (status, wanted, refused), seen)
+
+
+def is_timed(count, bench, content, forms):
+    """Holds the time of a capture's packet, in each command and each form, in text and in JSON, to what it is in that form."""
+    name, usual = bench.name(content), forms["exact"]
+    for times, time in forms.items():
+        for words in (["list"], ["info"], ["report"], ["check"], ["list", "--class"], ["diff", "--ignore=time"]):
+            names = [name] * (1 + (words[0] == "diff"))
+            shown = run([*words, *names], bench.program)
+            seen = run([*words, "--time", times, *names], bench.program)
+            wanted = re.sub(rf"(?<= )(time|first|last) {re.escape(usual)}(?= |\n)", rf"\1 {time}", shown[1].decode())
+            count.check(f"{words} --time {times} of {usual}", seen == (shown[0], wanted.encode(), shown[2]), seen)
+            count.check(f"{words} has {usual}", words[0] == "diff" or usual in shown[1].decode(), shown)
+        found = [json.loads(line) for line in run(["list", "--json", "--time", times, name], bench.program)[1].splitlines()]
+        exact = [int(word) for word in re.split(r"[+/]", time)] if times == "exact" and time != "-" else None if time == "-" else time
+        count.check(f"list --json --time {times} of {usual}", [it["time"] for it in found] == [exact], found)
+    other = bench.name(content[:-8] + bytes([content[-8] ^ 1]) + content[-7:])
+    for times, time in forms.items():
+        seen = run(["diff", "--time", times, name, other], bench.program)
+        count.check(f"diff --time {times} of {usual}", seen[0] == 3 and seen[1].decode().count(f" time {time} ") == 2, seen)
 
 
 def seen_of(folder, program, words):
@@ -965,6 +1104,14 @@ def main():
             holds(f"{first[:200]} and {second[:200]}", "diff", [first, second], allow_cut, lambda *seen: seen == ended)
         for content, text in TOLD_OF:
             holds(content, "info", [content], False, lambda *seen: seen == (0, f"files 1\n{text}".encode(), b""))
+        for contents, allow_cut, text in KEPT:
+            status = 1 if text.startswith("left out ") else 0
+            holds([content[:200] for content in contents], "info-skipping", contents, allow_cut, lambda *seen: seen == (status, text.encode(), b""))
+            told = wanted_of("info-skipping", [bytes.fromhex(content) for content in contents], allow_cut)
+            count.check("the model's info --skip-refused", told == (status, text.encode(), b""), told)
+        for content, text in REPORTED:
+            holds(f"a cut file and {content[:200]}", "report-skipping", [CUT, content], False, lambda status, out, error: (status, error) == (1, b"")
+                  and out.startswith(b"left out 1 offset 24 rule 3 cut\nfiles 1\n") and out.endswith(text.encode()))
         for contents, texts, packets in DIGESTED:
             wanted = digests(texts, packets).encode()
             holds(contents, "digest", contents, False, lambda *seen: seen == (0, wanted, b""))
@@ -985,6 +1132,11 @@ def main():
             for contents, written, told in rows:
                 ended = (1 if told else 0, bytes.fromhex(written), f"refused: {told}\n".encode() if told else b"")
                 holds(contents, task, contents, False, lambda *seen: seen == ended)
+        for task, contents, written, told in IN_UNITS:
+            ended = (1 if told else 0, bytes.fromhex(written), f"refused: {told}\n".encode() if told else b"")
+            holds(contents, task, contents, False, lambda *seen: seen == ended)
+            answer = wanted_of(task, [bytes.fromhex(content) for content in contents])
+            count.check(f"the model's {task} of {contents}", answer == ended, answer)
         for content, text in REPORTED:
             holds(content[:200], "report", [content], False,
                   lambda status, out, error: (status, error) == (0, b"") and out.endswith(text.encode()))
@@ -998,6 +1150,10 @@ def main():
             count.check(f"the model's report --top {most}", answer.endswith(b"\n" + text), answer)
         holds("five conversations", "top", [TALKS], False, lambda *seen: seen[0::2] == (0, b"") and seen[1].endswith(b"\n" + (
             head + "".join(f"talk {talk}\n" for talk in BY_BYTES[:2])).encode()))
+        for source, *forms in TIMED:
+            is_timed(count, bench, bytes.fromhex(at_time(*source)), dict(zip(("exact", "decimal", "utc"), forms)))
+        untimed = f"{SECTION} {PLAIN} 03000000 14000000 04000000 01020304 14000000"
+        is_timed(count, bench, bytes.fromhex(untimed), dict.fromkeys(("exact", "decimal", "utc"), "-"))
         for content, told in DESCRIBED:
             holds(content[:200], "classed", [content], False, lambda status, out, error: (status, error) == (0, b"")
                   and [line.partition(" class ")[2] for line in out.decode().splitlines()] == told)
@@ -1018,7 +1174,7 @@ def main():
         os.mkdir(work)
         carried = vector("CARRY_PCAPNG")
         kept = {"cut": carried[:-1], "rest": carried + b"\6", "carried": bytes.fromhex(CARRIED), "later": bytes.fromhex(LATER)[:-1] + b"\5",
-                "moved": bytes.fromhex(LATER)}
+                "moved": bytes.fromhex(LATER), "empty": b""}
         for name in ("a", "b", "--allow-cut", *kept):
             with open(os.path.join(work, name), "wb") as file:
                 file.write(kept.get(name, carried))

@@ -10,9 +10,12 @@ from concurrent.futures import ProcessPoolExecutor
 import model
 from captures import PROGRAM, VECTORS, WRITING, Bench, datagram, make_shim, run, udp, vector, wanted_of, words_of
 
-TASKS = ["list", "classed", "blocks", "diff", "info", "report", "top", "digest", "check", "check-digest", "merge", "join", "pcap", "pcapng",
-         "merge-shared", "merge-pcap", "join-pcap"]
-MANY = ("info", "report", "top", "digest", "check", "check-digest", "merge", "join", "merge-shared", "merge-pcap", "join-pcap")
+IN_UNITS = ["pcap-micro", "pcap-nano", "merge-micro", "merge-nano", "join-micro", "join-nano"]
+TASKS = ["list", "classed", "blocks", "diff", "info", "report", "top", "info-skipping", "report-skipping", "digest", "check", "check-digest",
+         "merge", "join", "pcap", "pcapng", "merge-shared", "merge-pcap", "join-pcap", *IN_UNITS]
+MANY = ("info", "report", "top", "info-skipping", "report-skipping", "digest", "check", "check-digest", "merge", "join", "merge-shared",
+        "merge-pcap", "join-pcap", *IN_UNITS[2:])
+TIMED = ("list", "classed", "diff", "info", "report", "top", "info-skipping", "report-skipping", "check", "check-digest")
 NUMBERS = [0, 1, 2, 3, 4, 28, 32, 262_144, 262_145, 524_288, 524_292, 2**31, 2**32 - 4, 2**32 - 1]
 LINE = re.compile(rb"refused: file \d+ offset \d+ rule \d+ [a-z-]+\n|fault: (read file \d+ offset \d+|write|memory|open file \d+|create output)\n|")
 MOST_MEMORY = 16 * 1024     # KiB
@@ -179,7 +182,7 @@ def is_unread(task, contents, text, wanted):
 def complaint(task, contents, seen, wanted, faults):
     """What is wrong with a run, or None."""
     status, text, error, told, memory, blocks = seen
-    is_told = error != b"" or task in model.SURVEYS and model.status_of(task, text.decode(), None) == 1
+    is_told = error != b"" or task in model.SURVEYS + model.SKIPPING and model.status_of(task, text.decode(), None) == 1
     if status not in (0, 1, 3) or not LINE.fullmatch(error) or (status == 1) != is_told:
         return "no defined end"
     if memory > MOST_MEMORY or memory == 0:
@@ -219,12 +222,13 @@ def case(rng, bench, shim, out, counts):
         allow_cut, order = rng.random() < 0.5, rng.choice("<>")
         faults = some_faults(rng) if rng.random() < 0.25 else {}
         variables = faults or ({"PIECE": 1} if rng.random() < 0.2 else {})
-        wanted = wanted_of(task, contents, allow_cut, order)
-        seen = bench.run(task, contents, allow_cut, order, out, (shim, variables))
+        times = rng.choice(("exact", "decimal", "utc")) if task in TIMED and not faults else "exact"
+        wanted = wanted_of(task, contents, allow_cut, order, times)
+        seen = bench.run(task, contents, allow_cut, order, out, (shim, variables), times)
         wrong = complaint(task, contents, seen, wanted, faults)
         counts["runs"] += 1
-        refusal = seen[1] if task in model.SURVEYS else seen[2]
-        counts["refused"] += b"refused" in refusal
+        refusal = seen[1] if task in model.SURVEYS + model.SKIPPING else seen[2]
+        counts["refused"] += b"refused" in refusal or b"left out" in refusal
         rule = re.search(rb" rule (\d+) ", refusal)
         if rule:
             counts[int(rule[1])] += 1
@@ -236,7 +240,7 @@ def case(rng, bench, shim, out, counts):
             if again[0] != 0 and not (seen[3] and again[2].endswith(b" rule 3 cut\n")):
                 wrong = f"OUT is not read again: {again[2]}"
         if wrong:
-            words = words_of(task, [content.hex() for content in contents], allow_cut, order, "OUT")
+            words = words_of(task, [content.hex() for content in contents], allow_cut, order, "OUT", times)
             return f"{wrong}: {' '.join(words)[:4_000]} {variables}\n  wanted {str(wanted)[:500]}\n  saw {str(seen)[:500]}"
     return None
 

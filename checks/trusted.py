@@ -26,6 +26,10 @@ ROOTS = {
     "blocks": ["cap_commands.BlockText.block_list", "cap_commands.BlockText.block_list_json", "cap_commands.BlockText.block_refusal", PRINTS],
     "diff": ["cap_commands.DiffText.comparison_of", "cap_commands.DiffText.diff_text_in", "cap_commands.DiffText.diff_refusal", "cap_commands.DiffText.is_same", TELLS],
     "info": ["cap_talks.talks.InfoText.info_text_in", "cap_talks.talks.InfoText.first_refusal", TELLS],
+    "info --skip-refused": [
+        "cap_commands.Skipping.refusals_from", "cap_commands.Skipping.kept_of", "cap_commands.Skipping.left_out_lines",
+        "cap_talks.talks.InfoText.info_text_in", TELLS,
+    ],
     "report": [
         "cap_laws.InOrder.text_by_places_in", "cap_laws.InOrder.top_by_places_in", "cap_laws.InOrder.refusal_by_places",
         "cap_merge.Files.clocked_run", "cap_merge.Files.endings_of_files", TELLS,

@@ -15,18 +15,21 @@ _capt() {
     case $before in
         --order) mapfile -t COMPREPLY < <(compgen -W 'big little' -- "$word"); return ;;
         --data | --top) COMPREPLY=(); return ;;
+        --time) mapfile -t COMPREPLY < <(compgen -W 'exact decimal utc' -- "$word"); return ;;
         --ignore) mapfile -t COMPREPLY < <(compgen -W 'time link original' -- "$word"); return ;;
         --to) mapfile -t COMPREPLY < <(compgen -W 'pcap pcapng' -- "$word"); return ;;
+        --unit) mapfile -t COMPREPLY < <(compgen -W 'micro nano' -- "$word"); return ;;
     esac
     case ${COMP_WORDS[1]} in
         help) mapfile -t COMPREPLY < <(compgen -W "$commands" -- "$word"); return ;;
-        convert | join) options='--allow-cut --explain --order --output --to --whole -o --help' ;;
-        merge) options='--allow-cut --explain --order --output --to --whole --share-interfaces -o --help' ;;
-        list) options='--allow-cut --explain --class --json --data --help' ;;
-        diff) options='--allow-cut --explain --ignore --json --data --help' ;;
+        convert | join) options='--allow-cut --explain --order --output --to --unit --whole -o --help' ;;
+        merge) options='--allow-cut --explain --order --output --to --unit --whole --share-interfaces -o --help' ;;
+        list) options='--allow-cut --explain --class --json --data --time --help' ;;
+        diff) options='--allow-cut --explain --ignore --json --data --time --help' ;;
         digest) options='--allow-cut --explain --json --names --files0-from --verify --help' ;;
-        check) options='--allow-cut --explain --digest --json --names --files0-from --help' ;;
-        report) options='--allow-cut --explain --json --top --help' ;;
+        check) options='--allow-cut --explain --digest --json --names --files0-from --time --help' ;;
+        report) options='--allow-cut --explain --json --time --top --skip-refused --help' ;;
+        info) options='--allow-cut --explain --json --time --skip-refused --help' ;;
         *) options='--allow-cut --explain --json --help' ;;
     esac
     if [[ $word == -* ]]; then

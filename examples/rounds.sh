@@ -4,7 +4,7 @@
 # written beside itself, in a folder OUT.XXXXXX, and renamed when all is done: after a refusal or a fault it is as it
 # was before. Only kill -9 leaves that folder.
 #
-# Use: rounds.sh [--allow-cut] [--order ORDER] [--to FORMAT] [--share-interfaces] -o OUT FILE...
+# Use: rounds.sh [--allow-cut] [--order ORDER] [--to FORMAT] [--unit UNIT] [--share-interfaces] -o OUT FILE...
 #
 # Without -o the first word is OUT, if there is no such file: rounds.sh *.pcap writes over no capture. CAPT names the program (capt), JOBS how many merges run at once (one for each processor). The status is 0 if all is
 # done, 1 after a refusal or a fault, 2 if the command line is invalid. --share-interfaces makes equal interfaces one in
@@ -29,6 +29,7 @@ misused() {
 cut=()
 order=()
 to=()
+unit=()
 share=()
 given=
 has_out=
@@ -45,6 +46,12 @@ while [[ ${1-} == -?* ]]; do
         --to)
             to=("--to=${2-}")
             if [[ ${2-} != pcap && ${2-} != pcapng ]]; then misused '--to is pcap or pcapng'; fi
+            shift
+            ;;
+        --unit=micro | --unit=nano) unit=("$1") ;;
+        --unit)
+            unit=("--unit=${2-}")
+            if [[ ${2-} != micro && ${2-} != nano ]]; then misused '--unit is micro or nano'; fi
             shift
             ;;
         --share-interfaces) share=(--share-interfaces) ;;
@@ -69,6 +76,7 @@ if [ ! "$has_out" ]; then
     shift
 fi
 if [ $# = 0 ]; then misused 'FILE is missing'; fi
+if [ "${#unit[@]}" = 1 ] && [ "${to[*]}" != --to=pcap ]; then misused '--unit goes with --to pcap'; fi
 if [ "$given" = - ]; then misused 'OUT is a file, not standard output'; fi
 if ! command -v "$capt" > /dev/null; then misused "no program $capt: set CAPT"; fi
 if [[ ! $jobs =~ ^[1-9][0-9]*$ ]]; then misused 'JOBS is a number from 1 on'; fi
@@ -148,7 +156,7 @@ while
         name=$work/$round
     else
         name=$beside/all
-        format=("${to[@]}")
+        format=("${to[@]}" "${unit[@]}")
         # a pcap file has one interface
         if [ "${to[*]}" = --to=pcap ]; then shares=(); fi
     fi

@@ -4,6 +4,7 @@ use Rattle.cap_print.specs.Facts.{Fact, Field, Value, begin_in, close_in, end_in
 use Rattle.cap_print.specs.Facts.{coded, flag, group, hex, moment, number, one, value_in, word}
 use Rattle.cap_print.specs.declared.forms.Form.{Form}
 use Rattle.cap_print.specs.declared.forms.Form.TheVariants.{Text, Json}
+use Rattle.cap_print.specs.declared.forms.TimeForm.{TimeForm}
 use Rattle.cap_check.specs.CheckText.{check_facts, check_line_in, digest_fields, held_facts, odd_fields}
 use Rattle.cap_check.specs.inner.Parts.{counts_in, odd_in, unnamed_in}
 use Rattle.cap_check.specs.declared.checked.Check.{Check}
@@ -13,18 +14,18 @@ use Rattle.cap_check.specs.declared.checked.CheckLine.TheVariants.{Counts, Count
 -- a value, and then two texts
 value-then : (form : Form) (label key : List ℕ) (value : Value) (text rest : List ℕ)
     → value_in form label key value (text ++ rest) ≡ value_in form label key value text ++ rest
-value-then Text label key (number n) text rest = grind (arith, append_assoc)
-value-then Text label key (coded t n) text rest = grind (arith, append_assoc)
-value-then Text label key (word known) text rest = grind (arith, append_assoc)
-value-then Text label key (moment at) text rest = grind (arith, append_assoc)
-value-then Text label key (hex shown) text rest = grind (arith, append_assoc)
-value-then Text label key (flag is_so) text rest = grind (arith, append_assoc)
-value-then Json label key (number n) text rest = grind (arith, append_assoc)
-value-then Json label key (coded t n) text rest = grind (arith, append_assoc)
-value-then Json label key (word known) text rest = grind (arith, append_assoc)
-value-then Json label key (moment at) text rest = grind (arith, append_assoc)
-value-then Json label key (hex shown) text rest = grind (arith, append_assoc)
-value-then Json label key (flag is_so) text rest = grind (arith, append_assoc)
+value-then (Text times) label key (number n) text rest = grind (arith, append_assoc)
+value-then (Text times) label key (coded t n) text rest = grind (arith, append_assoc)
+value-then (Text times) label key (word known) text rest = grind (arith, append_assoc)
+value-then (Text times) label key (moment at) text rest = grind (arith, append_assoc)
+value-then (Text times) label key (hex shown) text rest = grind (arith, append_assoc)
+value-then (Text times) label key (flag is_so) text rest = grind (arith, append_assoc)
+value-then (Json times) label key (number n) text rest = grind (arith, append_assoc)
+value-then (Json times) label key (coded t n) text rest = grind (arith, append_assoc)
+value-then (Json times) label key (word known) text rest = grind (arith, append_assoc)
+value-then (Json times) label key (moment at) text rest = grind (arith, append_assoc)
+value-then (Json times) label key (hex shown) text rest = grind (arith, append_assoc)
+value-then (Json times) label key (flag is_so) text rest = grind (arith, append_assoc)
 
 -- some facts, and then two texts
 facts-then : (form : Form) (facts : List Fact) (text rest : List ℕ)
@@ -35,25 +36,26 @@ facts-then form (fact ∷ facts) text rest =
     ∙ value-then form fact.label fact.key fact.value (facts_in form facts text) rest
 
 -- in JSON a value begins with a comma, which a group takes away
-comma-then : (label key : List ℕ) (value : Value) (text rest : List ℕ)
-    → drop 1 (value_in Json label key value text ++ rest) ≡ drop 1 (value_in Json label key value text) ++ rest
-comma-then label key (number n) text rest = refl
-comma-then label key (coded t n) text rest = refl
-comma-then label key (word known) text rest = refl
-comma-then label key (moment at) text rest = refl
-comma-then label key (hex shown) text rest = refl
-comma-then label key (flag is_so) text rest = refl
+comma-then : (times : TimeForm) (label key : List ℕ) (value : Value) (text rest : List ℕ)
+    → drop 1 (value_in (Json times) label key value text ++ rest)
+    ≡ drop 1 (value_in (Json times) label key value text) ++ rest
+comma-then times label key (number n) text rest = refl
+comma-then times label key (coded t n) text rest = refl
+comma-then times label key (word known) text rest = refl
+comma-then times label key (moment at) text rest = refl
+comma-then times label key (hex shown) text rest = refl
+comma-then times label key (flag is_so) text rest = refl
 
 open-then : (form : Form) (key : List ℕ) (fact : Fact) (text rest : List ℕ)
     → open_in form key (fact_in form fact text ++ rest) ≡ open_in form key (fact_in form fact text) ++ rest
-open-then Text key fact text rest = refl
-open-then Json key fact text rest =
-    ap (λ l. codes ",\"" ++ key ++ codes "\":{" ++ l) (comma-then fact.label fact.key fact.value text rest)
+open-then (Text times) key fact text rest = refl
+open-then (Json times) key fact text rest =
+    ap (λ l. codes ",\"" ++ key ++ codes "\":{" ++ l) (comma-then times fact.label fact.key fact.value text rest)
     ∙ grind (arith, append_assoc)
 
 close-then : (form : Form) (text rest : List ℕ) → close_in form (text ++ rest) ≡ close_in form text ++ rest
-close-then Text text rest = refl
-close-then Json text rest = refl
+close-then (Text times) text rest = refl
+close-then (Json times) text rest = refl
 
 -- some fields, and then the rest of the line
 fields-then : (form : Form) (fields : List Field) (rest : List ℕ)
@@ -80,8 +82,8 @@ facts-fields form (fact ∷ facts) fields rest = ap (fact_in form fact) (facts-f
 
 begin-then : (form : Form) (kind text rest : List ℕ)
     → begin_in form kind (text ++ rest) ≡ begin_in form kind text ++ rest
-begin-then Text kind text rest = grind (arith, append_assoc)
-begin-then Json kind text rest = grind (arith, append_assoc)
+begin-then (Text times) kind text rest = grind (arith, append_assoc)
+begin-then (Json times) kind text rest = grind (arith, append_assoc)
 
 -- a line of what is counted, in two parts
 pub counts-parts : (which : CheckLine) (form : Form) (file : ℕ) (check : Check)

@@ -4,6 +4,7 @@ use Rattle.std.proofs.Common.{ap, ◌∙◌, append_assoc, append-nil, Option, N
 use Rattle.std.specs.Prelude.{◌||◌}
 use Rattle.std.proofs.Math.Bool.{or-false}
 use Rattle.cap_print.specs.declared.forms.Form.TheVariants.{Json, Text}
+use Rattle.cap_print.specs.declared.forms.TimeForm.{TimeForm}
 use Rattle.cap_commands.proofs.Pieces.{joined, joined-more}
 use Rattle.cap_commands.specs.DiffText.{chosen, data_place_in, difference_line, quoted, spaced, words_of}
 use Rattle.cap_commands.specs.inner.DiffWords.{quoted_if}
@@ -43,11 +44,11 @@ spaced-words it =
     rw (a, b, c, d, e, none-chosen) refl
 
 -- the first line of a difference in text, part by part
-pub text-line : (n : ℕ) (it : Differences) (place : Option ℕ)
-    → codes "differ packet " ++ (decimal n ++ joined (spaced_parts it) (data_place_in Text place (codes "\n")))
-    ≡ difference_line Text n (words_of it) place
-text-line n it place =
-    let end = data_place_in Text place (codes "\n") in
+pub text-line : (times : TimeForm) (n : ℕ) (it : Differences) (place : Option ℕ)
+    → codes "differ packet " ++ (decimal n ++ joined (spaced_parts it) (data_place_in (Text times) place (codes "\n")))
+    ≡ difference_line (Text times) n (words_of it) place
+text-line times n it place =
+    let end = data_place_in (Text times) place (codes "\n") in
     rw (spaced-words it)
     (ap (λ l. codes "differ packet " ++ l)
     (ap (λ l. decimal n ++ l) (joined-more (spaced_parts it) [] end)
@@ -108,13 +109,13 @@ quoted-words it =
     rw (a, b, c, d, e, none-chosen, or-false it.bytes) refl
 
 -- the first line of a difference in JSON, part by part
-pub json-line : (n : ℕ) (it : Differences) (place : Option ℕ)
+pub json-line : (times : TimeForm) (n : ℕ) (it : Differences) (place : Option ℕ)
     → codes "{\"type\":\"differ\",\"packet\":" ++ (decimal n ++ (codes ",\"differs\":["
-    ++ joined (quoted_parts it) (codes "]" ++ data_place_in Json place (codes "}\n"))))
-    ≡ difference_line Json n (words_of it) place
-json-line n it place =
+    ++ joined (quoted_parts it) (codes "]" ++ data_place_in (Json times) place (codes "}\n"))))
+    ≡ difference_line (Json times) n (words_of it) place
+json-line times n it place =
     let words = joined (quoted_parts it) [] in
-    let end = codes "]" ++ data_place_in Json place (codes "}\n") in
+    let end = codes "]" ++ data_place_in (Json times) place (codes "}\n") in
     let before = codes ",\"differs\":[" in
     rw (quoted-words it)
     (ap (λ l. codes "{\"type\":\"differ\",\"packet\":" ++ l)
@@ -123,10 +124,10 @@ json-line n it place =
     ∙ sym (append_assoc (decimal n ++ before) words end))))
 
 -- the line in JSON of a packet that one file lacks, part by part
-pub end-line : (n : ℕ)
+pub end-line : (times : TimeForm) (n : ℕ)
     → codes "{\"type\":\"differ\",\"packet\":" ++ (decimal n ++ codes ",\"differs\":[\"end\"]}\n")
-    ≡ difference_line Json n (codes "end" ∷ []) None
-end-line n =
+    ≡ difference_line (Json times) n (codes "end" ∷ []) None
+end-line times n =
     let before = codes ",\"differs\":[" in
     let word = codes "\"end\"" in
     let end = codes "]}\n" in

@@ -2,7 +2,7 @@
 use Rattle.std.proofs.Common.{◌≡◌, ℕ, ◌+◌, ◌≤◌, List, ◌∷◌, drop, true, false, Bool, IsTrue, Option}
 use Rattle.std.proofs.Common.{Some, None, Ok, Err, Result, refl, sym, ap, ◌∙◌, subst, arith}
 use Rattle.std.proofs.lemmas.Bool.{false≢true}
-use Rattle.std.specs.Prelude.{IsNone, IsOkUnless, ◌++◌, ◌&&◌, is_none, is_some}
+use Rattle.std.specs.Prelude.{IsNone, IsOkUnless, ◌++◌, ◌&&◌, is_none}
 use Rattle.cap_bytes.proofs.Putting.{Prints-head}
 use Rattle.cap_bytes.specs.Device.{Puts}
 use Rattle.cap_bytes.specs.Printing.{Prints}

@@ -20,8 +20,8 @@ use Rattle.cap_source.specs.Items.{file_first, file_items}
 use Rattle.cap_source.specs.inner.Walk.{SameEndings, Walks}
 use Rattle.cap_source.specs.declared.feeds.FileEnd.{FileEnd}
 use Rattle.cap_source.specs.declared.feeds.Head.TheVariants as heads
-use Rattle.cap_bytes.specs.declared.formats.Format.{Format}
-use Rattle.cap_bytes.specs.declared.formats.Format.TheVariants.{Pcap, Pcapng}
+use Rattle.cap_commands.specs.declared.counting.OutputFormat.{OutputFormat}
+use Rattle.cap_commands.specs.declared.counting.OutputFormat.TheVariants.{Pcap, Pcapng}
 use Rattle.cap_talks.proofs.TableLines.{is-numbered}
 use Rattle.std.proofs.lemmas.List.{length-map, take_more_set, drop-set-lt, drop-drop, drop-replicate}
 use Rattle.std.proofs.lemmas.List.FromFn.{length-range_with_len}
@@ -156,13 +156,13 @@ DroppedInfo-one old new told ending (Ok x) left is at ends l = λ t. l ∙ ap le
 DroppedInfo-one old new told ending (Err fault) left is at ends l = tt
 
 -- what is written of a file of which nothing was read
-pub Prints-file : (format : Format) (order : Order) (tail : Tail) (bytes : List ℕ) (number : ℕ) (first : _)
+pub Prints-file : (format : OutputFormat) (order : Order) (tail : Tail) (bytes : List ℕ) (number : ℕ) (first : _)
     (items : List Item) (held new : List ℕ) (result : Result (Unit {0}) Fault)
     → number ≡ 1 → first ≡ file_first tail 1 bytes → items ≡ file_items tail 1 bytes
     → Prints (written_file_text format order number first items) (file_refusal format number first items) held result
     new
     → Prints (convert_text format order tail bytes) (convert_refusal format tail bytes) held result new
-Prints-file Pcap order tail bytes number first items held new result n f i p = rw (n, f, i) at p
+Prints-file (Pcap unit) order tail bytes number first items held new result n f i p = rw (n, f, i) at p
 Prints-file Pcapng order tail bytes number first items held new result n f i p = rw (n, f, i) at p
 
 -- of a report

@@ -9,3 +9,4 @@ pub mod Listing
 pub mod Telling
 pub mod Pieces
 pub mod CheckedFiles
+pub mod RefusedFiles

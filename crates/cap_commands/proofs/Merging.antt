@@ -10,7 +10,7 @@ use Rattle.cap_merge.proofs.Unread.{told-readers, bytes-readers, run-items}
 use Rattle.cap_merge.specs.Files.{clocked_run}
 use Rattle.cap_merge.specs.Parts.{Part, merged_feed, run_of}
 use Rattle.cap_merge.specs.inner.Readers.{ReaderFacts, IsCountedRun}
-use Rattle.cap_bytes.specs.declared.formats.Format.{Format}
+use Rattle.cap_commands.specs.declared.counting.OutputFormat.{OutputFormat}
 use Rattle.cap_commands.specs.JoinText.{join_text_in, join_refusal_in}
 use Rattle.cap_commands.specs.MergeText.{merge_text_in, merge_refusal_in}
 use Rattle.cap_commands.specs.declared.counting.RunForm.{RunForm}
@@ -30,7 +30,7 @@ Prints-merged reader tail form order sources ps held new result u prints t =
     (run-items reader tail sources ps u) (prints (told-readers reader tail sources ps u t))
 
 -- its datagrams, written
-pub Prints-joined : {comments : Bool} {A : Type 0} (reader : A → ReaderFacts) (tail : Tail) (format : Format)
+pub Prints-joined : {comments : Bool} {A : Type 0} (reader : A → ReaderFacts) (tail : Tail) (format : OutputFormat)
     (order : Order) (sources : List A) (ps : List Part)
     (held new : List ℕ) (result : Result (Unit {0}) Fault) → IsCountedRun comments tail (map reader sources) ps
     → (IsTrue (merged_feed ps).told → Prints (datagrams_text format order (run_of ps))

@@ -10,7 +10,7 @@ use Rattle.cap_bytes.proofs.Putting.{Putting, Putting-front, Putting-more}
 use Rattle.cap_bytes.specs.Device.{Puts, Writer}
 use Rattle.cap_bytes.specs.declared.faults.Fault.{Fault}
 use Rattle.cap_bytes.specs.Printing.{PrintsFront}
-use Rattle.cap_print.specs.Times.{time_json, time_text}
+use Rattle.cap_print.specs.Times.{time_json_in, time_text_in}
 use Rattle.cap_print.specs.declared.forms.Form.{Form}
 use Rattle.cap_print.specs.declared.forms.Form.TheVariants.{Json, Text}
 use Rattle.cap_print.specs.inner.Parts.{quote_in}
@@ -47,22 +47,22 @@ joined-more (part ∷ parts) rest more = ap (λ l. part ++ l) (joined-more parts
 pub packet-parts : (form : Form) (behind : Behind) (n : ℕ) (meta : Meta) (shown : List ℕ) → 0 < length shown
     → packet_head form n meta ++ packet_rest form behind shown ≡ packet_text form behind n meta shown
 packet-parts form behind n meta [] some = absurd (omega (arith, some))
-packet-parts Text behind n meta (byte ∷ bytes) some =
+packet-parts (Text times) behind n meta (byte ∷ bytes) some =
     let parts =
     codes "packet" ∷ codes " " ∷ decimal n ∷ codes " offset " ∷ decimal meta.offset ∷ codes " time "
-    ∷ time_text (printed_in meta.units meta.interface) ∷ codes " captured " ∷ decimal meta.captured
+    ∷ time_text_in times (printed_in meta.units meta.interface) ∷ codes " captured " ∷ decimal meta.captured
     ∷ codes " original " ∷ decimal meta.original ∷ codes " link " ∷ decimal meta.interface.link ∷ [] in
-    sym (joined-more parts (codes " data ") (packet_rest Text behind (byte ∷ bytes)))
-packet-parts Json behind n meta (byte ∷ bytes) some =
+    sym (joined-more parts (codes " data ") (packet_rest (Text times) behind (byte ∷ bytes)))
+packet-parts (Json times) behind n meta (byte ∷ bytes) some =
     let digits = encode_lower (byte ∷ bytes) in
     let parts =
     codes "{\"type\":\"packet\",\"n\":" ∷ decimal n ∷ codes ",\"offset\":" ∷ decimal meta.offset
-    ∷ codes ",\"time\":" ∷ time_json (printed_in meta.units meta.interface) ∷ codes ",\"captured\":"
+    ∷ codes ",\"time\":" ∷ time_json_in times (printed_in meta.units meta.interface) ∷ codes ",\"captured\":"
     ∷ decimal meta.captured ∷ codes ",\"original\":" ∷ decimal meta.original ∷ codes ",\"link\":"
     ∷ decimal meta.interface.link ∷ [] in
-    sym (joined-more parts (codes ",\"data\":\"") (packet_rest Json behind (byte ∷ bytes)))
+    sym (joined-more parts (codes ",\"data\":\"") (packet_rest (Json times) behind (byte ∷ bytes)))
     ∙ ap (λ l. joined parts (codes ",\"data\":\"" ++ l))
-    (sym (append_assoc digits (codes "\"") (behind_in Json behind)))
+    (sym (append_assoc digits (codes "\"") (behind_in (Json times) behind)))
 
 -- the first bytes, as many as there are of those that are wanted
 pub min-taken : (n : ℕ) (bytes : List ℕ) → take (ord_min nat_cmp (length bytes) n) bytes ≡ take n bytes

@@ -12,6 +12,7 @@ use Rattle.cap_blocks.specs.declared.blocks.Block.{Block}
 use Rattle.cap_print.specs.Facts.{Facts, line_in, named, number, one, word}
 use Rattle.cap_print.specs.declared.forms.Form.{Form}
 use Rattle.cap_print.specs.declared.forms.Form.TheVariants.{Json, Text}
+use Rattle.cap_print.specs.declared.forms.TimeForm.TheVariants.{Exact}
 use Rattle.cap_bytes.specs.declared.stops.CutRest.{CutRest}
 use Rattle.cap_bytes.specs.declared.stops.Stop.{Stop}
 use Rattle.cap_bytes.specs.declared.stops.Stop.TheVariants as stops
@@ -65,11 +66,11 @@ block_list_in form tail bytes = block_lines (block_line form) 1 (block_items_fro
 
 -- what it prints in text
 abbrev pub block_list : Tail → List ℕ → List ℕ
-block_list = block_list_in Text
+block_list = block_list_in (Text Exact)
 
 -- what it prints in JSON
 abbrev pub block_list_json : Tail → List ℕ → List ℕ
-block_list_json = block_list_in Json
+block_list_json = block_list_in (Json Exact)
 
 -- the refusal that ends `blocks` of a file with those bytes in either form, if there is one
 abbrev pub block_refusal : Tail → List ℕ → Option Refusal

@@ -13,6 +13,7 @@ use Rattle.cap_print.specs.Facts.{Fact, begin_in, close_in, end_in, fact_in, fie
 use Rattle.cap_print.specs.Facts.{number, one}
 use Rattle.cap_print.specs.declared.forms.Form.{Form}
 use Rattle.cap_print.specs.declared.forms.Form.TheVariants.{Json, Text}
+use Rattle.cap_print.specs.declared.forms.TimeForm.TheVariants.{Exact}
 use Rattle.cap_source.specs.Feed.{Item, packet, refused}
 use Rattle.cap_source.specs.Items.{file_ending, file_items}
 use Rattle.cap_source.specs.Times.{meta_time}
@@ -44,7 +45,7 @@ nothing_ignored = record { time = false; link = false; original = false }
 
 -- the options of `diff` without any: nothing is ignored, and it prints text, with at most 16 bytes of each packet
 abbrev pub default_options : DiffOptions
-default_options = record { ignored = nothing_ignored; form = Text; most = 16 }
+default_options = record { ignored = nothing_ignored; form = Text Exact; most = 16 }
 
 -- in which of five things two packets differ: link type, exact time, captured length, original length, captured bytes
 abbrev pub differences_of : Compared → Compared → Differences
@@ -178,11 +179,11 @@ data_place_in form (Some place) rest =
 -- the first line of a difference in a form, at the packet of that number, with these words, the last of them `data` if
 -- the captured bytes differ, and the place at which they do
 abbrev pub difference_line : Form → ℕ → List (List ℕ) → Option ℕ → List ℕ
-difference_line Text n words place =
-    codes "differ packet " ++ decimal n ++ spaced words ++ data_place_in Text place (codes "\n")
-difference_line Json n words place =
+difference_line (Text times) n words place =
+    codes "differ packet " ++ decimal n ++ spaced words ++ data_place_in (Text times) place (codes "\n")
+difference_line (Json times) n words place =
     codes "{\"type\":\"differ\",\"packet\":" ++ decimal n ++ codes ",\"differs\":[" ++ quoted words
-    ++ (codes "]" ++ data_place_in Json place (codes "}\n"))
+    ++ (codes "]" ++ data_place_in (Json times) place (codes "}\n"))
 
 -- in JSON, from which byte on a packet's bytes are shown, if that isn't the first, and then the rest of the line
 abbrev pub from_json : ℕ → List ℕ → List ℕ
@@ -190,8 +191,8 @@ from_json from rest = if from == 0 then rest else codes ",\"data_from\":" ++ dec
 
 -- what stands before a packet in a form, by the sign of its file and the byte from which on its bytes are shown
 abbrev pub before_side : Form → List ℕ → ℕ → List ℕ
-before_side Text sign from = sign ++ codes " "
-before_side Json sign from =
+before_side (Text times) sign from = sign ++ codes " "
+before_side (Json times) sign from =
     codes "{\"type\":\"side\",\"side\":\"" ++ sign ++ (codes "\"" ++ from_json from (codes ",\"packet\":"))
 
 -- the bytes of a packet that are shown: at most so many, from that byte on
@@ -206,8 +207,8 @@ packet_side form n meta shown = begin_in form (codes "packet")
 
 -- that there is no packet
 abbrev pub nothing_in : Form → List ℕ
-nothing_in Text = codes "end"
-nothing_in Json = codes "null"
+nothing_in (Text times) = codes "end"
+nothing_in (Json times) = codes "null"
 
 -- that a file has ended, and whether a rest of it was dropped
 abbrev pub no_side : Form → Bool → List ℕ

@@ -1,6 +1,6 @@
 -- What `capt` does for a job: the text of each command, over the bytes of the job's files.
 use Rattle.std.specs.Prelude.{◌≡◌, ℕ, List, [], ◌∷◌, length, Bool, true, false, Option, Some, None, unwrap_or}
-use Rattle.std.specs.Prelude.{Result, Ok, Err}
+use Rattle.std.specs.Prelude.{Result, Ok, Err, option_map}
 use Rattle.cap_bytes.specs.Printing.{Prints}
 use Rattle.cap_bytes.specs.declared.faults.Fault.{Fault}
 use Rattle.cap_bytes.specs.declared.faults.Tail.{Tail}
@@ -17,9 +17,8 @@ use Rattle.cap_line.specs.declared.jobs.Task.{Task}
 use Rattle.cap_line.specs.declared.jobs.Task.TheVariants as tasks
 use Rattle.cap_print.specs.declared.forms.Form.{Form}
 use Rattle.cap_print.specs.declared.forms.Form.TheVariants.{Json, Text}
+use Rattle.cap_print.specs.declared.forms.TimeForm.{TimeForm}
 use Rattle.cap_merge.specs.Files.{clocked_run, endings_of_files}
-use Rattle.cap_bytes.specs.declared.formats.Format.{Format}
-use Rattle.cap_bytes.specs.declared.formats.Format.TheVariants.{Pcapng}
 use Rattle.cap_talks.specs.talks.InfoText.{first_refusal, info_text_in}
 use Rattle.cap_talks.specs.talks.ReportText.{report_refusal, report_shown_in}
 use Rattle.cap_talks.specs.talks.Telling.{Tells}
@@ -31,9 +30,11 @@ use Rattle.cap_commands.specs.DiffText.{is_same}
 use Rattle.cap_commands.specs.JoinText.{join_refusal_in, join_text_in}
 use Rattle.cap_commands.specs.ListText.{list_refusal}
 use Rattle.cap_commands.specs.MergeText.{merge_refusal_in, merge_text_in}
-use Rattle.cap_commands.specs.RunText.{run_form}
-use Rattle.cap_commands.specs.Left.{both_cut, done_of, left_of_report, nothing_left, only_cut, only_cuts}
+use Rattle.cap_commands.specs.RunText.{output_format, run_form}
+use Rattle.cap_commands.specs.Left.{both_cut, left_of_report, nothing_left, only_cut, only_cuts}
 use Rattle.cap_talks.specs.declared.talks.reports.ReportLeft.{ReportLeft}
+use Rattle.cap_commands.specs.declared.counting.OutputFormat.{OutputFormat}
+use Rattle.cap_commands.specs.declared.counting.OutputFormat.TheVariants.{Pcapng}
 use Rattle.cap_commands.specs.declared.diff.CutEnds.{CutEnds}
 use Rattle.cap_commands.specs.declared.diff.DiffEnd.{DiffEnd}
 use Rattle.cap_commands.specs.declared.diff.DiffOptions.{DiffOptions}
@@ -62,14 +63,18 @@ abbrev pub cuts_in : Tail → List (List ℕ) → CutEnds
 cuts_in tail [] = cuts_of tail [] []
 cuts_in tail (first ∷ files) = cuts_of tail first (only_of files)
 
+-- the format in which a job writes, if one is asked for, with the unit of time that is asked for
+abbrev pub output_of : Job → Option OutputFormat
+output_of job = option_map (λ format. output_format format job.unit) job.to
+
 -- the format that `merge` and `join` write
-abbrev pub format_in : Option Format → Format
+abbrev pub format_in : Option OutputFormat → OutputFormat
 format_in to = unwrap_or to Pcapng
 
--- the form of what is printed
-abbrev pub form_by : Bool → Form
-form_by true = Json
-form_by false = Text
+-- the form of what is printed, by whether it is JSON and by the form of times
+abbrev pub form_by : Bool → TimeForm → Form
+form_by true times = Json times
+form_by false times = Text times
 
 -- which line `check` prints of a file, by whether it has a digest
 abbrev pub counts_line : Bool → CheckLine
@@ -83,8 +88,8 @@ line_by _ digests = counts_line digests
 
 -- how many bytes of a packet are shown at most: 16 in text, and in JSON unless the job says how many
 abbrev pub shown_by : Form → Option ℕ → ℕ
-shown_by Text count = 16
-shown_by Json count = unwrap_or count 16
+shown_by (Text times) count = 16
+shown_by (Json times) count = unwrap_or count 16
 
 -- what a job shows: at most so many bytes of a packet, and the conversations with the most bytes in a report, if so
 -- many of them are asked for
@@ -93,7 +98,7 @@ pub record JobShows : Type 0 where
   pub top : Option ℕ
 
 abbrev pub job_shows : Job → JobShows
-job_shows job = record { bytes = shown_by (form_by job.json) job.data; top = job.top }
+job_shows job = record { bytes = shown_by (form_by job.json job.time) job.data; top = job.top }
 
 -- the options of `diff`, by what is ignored, the form, and how many bytes are shown
 abbrev pub diff_options : Ignored → Form → ℕ → DiffOptions
@@ -115,8 +120,8 @@ whole_by (Err fault) finding = Err fault
 
 -- What is written, found and returned by a task over files of those bytes, of which a read can fail or not: `list`,
 -- `blocks` and `convert` are of one file, `diff` is of two.
-abbrev pub DoesTask : Task → Ignored → Tail → Form → JobShows → Bool → Order → Option Format → Bool → Bool → List Bool
-    → List (List ℕ) → Finding → List ℕ → Result Unit Fault → List ℕ → Type 0
+abbrev pub DoesTask : Task → Ignored → Tail → Form → JobShows → Bool → Order → Option OutputFormat → Bool → Bool
+    → List Bool → List (List ℕ) → Finding → List ℕ → Result Unit Fault → List ℕ → Type 0
 DoesTask tasks.List ignored tail form shown classed order to shares digests fails files finding =
     Prints (list_by classed form shown.bytes tail (only_of files)) (list_refusal tail (only_of files))
 DoesTask tasks.Blocks ignored tail form shown classed order to shares digests fails files finding =
@@ -145,13 +150,13 @@ DoesTask tasks.Merge ignored tail form shown classed order to shares digests fai
 DoesTask tasks.Join ignored tail form shown classed order to shares digests fails files finding =
     Prints (join_text_in (format_in to) order tail files) (join_refusal_in (format_in to) tail files)
 
--- What is written, found and returned by a job: what its task is, with its tail, its form, its order, its format,
--- whether interfaces are shared, and whether the lines of `list` have the class of their packet and those of `check` a
--- digest.
+-- What is written, found and returned by a job: what its task is, with its tail, its form, its order, its format with
+-- its unit, whether interfaces are shared, and whether the lines of `list` have the class of their packet and those of
+-- `check` a digest.
 abbrev pub Does : Job → List Bool → List (List ℕ) → Finding → List ℕ → Result Unit Fault → List ℕ → Type 0
 Does job =
-    DoesTask job.task job.ignored (tail_of job.allow_cut) (form_by job.json) (job_shows job) job.class job.order job.to
-    job.shares job.digests
+    DoesTask job.task job.ignored (tail_of job.allow_cut) (form_by job.json job.time) (job_shows job) job.class
+    job.order (output_of job) job.shares job.digests
 
 -- what is found by whether two captures have the same packets
 abbrev pub finding_by : Bool → Finding

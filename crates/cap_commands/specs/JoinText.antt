@@ -4,16 +4,16 @@ use Rattle.cap_bytes.specs.declared.faults.Refusal.{Refusal}
 use Rattle.cap_bytes.specs.declared.faults.Tail.{Tail}
 use Rattle.cap_bytes.specs.declared.numbers.Order.{Order}
 use Rattle.cap_merge.specs.Files.{clocked_run}
-use Rattle.cap_bytes.specs.declared.formats.Format.{Format}
-use Rattle.cap_bytes.specs.declared.formats.Format.TheVariants.{Pcapng}
+use Rattle.cap_commands.specs.declared.counting.OutputFormat.{OutputFormat}
+use Rattle.cap_commands.specs.declared.counting.OutputFormat.TheVariants.{Pcapng}
 use Rattle.cap_commands.specs.RunText.{datagrams_refusal, datagrams_text}
 
 -- what is written in that format of the datagrams of files of those bytes, and the refusal that is then returned, if
 -- there is one
-abbrev pub join_text_in : Format → Order → Tail → List (List ℕ) → List ℕ
+abbrev pub join_text_in : OutputFormat → Order → Tail → List (List ℕ) → List ℕ
 join_text_in format order tail files = datagrams_text format order (clocked_run tail files)
 
-abbrev pub join_refusal_in : Format → Tail → List (List ℕ) → Option Refusal
+abbrev pub join_refusal_in : OutputFormat → Tail → List (List ℕ) → Option Refusal
 join_refusal_in format tail files = datagrams_refusal format (clocked_run tail files)
 
 -- the same in pcapng

@@ -9,5 +9,6 @@ pub mod Jobs
 pub mod RunText
 pub mod Left
 pub mod JobLeft
+pub mod Skipping
 pub mod inner
 pub mod DiffText

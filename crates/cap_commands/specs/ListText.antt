@@ -12,6 +12,7 @@ use Rattle.cap_source.specs.Feed.{refusal_of}
 use Rattle.cap_print.specs.Facts.{Facts, Field, hex, line_in, moment, named, number, one}
 use Rattle.cap_print.specs.declared.forms.Form.{Form}
 use Rattle.cap_print.specs.declared.forms.Form.TheVariants.{Json, Text}
+use Rattle.cap_print.specs.declared.forms.TimeForm.TheVariants.{Exact}
 
 -- a time in the form of its own interface, if there is one
 abbrev pub printed_in : Option ℕ → Interface → Option Printed
@@ -56,11 +57,11 @@ list_in form shown tail bytes = list_lines (packet_line form shown) 1 (file_item
 
 -- what it prints in text, with at most 16 bytes of each packet
 abbrev pub list_text : Tail → List ℕ → List ℕ
-list_text = list_in Text 16
+list_text = list_in (Text Exact) 16
 
 -- what it prints in JSON
 abbrev pub list_json : ℕ → Tail → List ℕ → List ℕ
-list_json = list_in Json
+list_json = list_in (Json Exact)
 
 -- the refusal that ends `list` of a file with those bytes in either form, if there is one
 abbrev pub list_refusal : Tail → List ℕ → Option Refusal

@@ -15,7 +15,7 @@ use crate::left::without_cut;
 use crate::lines::write_block;
 use cap_blocks::{Block, BlockReader};
 use cap_bytes::{CutRest, Fault, Sink, Source, Tail, Window, put_all};
-use cap_print::{Form, Line};
+use cap_print::{Form, Line, TimeForm};
 use std::alloc::Global;
 
 // The next block. Most are packets that the window shows already: to take one of these costs less.
@@ -91,7 +91,7 @@ pub fn blocks_to<R: Source, W: Sink>(
     ensures writer { WriterKeeps (writer_of W.Sink writer.old) (is_write result) (writer_of W.Sink writer.new) }
     ensures read { FailsOf (R.can_fail source ∷ []) result }
 {
-    without_cut(blocks_in(alloc, source, tail, Form::Text, writer))
+    without_cut(blocks_in(alloc, source, tail, Form::Text(TimeForm::Exact), writer))
 }
 
 /// Prints a JSON object on a line of its own for each block of a pcapng file, each as it is found, up to the first
@@ -109,5 +109,5 @@ pub fn blocks_json_to<R: Source, W: Sink>(
     ensures writer { WriterKeeps (writer_of W.Sink writer.old) (is_write result) (writer_of W.Sink writer.new) }
     ensures read { FailsOf (R.can_fail source ∷ []) result }
 {
-    without_cut(blocks_in(alloc, source, tail, Form::Json, writer))
+    without_cut(blocks_in(alloc, source, tail, Form::Json(TimeForm::Exact), writer))
 }

@@ -8,9 +8,9 @@ ghost use Rattle.cap_commands.specs.Converted.{convert_text, convert_refusal};
 ghost use Rattle.cap_commands.specs.JoinText.{join_text, join_text_in, join_refusal, join_refusal_in};
 ghost use Rattle.cap_commands.specs.MergeText.{merge_text, merge_text_in, merge_refusal, merge_refusal_in};
 
-use crate::counting::{RunForm, convert_and_count, join_and_count, merge_and_count};
+use crate::counting::{OutputFormat, RunForm, convert_and_count, join_and_count, merge_and_count};
 use cap_bytes::{Fault, Order, Sink, Source, Tail};
-use cap_source::Format;
+use cap_time::Unit;
 use std::alloc::Global;
 
 /// Writes the packets of a capture file of either format as a file of that format, with numbers in that byte order,
@@ -23,7 +23,7 @@ pub fn convert_to<R: Source, W: Sink>(
     source: R,
     tail: Tail,
     order: Order,
-    format: Format,
+    format: OutputFormat,
     writer: &mut W,
 ) -> Result<(), Fault>
     ensures text { IsTrue (R.tells_coming source) → IsTrue (W.tells_held writer.old)
@@ -62,27 +62,30 @@ pub fn merge_to<R: Source, W: Sink>(
 }
 
 /// Writes the packets of 1 to 32 capture files, each of either format, as a pcap file in that byte order, sorted as
-/// `merge_to` sorts them. It has the link, the snaplen and the fraction of a second of the first packet's interface. It
-/// ends at the first refusal, which it returns: one of a file that is read, or of a packet that can't be written (rules
-/// 17 to 20, or 21 if there is no packet: see `write_merged_pcap`). Returns `Read` if a read fails, `Write` if a write
-/// does, `Memory` if a growth is refused; after these a prefix of that text is written.
+/// `merge_to` sorts them. It has the link and the snaplen of the first packet's interface, and the unit of time that is
+/// asked for, or else the fraction of a second of that interface. It ends at the first refusal, which it returns: one
+/// of a file that is read, or of a packet that can't be written (rules 17 to 20, or 21 if there is no packet: see
+/// `write_merged_pcap`). Returns `Read` if a read fails, `Write` if a write does, `Memory` if a growth is refused;
+/// after these a prefix of that text is written.
 pub fn merge_to_pcap<R: Source, W: Sink>(
     alloc: Global,
     sources: Vec<R>,
     tail: Tail,
     order: Order,
+    unit: Option<Unit>,
     writer: &mut W,
 ) -> Result<(), Fault>
     requires some { 1 ≤ vec_len sources }
     requires most { vec_len sources ≤ 32 }
     ensures text { IsTrue (list_all R.tells_coming sources.items) → IsTrue (W.tells_held writer.old)
-        → Prints (merge_text_in RunForm.Pcap order tail (map R.coming sources.items))
-        (merge_refusal_in RunForm.Pcap tail (map R.coming sources.items))
+        → Prints (merge_text_in (RunForm.Pcap unit) order tail (map R.coming sources.items))
+        (merge_refusal_in (RunForm.Pcap unit) tail (map R.coming sources.items))
         (W.held writer.old) result (W.held writer.new) }
     ensures writer { WriterKeeps (writer_of W.Sink writer.old) (is_write result) (writer_of W.Sink writer.new) }
     ensures read { FailsOf (map R.can_fail sources.items) result }
 {
-    merge_and_count(alloc, sources, tail, order, RunForm::Pcap, false, writer)?;
+    let form = RunForm::Pcap(unit);
+    merge_and_count(alloc, sources, tail, order, form, false, writer)?;
     Ok(())
 }
 
@@ -107,31 +110,34 @@ pub fn join_to<R: Source, W: Sink>(
     ensures writer { WriterKeeps (writer_of W.Sink writer.old) (is_write result) (writer_of W.Sink writer.new) }
     ensures read { FailsOf (map R.can_fail sources.items) result }
 {
-    join_and_count(alloc, sources, tail, order, Format::Pcapng, false, writer)?;
+    let format = OutputFormat::Pcapng;
+    join_and_count(alloc, sources, tail, order, format, false, writer)?;
     Ok(())
 }
 
 /// Writes the whole IPv4 datagrams of 1 to 32 capture files, each of either format, as a pcap file in that byte
-/// order: those that `join_to` writes. It ends at the first refusal, which it returns: one of a file that is read, or
-/// of a packet or a datagram that can't be written (rules 17, 19 and 20, or 21 if there is no datagram: see
-/// `write_joined_pcap`). Returns `Read` if a read fails, `Write` if a write does, `Memory` if a growth is refused;
-/// after these a prefix of that text is written.
+/// order: those that `join_to` writes, in the unit of time that is asked for, if one is. It ends at the first refusal,
+/// which it returns: one of a file that is read, or of a packet or a datagram that can't be written (rules 17, 19 and
+/// 20, or 21 if there is no datagram: see `write_joined_pcap`). Returns `Read` if a read fails, `Write` if a write
+/// does, `Memory` if a growth is refused; after these a prefix of that text is written.
 pub fn join_to_pcap<R: Source, W: Sink>(
     alloc: Global,
     sources: Vec<R>,
     tail: Tail,
     order: Order,
+    unit: Option<Unit>,
     writer: &mut W,
 ) -> Result<(), Fault>
     requires some { 1 ≤ vec_len sources }
     requires most { vec_len sources ≤ 32 }
     ensures text { IsTrue (list_all R.tells_coming sources.items) → IsTrue (W.tells_held writer.old)
-        → Prints (join_text_in Format.Pcap order tail (map R.coming sources.items))
-        (join_refusal_in Format.Pcap tail (map R.coming sources.items))
+        → Prints (join_text_in (OutputFormat.Pcap unit) order tail (map R.coming sources.items))
+        (join_refusal_in (OutputFormat.Pcap unit) tail (map R.coming sources.items))
         (W.held writer.old) result (W.held writer.new) }
     ensures writer { WriterKeeps (writer_of W.Sink writer.old) (is_write result) (writer_of W.Sink writer.new) }
     ensures read { FailsOf (map R.can_fail sources.items) result }
 {
-    join_and_count(alloc, sources, tail, order, Format::Pcap, false, writer)?;
+    let format = OutputFormat::Pcap(unit);
+    join_and_count(alloc, sources, tail, order, format, false, writer)?;
     Ok(())
 }

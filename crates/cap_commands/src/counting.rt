@@ -21,12 +21,14 @@ ghost use Rattle.cap_commands.specs.Left.{left_of_file, LeavesOut, LeavesPackets
 ghost use Rattle.cap_commands.specs.MergeText.{merge_text, merge_text_in, merge_refusal, merge_refusal_in};
 ghost use Rattle.cap_class.specs.Runs.{taken_after};
 ghost use Rattle.cap_write.specs.LeftOut.{CountsLeftOut};
-ghost use Rattle.cap_commands.specs.RunText.{datagrams_refusal, datagrams_text, packets_refusal, packets_text};
+ghost use Rattle.cap_commands.specs.RunText.{datagrams_refusal, datagrams_text, output_format, packets_refusal};
+ghost use Rattle.cap_commands.specs.RunText.{packets_text};
 
 use crate::left::{DroppedInfo, only_cut};
 use cap_bytes::{CutRest, Fault, Order, Sink, Source, Tail};
 use cap_merge::{Merged, merge_files_with_comments};
 use cap_source::{Capture, Format, PacketFeed};
+use cap_time::Unit;
 use cap_write::{
     LeftOut, NO_PACKETS_LEFT_OUT, to_pcap, to_pcapng, write_joined_and_count,
     write_joined_pcap_and_count, write_merged, write_merged_pcap, write_merged_sharing,
@@ -130,12 +132,32 @@ fn merge_counted<R: Source>(
     Ok(merged)
 }
 
+/// The format in which a capture is written.
+#[derive(Clone, Copy, Debug, PartialEq, Eq)]
+pub enum OutputFormat {
+    /// A pcap file (draft-ietf-opsawg-pcap, 4 and 5), in the unit of time that is asked for, if one is.
+    Pcap(Option<Unit>),
+    /// A pcapng file (draft-ietf-opsawg-pcapng, 4).
+    Pcapng,
+}
+
+/// The format of that name in which a capture is written, with the unit of time that is asked for, if one is. In pcapng
+/// each interface keeps its own.
+pub fn output_format(format: Format, unit: Option<Unit>) -> OutputFormat
+    ensures { result ≡ output_format format unit }
+{
+    match format {
+        Format::Pcap => OutputFormat::Pcap(unit),
+        Format::Pcapng => OutputFormat::Pcapng,
+    }
+}
+
 // Writes a file in that format, before any of its packets was passed.
 fn write_file<R: Source, W: Sink>(
     alloc: Global,
     capture: &mut Capture<R>,
     order: Order,
-    format: Format,
+    format: OutputFormat,
     writer: &mut W,
 ) -> Result<(), Fault>
     ensures text { IsTrue (file_of capture.old).told → IsTrue (W.tells_held writer.old)
@@ -150,8 +172,8 @@ fn write_file<R: Source, W: Sink>(
     ensures keeps { FeedKeeps (file_of capture.old) (file_of capture.new) }
 {
     match format {
-        Format::Pcap => to_pcap(capture, order, writer),
-        Format::Pcapng => to_pcapng(alloc, capture, order, writer),
+        OutputFormat::Pcap(unit) => to_pcap(capture, order, unit, writer),
+        OutputFormat::Pcapng => to_pcapng(alloc, capture, order, writer),
     }
 }
 
@@ -163,7 +185,7 @@ pub fn convert_and_count<R: Source, W: Sink>(
     source: R,
     tail: Tail,
     order: Order,
-    format: Format,
+    format: OutputFormat,
     counts: bool,
     writer: &mut W,
 ) -> Result<DroppedInfo, Fault>
@@ -183,8 +205,8 @@ pub fn convert_and_count<R: Source, W: Sink>(
 /// How the packets of a run are written.
 #[derive(Clone, Copy, Debug, PartialEq, Eq)]
 pub enum RunForm {
-    /// As a pcap file (draft-ietf-opsawg-pcap, 4 and 5).
-    Pcap,
+    /// As a pcap file (draft-ietf-opsawg-pcap, 4 and 5), in the unit of time that is asked for, if one is.
+    Pcap(Option<Unit>),
     /// As a pcapng file (draft-ietf-opsawg-pcapng, 4), in which the interfaces of each file are its own.
     Pcapng,
     /// As a pcapng file, in which interfaces with the same link, snaplen, resolution and offset are one.
@@ -210,7 +232,7 @@ fn write_run<F: PacketFeed, W: Sink>(
     ensures keeps { FeedKeeps (merged_feed (parts_of merged.old)) (merged_feed (parts_of merged.new)) }
 {
     match form {
-        RunForm::Pcap => write_merged_pcap(merged, order, writer),
+        RunForm::Pcap(unit) => write_merged_pcap(merged, order, unit, writer),
         RunForm::Pcapng => write_merged(alloc, merged, order, writer),
         RunForm::SharedPcapng => write_merged_sharing(alloc, merged, order, writer),
     }
@@ -233,7 +255,7 @@ fn write_datagrams<F: PacketFeed, W: Sink>(
     alloc: Global,
     merged: &mut Merged<F>,
     order: Order,
-    format: Format,
+    format: OutputFormat,
     left: &mut Option<LeftOut>,
     writer: &mut W,
 ) -> Result<(), Fault>
@@ -252,8 +274,10 @@ fn write_datagrams<F: PacketFeed, W: Sink>(
     ensures keeps { FeedKeeps (merged_feed (parts_of merged.old)) (merged_feed (parts_of merged.new)) }
 {
     match format {
-        Format::Pcap => write_joined_pcap_and_count(alloc, merged, order, left, writer),
-        Format::Pcapng => write_joined_and_count(alloc, merged, order, left, writer),
+        OutputFormat::Pcap(unit) => {
+            write_joined_pcap_and_count(alloc, merged, order, unit, left, writer)
+        }
+        OutputFormat::Pcapng => write_joined_and_count(alloc, merged, order, left, writer),
     }
 }
 
@@ -297,7 +321,7 @@ pub fn join_and_count<R: Source, W: Sink>(
     sources: Vec<R>,
     tail: Tail,
     order: Order,
-    format: Format,
+    format: OutputFormat,
     counts: bool,
     writer: &mut W,
 ) -> Result<DroppedInfo, Fault>

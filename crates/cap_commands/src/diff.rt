@@ -26,7 +26,7 @@ use crate::lines::{Behind, MOST_SHOWN, write_side};
 use crate::list::put_long_packet;
 use cap_bytes::{CutRest, Fault, Sink, Source, Tail, put_all};
 use cap_line::{Ignored, NOTHING_IGNORED};
-use cap_print::{Form, Line};
+use cap_print::{Form, Line, TimeForm};
 use cap_source::{Capture, Meta, PacketFeed};
 use cap_time::Stamp;
 use std::alloc::Global;
@@ -582,7 +582,7 @@ pub fn diff_in<R: Source, W: Sink>(
 /// packet.
 pub const DEFAULT_OPTIONS: DiffOptions = DiffOptions {
     ignored: NOTHING_IGNORED,
-    form: Form::Text,
+    form: Form::Text(TimeForm::Exact),
     most: 16,
 };
 

@@ -9,7 +9,7 @@ ghost use Rattle.cap_commands.specs.DiffText.{words_of};
 ghost use Rattle.cap_commands.specs.inner.DiffWords.{quoted_if};
 
 use crate::diff::{CutEnds, Differences};
-use cap_print::{Form, Line};
+use cap_print::{Form, Line, TimeForm};
 
 // Puts a word if that is so.
 fn prepend_if(line: &mut Line, is_so: bool, word: &[u8])
@@ -55,12 +55,12 @@ fn put_place(line: &mut Line, form: Form, place: Option<usize>)
 }
 
 // `differ packet N WORDS at PLACE`
-fn differ_text(n: u64, it: Differences, place: Option<usize>) -> Line
-    ensures { text_in result ≡ difference_line Text n (words_of it) place }
+fn differ_text(times: TimeForm, n: u64, it: Differences, place: Option<usize>) -> Line
+    ensures { text_in result ≡ difference_line (Text times) n (words_of it) place }
 {
     let mut line = Line::new();
     line.prepend_text(b"\n");
-    put_place(&mut line, Form::Text, place);
+    put_place(&mut line, Form::Text(times), place);
     prepend_if(&mut line, it.bytes, b" data");
     prepend_if(&mut line, it.original, b" original");
     prepend_if(&mut line, it.captured, b" captured");
@@ -71,15 +71,15 @@ fn differ_text(n: u64, it: Differences, place: Option<usize>) -> Line
 }
 
 // `{"type":"differ","packet":N,"differs":[WORDS],"data_at":PLACE}`
-fn differ_json(n: u64, it: Differences, place: Option<usize>) -> Line
-    ensures { text_in result ≡ difference_line Json n (words_of it) place }
+fn differ_json(times: TimeForm, n: u64, it: Differences, place: Option<usize>) -> Line
+    ensures { text_in result ≡ difference_line (Json times) n (words_of it) place }
 {
     let original = either(it.original, it.bytes);
     let captured = either(it.captured, original);
     let time = either(it.time, captured);
     let mut line = Line::new();
     line.prepend_text(b"}\n");
-    put_place(&mut line, Form::Json, place);
+    put_place(&mut line, Form::Json(times), place);
     line.prepend_text(b"]");
     prepend_quoted(&mut line, it.bytes, b"data", false);
     prepend_quoted(&mut line, it.original, b"original", it.bytes);
@@ -97,8 +97,8 @@ pub(crate) fn differ_line(form: Form, n: u64, it: Differences, place: Option<usi
     ensures { text_in result ≡ difference_line form n (words_of it) place }
 {
     match form {
-        Form::Text => differ_text(n, it, place),
-        Form::Json => differ_json(n, it, place),
+        Form::Text(times) => differ_text(times, n, it, place),
+        Form::Json(times) => differ_json(times, n, it, place),
     }
 }
 
@@ -108,11 +108,11 @@ pub(crate) fn end_line(form: Form, n: u64) -> Line
 {
     let mut line = Line::new();
     match form {
-        Form::Text => {
+        Form::Text(_) => {
             line.prepend_text(b" end\n");
             line.prepend_field(b"differ packet ", n);
         }
-        Form::Json => {
+        Form::Json(_) => {
             line.prepend_text(b",\"differs\":[\"end\"]}\n");
             line.prepend_field(b"{\"type\":\"differ\",\"packet\":", n);
         }
@@ -129,8 +129,8 @@ fn put_cut(line: &mut Line, form: Form, label: &[u8], key: &[u8], cut: bool)
     ensures room { room_in line.old ≤ room_in line.new + length key.now + 9 }
 {
     match form {
-        Form::Text => prepend_if(line, cut, label),
-        Form::Json => line.put_flag(form, key, cut),
+        Form::Text(_) => prepend_if(line, cut, label),
+        Form::Json(_) => line.put_flag(form, key, cut),
     }
 }
 
@@ -153,8 +153,8 @@ pub(crate) fn no_packet_line(form: Form, cut: bool) -> Line
     let mut line = Line::end(form);
     line.put_flag(form, b"cut", cut);
     line.prepend_text(match form {
-        Form::Text => b"end",
-        Form::Json => b"null",
+        Form::Text(_) => b"end",
+        Form::Json(_) => b"null",
     });
     line
 }
@@ -177,11 +177,11 @@ pub(crate) fn side_head(form: Form, sign: &[u8], from: usize) -> Line
 {
     let mut line = Line::new();
     match form {
-        Form::Text => {
+        Form::Text(_) => {
             line.prepend_text(b" ");
             line.prepend_text(sign);
         }
-        Form::Json => {
+        Form::Json(_) => {
             line.prepend_text(b",\"packet\":");
             put_from(&mut line, from);
             line.prepend_text(b"\"");

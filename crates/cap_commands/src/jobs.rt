@@ -4,7 +4,7 @@ ghost use Rattle.cap_check.specs.CheckText.{WritesChecks, no_names};
 ghost use Rattle.std.specs.List.{list_all};
 ghost use Rattle.cap_line.specs.Jobs.{IsWholeJob};
 ghost use Rattle.cap_commands.specs.Jobs.{Does, Finds, compared_by, counts_line, finding_by, form_by, format_in};
-ghost use Rattle.cap_commands.specs.Jobs.{found_in};
+ghost use Rattle.cap_commands.specs.Jobs.{found_in, output_of};
 ghost use Rattle.cap_commands.specs.Jobs.{finding_in, found_by, line_by, listed_by, opened_files, printed_by, shown_by};
 ghost use Rattle.cap_commands.specs.Jobs.{reported_by, tail_of, whole_by, whole_finding, written_by};
 ghost use Rattle.cap_commands.specs.JobLeft.{JobLeaves};
@@ -16,15 +16,16 @@ ghost use Rattle.cap_bytes.specs.Printing.{Prints, is_write};
 ghost use Rattle.cap_source.specs.ReadFaults.{FailsOf};
 
 use crate::blocks::blocks_in;
-use crate::counting::{RunForm, convert_and_count, join_and_count, merge_and_count};
+use crate::counting::{
+    OutputFormat, RunForm, convert_and_count, join_and_count, merge_and_count, output_format,
+};
 use crate::diff::{DiffEnd, DiffOptions, diff_in};
 use crate::left::{DroppedInfo, NOTHING_LEFT, both_cut, left_of_report, only_cut, only_cuts};
 use crate::list::list_in;
 use cap_bytes::{CutRest, Fault, Sink, Source, Tail};
 use cap_check::{CheckLine, check_all_to};
 use cap_line::{Job, Task};
-use cap_print::Form;
-use cap_source::Format;
+use cap_print::{Form, TimeForm};
 use cap_talks::{ReportLeft, ReportOptions, file_lines_and_cuts, report_with};
 use std::alloc::Global;
 
@@ -59,11 +60,15 @@ pub fn tail_of(allow_cut: bool) -> Tail
     }
 }
 
-/// The form of what is printed.
-pub fn form_of(json: bool) -> Form
-    ensures { result ≡ form_by json }
+/// The form of what is printed, by whether it is JSON and by the form of times.
+pub fn form_of(json: bool, times: TimeForm) -> Form
+    ensures { result ≡ form_by json times }
 {
-    if json { Form::Json } else { Form::Text }
+    if json {
+        Form::Json(times)
+    } else {
+        Form::Text(times)
+    }
 }
 
 // Which line `check` prints of a file, by whether it has a digest.
@@ -92,8 +97,8 @@ fn shown_of(form: Form, count: Option<u32>) -> u32
     ensures { result ≡ shown_by form count }
 {
     match form {
-        Form::Text => 16,
-        Form::Json => count.unwrap_or(16),
+        Form::Text(_) => 16,
+        Form::Json(_) => count.unwrap_or(16),
     }
 }
 
@@ -159,20 +164,30 @@ fn check<R: Source, W: Sink>(
     Ok(whole_finding(are_whole))
 }
 
+// The format in which a job writes, if one is asked for, with the unit of time that is asked for.
+fn output_of(job: &Job<'_>) -> Option<OutputFormat>
+    ensures { result ≡ output_of job.now }
+{
+    match job.to {
+        Some(format) => Some(output_format(format, job.unit)),
+        None => None,
+    }
+}
+
 // The format that `merge` and `join` write: pcapng if none is asked for.
-fn format_of(to: Option<Format>) -> Format
+fn format_of(to: Option<OutputFormat>) -> OutputFormat
     ensures { result ≡ format_in to }
 {
-    to.unwrap_or(Format::Pcapng)
+    to.unwrap_or(OutputFormat::Pcapng)
 }
 
 // The form in which `merge` writes packets: in a pcap file no interfaces are shared.
-fn run_form(shares: bool, format: Format) -> RunForm
+fn run_form(shares: bool, format: OutputFormat) -> RunForm
     ensures { result ≡ run_form shares format }
 {
     match format {
-        Format::Pcap => RunForm::Pcap,
-        Format::Pcapng => {
+        OutputFormat::Pcap(unit) => RunForm::Pcap(unit),
+        OutputFormat::Pcapng => {
             if shares {
                 RunForm::SharedPcapng
             } else {
@@ -293,7 +308,7 @@ pub fn job_to<R: Source, W: Sink>(
         → Finds job.now (map R.coming sources.items) done.finding) }
 {
     let tail = tail_of(job.allow_cut);
-    let form = form_of(job.json);
+    let form = form_of(job.json, job.time);
     match job.task {
         Task::List => {
             let shown = shown_of(form, job.data);
@@ -324,21 +339,22 @@ pub fn job_to<R: Source, W: Sink>(
                 form,
                 top: job.top,
                 counts,
+                ipv6: false,
             };
             reported(report_with(alloc, sources, tail, options, writer))
         }
         Task::Convert => {
-            let format = job.to.unwrap();
+            let format = output_format(job.to.unwrap(), job.unit);
             let source = only(sources);
             written(convert_and_count(alloc, source, tail, job.order, format, counts, writer))
         }
         Task::Merge => {
-            let form = run_form(job.shares, format_of(job.to));
+            let form = run_form(job.shares, format_of(output_of(job)));
             let answer = merge_and_count(alloc, sources, tail, job.order, form, counts, writer);
             written(answer)
         }
         Task::Join => {
-            let format = format_of(job.to);
+            let format = format_of(output_of(job));
             let answer = join_and_count(alloc, sources, tail, job.order, format, counts, writer);
             written(answer)
         }

@@ -12,10 +12,13 @@ mod jobs;
 mod left;
 mod lines;
 mod list;
+mod skipping;
 
 pub use crate::blocks::{blocks_json_to, blocks_to};
 pub use crate::commands::{convert_to, join_to, join_to_pcap, merge_to, merge_to_pcap};
-pub use crate::counting::{RunForm, convert_and_count, join_and_count, merge_and_count};
+pub use crate::counting::{
+    OutputFormat, RunForm, convert_and_count, join_and_count, merge_and_count, output_format,
+};
 pub use crate::diff::{
     CutEnds, DEFAULT_OPTIONS, DiffEnd, DiffOptions, Differences, diff_in, diff_to,
 };
@@ -23,3 +26,4 @@ pub use crate::faults::fault_line;
 pub use crate::jobs::{Done, Finding, form_of, job_to, line_of, tail_of, whole_finding};
 pub use crate::left::{DroppedInfo, NOTHING_LEFT};
 pub use crate::list::{list_json_to, list_to};
+pub use crate::skipping::{is_any_refused, kept_files, kept_number, put_left_out, refusal_in};

@@ -27,7 +27,7 @@ fn stamp_of(meta: &Meta) -> Option<Stamp>
 // Puts the facts of the packet number n, from 1, except its bytes, and the beginning of its line.
 #[inline(always)]
 fn put_packet(line: &mut Line, form: Form, n: u64, meta: &Meta)
-    requires { 240 ≤ room_in line.old }
+    requires { 262 ≤ room_in line.old }
     ensures { text_in line.new
         ≡ begin_in form (codes "packet") (fields_in form (packet_fields n meta.now) (text_in line.old)) }
 {

@@ -21,7 +21,7 @@ use crate::lines::{
     write_packet_head,
 };
 use cap_bytes::{CutRest, Fault, Sink, Source, Tail, put_all};
-use cap_print::{Form, Line};
+use cap_print::{Form, Line, TimeForm};
 use cap_source::{Capture, Meta, PacketFeed};
 use cap_talks::describe;
 use std::alloc::Global;
@@ -212,7 +212,8 @@ pub fn list_to<R: Source, W: Sink>(
     ensures writer { WriterKeeps (writer_of W.Sink writer.old) (is_write result) (writer_of W.Sink writer.new) }
     ensures read { FailsOf (R.can_fail source ∷ []) result }
 {
-    without_cut(list_in(alloc, source, tail, Form::Text, 16, false, writer))
+    let form = Form::Text(TimeForm::Exact);
+    without_cut(list_in(alloc, source, tail, form, 16, false, writer))
 }
 
 /// Prints a JSON object on a line of its own for each packet of a capture file of either format, each as it is found,
@@ -231,5 +232,6 @@ pub fn list_json_to<R: Source, W: Sink>(
     ensures writer { WriterKeeps (writer_of W.Sink writer.old) (is_write result) (writer_of W.Sink writer.new) }
     ensures read { FailsOf (R.can_fail source ∷ []) result }
 {
-    without_cut(list_in(alloc, source, tail, Form::Json, shown, false, writer))
+    let form = Form::Json(TimeForm::Exact);
+    without_cut(list_in(alloc, source, tail, form, shown, false, writer))
 }

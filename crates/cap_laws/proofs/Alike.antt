@@ -23,6 +23,9 @@ use Rattle.cap_class.specs.Taken.{events_of}
 use Rattle.cap_time.specs.declared.stamps.Stamp.{Stamp}
 use Rattle.cap_laws.proofs.LikeReports.{LikeItems, RunsLike, refusals-like}
 use Rattle.cap_laws.specs.Reports.{SameReport}
+use Rattle.cap_class.specs.Ipv6.{report_classes}
+use Rattle.cap_talks.specs.table.CountedUnits.{unit_for, units_for}
+use Rattle.cap_talks.specs.table.TakenText.{body_for, counts_text_for}
 
 -- Two packets are alike.
 pub record IsAlike (x y : Taken) : Type 0 where
@@ -97,7 +100,7 @@ unfolding unit_at
 alike-unit xs ys x y h k = grind (arith, alike-length, unit-by, alike-events, alike-classify)
 
 alike-units : (xs ys : List Taken) → AreAlike xs ys → counted_units xs ≡ counted_units ys
-unfolding counted_units
+unfolding units_for unit_for
 alike-units (x ∷ xs) (y ∷ ys) h = λ i. alike-units xs ys h.1 i ++ listed (alike-unit xs ys x y h.1 h.0 i)
 alike-units xs ys h = grind arith
 
@@ -113,7 +116,7 @@ alike-truncated (x ∷ xs) (y ∷ ys) h = λ i. alike-truncated xs ys h.1 i +
 alike-truncated xs ys h = grind arith
 
 alike-body : (xs ys : List Taken) → AreAlike xs ys → body_text xs ≡ body_text ys
-unfolding body_text_in
+unfolding body_for counts_text_for report_classes
 alike-body xs ys h =
     let n = alike-length xs ys h in
     let b = alike-bytes xs ys h in

@@ -18,10 +18,10 @@ use Rattle.cap_time.specs.declared.stamps.Stamp.{Stamp}
 use Rattle.cap_commands.specs.DiffText.{Comparison, compared, differences_of, do_differ, is_same, is_same_time}
 use Rattle.cap_commands.specs.DiffText.{nothing_ignored, other_packet, same_packets}
 use Rattle.cap_source.specs.Items.{file_first, file_items}
-use Rattle.cap_bytes.specs.declared.formats.Format.TheVariants.{Pcap, Pcapng}
+use Rattle.cap_commands.specs.declared.counting.OutputFormat.TheVariants.{Pcap, Pcapng}
 use Rattle.cap_merge.specs.inner.Clocks.{clock_total}
 use Rattle.cap_time.specs.Stamp.{stamp_in}
-use Rattle.cap_write.specs.Pcap.{pcap_bytes}
+use Rattle.cap_write.specs.Pcap.{first_in_unit, pcap_bytes}
 use Rattle.cap_write.specs.Texts.{first_origins, pcapng_bytes}
 use Rattle.std.specs.Cmp.{tied_itself}
 use Rattle.std.specs.Option.{option_map}
@@ -136,10 +136,10 @@ twins-same (x ∷ xs) (y ∷ ys) all = (twin-same x y all.0, twins-same xs ys al
 twins-same xs ys all = grind arith
 
 pub same-as-converted : PcapAgain → PcapngAgain → SameAsConverted
-same-as-converted pcap_law pcapng_law Pcap order tail bytes are none short =
+same-as-converted pcap_law pcapng_law (Pcap unit) order tail bytes are none short =
     let items = file_items tail 1 bytes in
-    let text = pcap_bytes order (file_first tail 1 bytes) items in
-    as-many items (file_items tail 2 text) ((pcap_law order tail tail 1 2 bytes are).1 none short)
+    let text = pcap_bytes order (first_in_unit unit (file_first tail 1 bytes)) items in
+    as-many items (file_items tail 2 text) ((pcap_law order unit tail tail 1 2 bytes are).1 none short)
 same-as-converted pcap_law pcapng_law Pcapng order tail bytes are none short =
     let items = file_items tail 1 bytes in
     let first = file_first tail 1 bytes in

@@ -26,12 +26,12 @@ use Rattle.cap_source.specs.Feed.{Item, packet, refused, refusal_of}
 use Rattle.cap_source.specs.Items.{file_ending, file_first, file_items}
 use Rattle.cap_source.specs.Times.{meta_time}
 use Rattle.cap_source.specs.inner.Fields.{ItemFits}
-use Rattle.cap_bytes.specs.declared.formats.Format.TheVariants.{Pcap, Pcapng}
+use Rattle.cap_commands.specs.declared.counting.OutputFormat.TheVariants.{Pcap, Pcapng}
 use Rattle.cap_source.specs.declared.packets.Meta.{Meta}
 use Rattle.cap_time.specs.Stamp.{printed_of, stamp_in}
 use Rattle.cap_time.specs.declared.resolutions.Interface.{Interface}
 use Rattle.cap_time.specs.declared.stamps.Stamp.{Stamp}
-use Rattle.cap_write.specs.Pcap.{pcap_bytes}
+use Rattle.cap_write.specs.Pcap.{first_in_unit, pcap_bytes}
 use Rattle.cap_write.specs.Texts.{first_origins, pcapng_bytes}
 use Rattle.sha2.specs.Sha256.{sha256}
 
@@ -240,6 +240,8 @@ converted-digest pcapng pcap Pcapng order tail tail_again bytes are none short n
     (twins (first_origins 1 first) (first_origins 1 first) items (file_items tail_again 1 text) none again.1
     (sym again.0)) in
     both-lines tail tail_again number bytes text (same tail_again) (same Refuse)
-converted-digest pcapng pcap Pcap order tail tail_again bytes are none short number =
-    both-lines tail tail_again number bytes (pcap_bytes order (file_first tail 1 bytes) (file_items tail 1 bytes))
-    ((pcap order tail tail_again 1 1 bytes are).1 none short) ((pcap order tail Refuse 1 1 bytes are).1 none short)
+converted-digest pcapng pcap (Pcap unit) order tail tail_again bytes are none short number =
+    both-lines tail tail_again number bytes
+    (pcap_bytes order (first_in_unit unit (file_first tail 1 bytes)) (file_items tail 1 bytes))
+    ((pcap order unit tail tail_again 1 1 bytes are).1 none short)
+    ((pcap order unit tail Refuse 1 1 bytes are).1 none short)

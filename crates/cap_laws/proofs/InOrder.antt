@@ -36,6 +36,10 @@ use Rattle.cap_talks.specs.table.Conversations.{rows_of}
 use Rattle.cap_talks.specs.table.TakenText.{body_by_in, body_showing_in, body_text_in, counts_by_in, files_part_in}
 use Rattle.cap_talks.specs.table.TalkLines.{talk_texts_in}
 use Rattle.cap_talks.specs.table.TopRows.{top_rows}
+use Rattle.cap_class.specs.Ipv6.{report_classes}
+use Rattle.cap_talks.specs.table.CountedUnits.{unit_for, units_for}
+use Rattle.cap_talks.specs.table.TakenText.{body_for, body_showing_for, counts_text_for}
+use Rattle.cap_talks.specs.talks.ReportText.{refusal_for}
 
 turned_by : (r s : Ordering) → r ≡ ordering_reverse s → is_gt s ≡ false → is_lt r ≡ false
 turned_by r s e h = grind arith
@@ -116,7 +120,7 @@ record Places (xs : List Taken) (clock : Option Stamp) : Type 0 where
 
 places-more : (x : Taken) (xs : List Taken) (clock : Option Stamp) → AtMost clock x.clock → Places xs clock
     → Places (x ∷ xs) x.clock
-unfolding counted_units units_at unit_at
+unfolding units_for unit_for units_at unit_at
 places-more x xs clock rises p =
     let late = at_most-trans (latest_clock (events_of xs)) clock x.clock p.ordered.late rises in
     record {
@@ -147,7 +151,7 @@ places-taken (a ∷ run) clock xs h p = places-taken run a.clock (with_item a.cl
     (places-item a.clock clock a.item xs h.0 p)
 
 places-none : Places [] None
-unfolding counted_units units_at
+unfolding units_for unit_for units_at
 places-none = record { ordered = ordered-none; units = refl }
 
 falls-take : (n : ℕ) (clock : Option Stamp) (run : List (Clocked Item)) → NeverFalls clock run
@@ -187,6 +191,7 @@ limit-same x clock xs rises p =
 
 refusal-item : (c clock : Option Stamp) (i : Item) (xs : List Taken) → AtMost clock c → Places xs clock
     → refusal_here xs c i ≡ refusal_with xs c i
+unfolding unit_for unit_at
 refusal-item c clock (packet meta frame) xs rises p =
     ap (λ b. if b then Some (limit_refusal meta) else None)
     (limit-same (record { clock = c; meta = meta; frame = frame }) clock xs rises p)
@@ -195,7 +200,7 @@ refusal-item c clock (refused r) xs rises p = refl
 refusal-run : (run : List (Clocked Item)) (clock : Option Stamp) (xs : List Taken) → NeverFalls clock run
     → Places xs clock
     → refusal_after xs run ≡ refusal_by_places xs run
-unfolding refusal_after refusal_by_places
+unfolding refusal_for refusal_by_places
 refusal-run [] clock xs h p = refl
 refusal-run (a ∷ run) clock xs h p =
     let here = refusal-item a.clock clock a.item xs h.0 p in
@@ -203,7 +208,7 @@ refusal-run (a ∷ run) clock xs h p =
     λ i. or_else (here i) (later i)
 
 pub report-by-places : ReportByPlaces
-unfolding body_showing_in body_text_in text_by_places_in top_by_places_in
+unfolding body_showing_for counts_text_for report_classes body_for text_by_places_in top_by_places_in
 report-by-places count endings files =
     let r = run item_time is_refusal (map opened_track files) in
     let rises = run-rises item_time is_refusal files in

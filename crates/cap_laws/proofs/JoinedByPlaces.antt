@@ -87,6 +87,6 @@ joined-by-places order files =
     record {
       bytes = ap (merged_bytes order) same;
       refusal = ap merged_refusal same;
-      pcap_bytes = ap (run_bytes order) same;
-      pcap_refusal = ap run_refusal same;
+      pcap_bytes = λ unit. ap (run_bytes unit order) same;
+      pcap_refusal = λ unit. ap (run_refusal unit) same;
     }

@@ -16,11 +16,13 @@ use Rattle.cap_time.specs.declared.stamps.Stamp.{Stamp}
 use Rattle.cap_talks.specs.table.CountedUnits.{first_unit, group_unit, unit_at, unit_by, unit_of, timed_frame}
 use Rattle.cap_class.specs.Taken.{Classification, plain, datagram, fragment, classify, events_of, stamped_of}
 use Rattle.cap_talks.specs.table.Units.{ends_of}
+use Rattle.cap_talks.specs.declared.table.units.Address.{Address}
+use Rattle.cap_talks.specs.declared.table.units.Address.TheVariants.{Ipv4}
 use Rattle.cap_talks.specs.declared.table.units.Endpoint.{Endpoint}
 use Rattle.cap_write.specs.Joined.{complete_of, completed, datagram_of, events_after, group_after, has_form, joined_of}
 use Rattle.cap_laws.specs.JoinedUnits.{has_all_data, JoinedUnits}
 
-form-ends : {A : Type 0} (f : Endpoint × Endpoint → A) (a b : ℕ) (t : Transport)
+form-ends : {A : Type 0} (f : Endpoint × Endpoint → A) (a b : Address) (t : Transport)
     → is_some (option_map f (ends_of a b t)) ≡ has_form t
 form-ends f a b (transports.Ports x y) = refl
 form-ends f a b transports.NoPorts = refl
@@ -40,7 +42,7 @@ group-some : (ps : List Piece) (o : Option HeaderFields)
     → is_some (option_and_then (λ h. complete_of h (joined_data ps) (length (joined_data ps))) o)
     ≡ is_some (option_and_then
     (λ h. option_map (unit_of h.key.protocol (length ps) (pieces_original ps) (timed_frame (first_frame ps))
-    (timed_frame (last_frame ps))) (ends_of h.key.source h.key.destination
+    (timed_frame (last_frame ps))) (ends_of (Ipv4 h.key.source) (Ipv4 h.key.destination)
     (transport_of h.key.protocol (joined_data ps) (length (joined_data ps))))) o)
 group-some ps None = refl
 group-some ps (Some h) = grind (arith, whole-some, form-ends)

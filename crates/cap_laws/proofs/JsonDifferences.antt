@@ -6,6 +6,7 @@ use Rattle.std.specs.Prelude.{codes, decimal, pos, if◌then◌else◌}
 use Rattle.std.specs.List.{AllByRecursion, join_by}
 use lib.Utf8.{encode}
 use Rattle.cap_print.specs.declared.forms.Form.TheVariants.{Json}
+use Rattle.cap_print.specs.declared.forms.TimeForm.{TimeForm}
 use Rattle.cap_laws.proofs.JsonFaults.{parts-4}
 use Rattle.cap_laws.proofs.JsonLines.{after-commas, comma-then, line-with}
 use Rattle.cap_laws.proofs.JsonLines.{object-first, plain-then}
@@ -62,20 +63,21 @@ differ-by n words end behind small plain is =
     ∙ ap (λ l. left ++ l) (sym (comma-then 2 number (which ∷ behind) (codes "}\n")))
     ∙ sym (object-first 2 (codes "type", string (codes "differ")) (number ∷ which ∷ behind) (codes "\n"))
 
-place-is : (place : ℕ) → place < 10 ^ 64
-    → data_place_in Json (Some place) (codes "}\n")
+place-is : (times : TimeForm) (place : ℕ) → place < 10 ^ 64
+    → data_place_in (Json times) (Some place) (codes "}\n")
     ≡ after-commas 2 ((codes "data_at", whole (pos place)) ∷ []) ++ codes "}\n"
 unfolding encode after-commas
-place-is place small =
+place-is times place small =
     ap (λ l. codes ",\"data_at\":" ++ (l ++ codes "}\n")) (decimal-whole place small)
     ∙ sym (comma-then 2 (codes "data_at", whole (pos place)) [] (codes "}\n"))
 
 pub differ-line : IsDifferLine
 unfolding after-commas
-differ-line n words None f = differ-by n words (codes "}\n") [] f.1.0.1 f.1.1.0.1 refl
-differ-line n words (Some place) f =
-    differ-by n words (data_place_in Json (Some place) (codes "}\n")) ((codes "data_at", whole (pos place)) ∷ [])
-    f.1.0.1 f.1.1.0.1 (place-is place f.1.1.1.0.1)
+differ-line times n words None f = differ-by n words (codes "}\n") [] f.1.0.1 f.1.1.0.1 refl
+differ-line times n words (Some place) f =
+    differ-by n words (data_place_in (Json times) (Some place) (codes "}\n"))
+    ((codes "data_at", whole (pos place)) ∷ [])
+    f.1.0.1 f.1.1.0.1 (place-is times place f.1.1.1.0.1)
 
 -- ---- a side
 
@@ -125,30 +127,31 @@ last-fits : (zero : Bool) (from : ℕ) (value : JsonValue 4)
 last-fits true from value f = f.0.1
 last-fits false from value f = f.1.0.1
 
-no-packet : (cut : Bool)
-    → codes ",\"packet\":" ++ no_side Json cut
+no-packet : (times : TimeForm) (cut : Bool)
+    → codes ",\"packet\":" ++ no_side (Json times) cut
     ≡ after-commas 4 ((codes "packet", null) ∷ (codes "cut", truth cut) ∷ []) ++ codes "}\n"
 unfolding encode after-commas member-text
-no-packet true = refl
-no-packet false = refl
+no-packet times true = refl
+no-packet times false = refl
 
-its-packet : (n : ℕ) (meta : Meta) (shown : List ℕ) → ValueFits 4 (object (line_members (facts_showing n meta shown)))
-    → codes ",\"packet\":" ++ packet_side Json n meta shown
-    ≡ after-commas 4 ((codes "packet", object (line_members (facts_showing n meta shown))) ∷ []) ++ codes "}\n"
+its-packet : (times : TimeForm) (n : ℕ) (meta : Meta) (shown : List ℕ)
+    → ValueFits 4 (object (line_members times (facts_showing n meta shown)))
+    → codes ",\"packet\":" ++ packet_side (Json times) n meta shown
+    ≡ after-commas 4 ((codes "packet", object (line_members times (facts_showing n meta shown))) ∷ []) ++ codes "}\n"
 unfolding encode after-commas
-its-packet n meta shown f =
+its-packet times n meta shown f =
     let line = facts_showing n meta shown in
-    let value : JsonValue 4 = object (line_members line) in
-    ap (λ l. codes ",\"packet\":" ++ l) (line-with line [] (codes "}\n") f
-    ∙ ap (λ ms. json_text 4 (object ms) ++ codes "}\n") (append-nil (line_members line)))
+    let value : JsonValue 4 = object (line_members times line) in
+    ap (λ l. codes ",\"packet\":" ++ l) (line-with times line [] (codes "}\n") f
+    ∙ ap (λ ms. json_text 4 (object ms) ++ codes "}\n") (append-nil (line_members times line)))
     ∙ sym (comma-then 4 (codes "packet", value) [] (codes "}\n"))
 
 pub side-line : IsSideLine
-side-line sign most n from cut None f =
-    side-by sign (from == 0) from (no_side Json cut) ((codes "packet", null) ∷ (codes "cut", truth cut) ∷ []) f
-    (no-packet cut)
-side-line sign most n from cut (Some a) f =
+side-line times sign most n from cut None f =
+    side-by sign (from == 0) from (no_side (Json times) cut) ((codes "packet", null) ∷ (codes "cut", truth cut) ∷ []) f
+    (no-packet times cut)
+side-line times sign most n from cut (Some a) f =
     let shown = shown_from most from a.frame in
-    side-by sign (from == 0) from (packet_side Json n a.meta shown)
-    ((codes "packet", object (line_members (facts_showing n a.meta shown))) ∷ []) f
-    (its-packet n a.meta shown (last-fits (from == 0) from _ f.1.1))
+    side-by sign (from == 0) from (packet_side (Json times) n a.meta shown)
+    ((codes "packet", object (line_members times (facts_showing n a.meta shown))) ∷ []) f
+    (its-packet times n a.meta shown (last-fits (from == 0) from _ f.1.1))

@@ -175,7 +175,7 @@ list-line line small =
 
 pub network-line : IsNetworkLine
 unfolding encode after-commas
-network-line n small few some =
+network-line times n small few some =
     let six : List ℕ × JsonValue 1 = (codes "ipv6", whole (pos n.ipv6)) in
     let arp : List ℕ × JsonValue 1 = (codes "arp", whole (pos n.arp)) in
     let other : List ℕ × JsonValue 1 = (codes "other", whole (pos n.other)) in

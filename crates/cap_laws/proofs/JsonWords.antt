@@ -21,15 +21,22 @@ use Rattle.std.specs.Prelude.{map, option_map, slice_index}
 use Rattle.cap_bytes.specs.declared.numbers.Order.{Order}
 use Rattle.cap_bytes.specs.declared.numbers.Order.TheVariants.{Big, Little}
 use Rattle.cap_commands.specs.BlockText.{kind_text, order_text}
-use Rattle.cap_laws.specs.JsonLines.{LayerFits, ValueFits, fact_value, field_member, object}
-use Rattle.cap_laws.specs.JsonWords.{FieldFits, ListedWordsPlain, NumbersFit, PlainLinesFit, word_of}
+use Rattle.cap_laws.specs.JsonLines.{LayerFits, ValueFits, fact_value, field_member, object, time_value}
+use Rattle.cap_laws.specs.JsonWords.{FieldFits, ListedWordsPlain, NumbersFit, PlainLinesFit, TimeNumbersFit, word_of}
 use Rattle.cap_source.specs.declared.feeds.Ending.{Ending}
 use Rattle.cap_talks.specs.counts.FileLines.{counts_facts, file_facts, files_facts}
+use Rattle.cap_class.specs.declared.counts.ClassCounts.{ClassCounts}
 use Rattle.cap_talks.specs.declared.counts.counts.Counts.{Counts}
 use Rattle.cap_talks.specs.declared.table.rows.TalkKey.{TalkKey}
+use Rattle.cap_print.proofs.AddressTexts.{text-letters}
+use Rattle.cap_print.specs.Addresses.{ipv6_text}
+use Rattle.std.proofs.NetLemmas.Alphabet.{IsHexOrColon}
+use Rattle.std.proofs.lemmas.List.Elements.{recursion_from_All}
+use Rattle.cap_talks.specs.declared.table.units.Address.{Address}
+use Rattle.cap_talks.specs.declared.table.units.Address.TheVariants.{Ipv4, Ipv6}
 use Rattle.cap_talks.specs.declared.table.units.Endpoint.{Endpoint}
-use Rattle.cap_talks.specs.table.TakenText.{frames_facts, joined_facts, total_facts}
-use Rattle.cap_talks.specs.table.TalkLines.{address_text, end_field, port_facts, talk_facts, talks_facts}
+use Rattle.cap_talks.specs.table.TakenText.{frames_facts_for, joined_facts, total_facts}
+use Rattle.cap_talks.specs.table.TalkLines.{address_text, end_field, ipv4_text, port_facts, talk_facts, talks_facts}
 use Rattle.cap_blocks.specs.declared.blocks.Block.{Block}
 use Rattle.cap_check.specs.CheckText.{check_facts, digest_end_fields, end_fields, end_format_name, known_end}
 use Rattle.cap_check.specs.declared.checked.Check.{Check}
@@ -42,7 +49,12 @@ use Rattle.cap_commands.specs.DiffText.{Compared, chosen, counted_differences, c
 use Rattle.cap_commands.specs.DiffText.{differences_of}
 use Rattle.cap_line.specs.declared.jobs.Ignored.{Ignored}
 use Rattle.cap_print.specs.Facts.{named}
+use Rattle.cap_print.specs.declared.forms.TimeForm.{TimeForm}
+use Rattle.cap_print.specs.declared.forms.TimeForm.TheVariants.{Decimal, Exact, Utc}
+use Rattle.cap_laws.proofs.JsonTimes.{decimal-plain, decimal-text-plain, plain-append, utc-text-plain}
+use Rattle.cap_time.specs.Time.{Printed}
 use Rattle.cap_commands.specs.ListText.{facts_before}
+use Rattle.cap_commands.specs.Skipping.{left_out_facts}
 use Rattle.cap_digest.specs.DigestText.{digest_value}
 use Rattle.cap_laws.proofs.JsonFaults.{rule-plain}
 use Rattle.cap_source.specs.declared.feeds.FileEnd.{FileEnd}
@@ -77,16 +89,6 @@ plain-3 : {a b c : List ℕ} {others : Type 0} → Plain a → Plain b → Plain
     → AllByRecursion Plain (a ∷ []) × (AllByRecursion Plain (b ∷ []) × (AllByRecursion Plain (c ∷ []) × others))
 plain-3 a b c others = ((a, tt), ((b, tt), ((c, tt), others)))
 
-plain-append : (a b : List ℕ) → Plain a → Plain b → Plain (a ++ b)
-plain-append a b p q = more a b ∙ (λ i. p i ++ q i)
-  where
-    more : (a b : List ℕ)
-        → flat_map escaped_character (a ++ b) ≡ flat_map escaped_character a ++ flat_map escaped_character b
-    more [] b = refl
-    more (c ∷ a) b =
-        ap (λ l. escaped_character c ++ l) (more a b)
-        ∙ sym (append_assoc (escaped_character c) (flat_map escaped_character a) (flat_map escaped_character b))
-
 format-plain : (format : Format) → Plain (format_name format)
 unfolding encode
 format-plain Pcap = refl
@@ -105,31 +107,12 @@ reason-plain reason.FragmentEmpty = refl
 reason-plain reason.FragmentBlock = refl
 reason-plain reason.FragmentBeyond = refl
 reason-plain reason.FragmentCut = refl
+reason-plain reason.ExtensionPast = refl
+reason-plain reason.ExtensionCut = refl
 reason-plain reason.UdpShort = refl
 reason-plain reason.UdpLength = refl
 reason-plain reason.TcpShort = refl
 reason-plain reason.TcpOffset = refl
-
--- a decimal digit, and the digits of a number
-digit-plain : (d : ℕ) → d < 10 → Plain (digit_glyph false d ∷ [])
-digit-plain d small =
-    let low : 48 ≤ digit_glyph false d = grind (arith, nat_tests, small) in
-    let high : digit_glyph false d < 58 = grind (arith, nat_tests, small) in
-    ap (λ l. l ++ []) (character-plain (digit_glyph false d) (omega (arith, low)) (omega (arith, high))
-    (λ e. omega (arith, e, high)))
-
-onto-plain : (k n : ℕ) (acc : List ℕ) (last : Bool) → n / 10 == 0 ≡ last → Plain acc
-    → Plain (digits_onto k 10 false n acc)
-onto-plain zero n acc last e plain = plain
-onto-plain (suc k) n acc true e plain =
-    rw e (plain-append (digit_glyph false (n % 10) ∷ []) acc (digit-plain (n % 10) (omega arith)) plain)
-onto-plain (suc k) n acc false e plain =
-    rw e (onto-plain k (n / 10) (digit_glyph false (n % 10) ∷ acc) (n / 10 / 10 == 0) refl
-    (plain-append (digit_glyph false (n % 10) ∷ []) acc (digit-plain (n % 10) (omega arith)) plain))
-
-decimal-plain : (n : ℕ) → Plain (decimal n)
-unfolding digits
-decimal-plain n = onto-plain 64 n [] (n / 10 == 0) refl refl
 
 -- a hexadecimal digit, and those of bytes
 hex-digit-plain : (d : ℕ) → d < 16 → escaped_character (slice_index lower_digits d) ≡ slice_index lower_digits d ∷ []
@@ -157,10 +140,22 @@ dot-plain : Plain (codes ".")
 unfolding encode
 dot-plain = refl
 
-address-plain : (address : ℕ) → Plain (address_text address)
-address-plain address =
+ipv4-plain : (address : ℕ) → Plain (ipv4_text address)
+ipv4-plain address =
     plain-append _ _ (plain-append _ _ (plain-append _ _ (plain-append _ _ (plain-append _ _ (plain-append _ _
     (decimal-plain _) dot-plain) (decimal-plain _)) dot-plain) (decimal-plain _)) dot-plain) (decimal-plain _)
+
+-- hexadecimal digits and colons
+letters-plain : (text : List ℕ) → AllByRecursion IsHexOrColon text → Plain text
+letters-plain [] all = refl
+letters-plain (c ∷ text) all = λ i.
+    character-plain c (grind (arith, all.0)) (grind (arith, all.0)) (λ e. grind (arith, all.0, e)) i
+    ++ letters-plain text all.1 i
+
+address-plain : (address : Address) → Plain (address_text address)
+address-plain (Ipv4 address) = ipv4-plain address
+address-plain (Ipv6 address) =
+    letters-plain (ipv6_text address) (recursion_from_All IsHexOrColon (ipv6_text address) (text-letters address))
 
 -- ---- fields
 
@@ -168,7 +163,8 @@ end-plain : (at : Endpoint) (key : List ℕ) → Plain key → PlainField (end_f
 unfolding encode
 end-plain at key plain = (plain, (refl, (address-plain at.address, ports at.port)))
   where
-    ports : (port : Option ℕ) → AllByRecursion Plain (flat_map (λ it. it.key ∷ word_of it.value) (port_facts port))
+    ports : (port : Option ℕ) → AllByRecursion Plain
+        (flat_map (λ it. it.key ∷ word_of it.value) (port_facts at.address port))
     ports None = tt
     ports (Some port) = (refl, tt)
 
@@ -196,15 +192,24 @@ file-plain file counts None = counted-plain file counts.format counts counts.ski
 file-plain file counts (Some ending) =
     counted-plain file (Some ending.format) counts ending.skipped (is_some ending.cut)
 
+frames-plain : (reads : Bool) (counts : ClassCounts) → HasPlainWords (frames_facts_for reads counts)
+unfolding encode
+frames-plain false counts =
+    line-plain (frames_facts_for false counts) refl (plain-3 refl refl refl (plain-3 refl refl refl ((refl, tt), tt)))
+frames-plain true counts =
+    line-plain (frames_facts_for true counts) refl (plain-3 refl refl refl (plain-3 refl refl refl ((refl, tt), tt)))
+
 pub report-words : ReportWordsPlain
 unfolding encode
 report-words = record {
+  left_out = λ refusal.
+      line-plain (left_out_facts refusal) refl
+      ((refl, tt), ((refl, tt), ((refl, tt), ((refl, (rule-plain refusal.rule, tt)), tt))));
   files = λ count. line-plain (files_facts count) refl ((refl, tt), tt);
   file = λ number counts ending. file-plain number counts ending;
   total = λ packets bytes truncated.
       line-plain (total_facts packets bytes truncated) refl (plain-3 refl refl refl tt);
-  frames = λ counts.
-      line-plain (frames_facts counts) refl (plain-3 refl refl refl (plain-3 refl refl refl ((refl, tt), tt)));
+  frames = frames-plain;
   joined = λ joined given_up. line-plain (joined_facts joined given_up) refl ((refl, tt), ((refl, tt), tt));
   talks = λ count. line-plain (talks_facts count) refl ((refl, tt), tt);
   talk = λ key row. line-plain (talk_facts key row) refl
@@ -224,6 +229,7 @@ class-plain : (it : Description) → AllByRecursion PlainField (description_fiel
 unfolding encode
 class-plain described.OtherLink = ((refl, (refl, tt)), tt)
 class-plain described.NotIpv4 = ((refl, (refl, tt)), tt)
+class-plain described.NotIp = ((refl, (refl, tt)), tt)
 class-plain described.Short = ((refl, (refl, tt)), tt)
 class-plain (described.Bad why) = ((refl, (refl, tt)), ((refl, (reason-plain why, tt)), tt))
 class-plain (described.Cut why) = ((refl, (refl, tt)), ((refl, (reason-plain why, tt)), tt))
@@ -328,7 +334,7 @@ listed-words = record {
   classed = λ it n meta shown. packet-plain n meta shown (description_fields it) (class-plain it);
   block = block-plain;
   checked = check-plain;
-  same = λ n cuts. (
+  same = λ times n cuts. (
     same-facts n (is_some cuts.first) (is_some cuts.second),
     refl,
     same-plain n (is_some cuts.first) (is_some cuts.second),
@@ -338,16 +344,22 @@ listed-words = record {
 
 -- ---- fitting
 
-value-fits : {A : Type 0} (fits : A → Type 0) (value : Value) → AllByRecursion Plain (word_of value)
-    → NumbersFit value → LayerFits (LayerFits fits) (fact_value value)
-value-fits fits (number n) plain small = small
-value-fits fits (coded text n) plain small = small
-value-fits fits (word None) plain small = tt
-value-fits fits (word (Some known)) plain small = plain.0
-value-fits fits (moment None) plain small = tt
-value-fits fits (moment (Some time)) plain small = (small.0, (small.1, (small.2, tt)))
-value-fits fits (hex bytes) plain small = hex-plain bytes small
-value-fits fits (flag is_so) plain small = tt
+time-fits : {A : Type 0} (times : TimeForm) (fits : A → Type 0) (time : Printed) → TimeNumbersFit times time
+    → LayerFits (LayerFits fits) (time_value times time)
+time-fits Exact fits time small = (small.0, (small.1, (small.2, tt)))
+time-fits Decimal fits time small = decimal-text-plain time small.1
+time-fits Utc fits time small = utc-text-plain time small.1
+
+value-fits : {A : Type 0} (times : TimeForm) (fits : A → Type 0) (value : Value) → AllByRecursion Plain (word_of value)
+    → NumbersFit times value → LayerFits (LayerFits fits) (fact_value times value)
+value-fits times fits (number n) plain small = small
+value-fits times fits (coded text n) plain small = small
+value-fits times fits (word None) plain small = tt
+value-fits times fits (word (Some known)) plain small = plain.0
+value-fits times fits (moment None) plain small = tt
+value-fits times fits (moment (Some time)) plain small = time-fits times fits time small
+value-fits times fits (hex bytes) plain small = hex-plain bytes small
+value-fits times fits (flag is_so) plain small = tt
 
 left-of : (xs ys : List (List ℕ)) → AllByRecursion Plain (xs ++ ys) → AllByRecursion Plain xs
 left-of [] ys a = tt
@@ -357,30 +369,31 @@ right-of : (xs ys : List (List ℕ)) → AllByRecursion Plain (xs ++ ys) → All
 right-of [] ys a = a
 right-of (x ∷ xs) ys a = right-of xs ys a.1
 
-facts-fit : (facts : List Fact) → AllByRecursion Plain (flat_map (λ it. it.key ∷ word_of it.value) facts)
-    → AllByRecursion (λ it. NumbersFit it.value) facts
-    → ValueFits 3 (object (map (λ it. (it.key, fact_value it.value)) facts))
-facts-fit [] plain small = tt
-facts-fit (fact ∷ facts) plain small =
+facts-fit : (times : TimeForm) (facts : List Fact)
+    → AllByRecursion Plain (flat_map (λ it. it.key ∷ word_of it.value) facts)
+    → AllByRecursion (λ it. NumbersFit times it.value) facts
+    → ValueFits 3 (object (map (λ it. (it.key, fact_value times it.value)) facts))
+facts-fit times [] plain small = tt
+facts-fit times (fact ∷ facts) plain small =
     let behind = flat_map (λ it. it.key ∷ word_of it.value) facts in (
-      (plain.0, value-fits (ValueFits 0) fact.value (left-of (word_of fact.value) behind plain.1) small.0),
-      facts-fit facts (right-of (word_of fact.value) behind plain.1) small.1,
+      (plain.0, value-fits times (ValueFits 0) fact.value (left-of (word_of fact.value) behind plain.1) small.0),
+      facts-fit times facts (right-of (word_of fact.value) behind plain.1) small.1,
     )
 
-field-fits : (field : Field) → PlainField field → FieldFits field
-    → Plain (field_member field).0 × ValueFits 3 (field_member field).1
-field-fits (one fact) plain small = (plain.0, value-fits (ValueFits 1) fact.value plain.1 small)
-field-fits (group key fact facts) plain small = (plain.0, facts-fit (fact ∷ facts) plain.1 small)
+field-fits : (times : TimeForm) (field : Field) → PlainField field → FieldFits times field
+    → Plain (field_member times field).0 × ValueFits 3 (field_member times field).1
+field-fits times (one fact) plain small = (plain.0, value-fits times (ValueFits 1) fact.value plain.1 small)
+field-fits times (group key fact facts) plain small = (plain.0, facts-fit times (fact ∷ facts) plain.1 small)
 
-fields-fit : (fields : List Field) → AllByRecursion Plain (flat_map field_words fields)
-    → AllByRecursion FieldFits fields → ValueFits 4 (object (map field_member fields))
-fields-fit [] plain small = tt
-fields-fit (field ∷ fields) plain small =
+fields-fit : (times : TimeForm) (fields : List Field) → AllByRecursion Plain (flat_map field_words fields)
+    → AllByRecursion (FieldFits times) fields → ValueFits 4 (object (map (field_member times) fields))
+fields-fit times [] plain small = tt
+fields-fit times (field ∷ fields) plain small =
     let behind = flat_map field_words fields in (
-      field-fits field (left-of (field_words field) behind plain) small.0,
-      fields-fit fields (right-of (field_words field) behind plain) small.1,
+      field-fits times field (left-of (field_words field) behind plain) small.0,
+      fields-fit times fields (right-of (field_words field) behind plain) small.1,
     )
 
 pub plain-lines-fit : PlainLinesFit
 unfolding encode
-plain-lines-fit line plain small = ((refl, plain.0), fields-fit line.fields plain.1 small)
+plain-lines-fit times line plain small = ((refl, plain.0), fields-fit times line.fields plain.1 small)

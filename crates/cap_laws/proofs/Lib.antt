@@ -16,6 +16,7 @@ mod JsonFaults
 mod JsonLines
 mod JsonNumbers
 mod JsonStrings
+mod JsonTimes
 mod JsonValues
 mod JsonWords
 mod LineWords
@@ -29,6 +30,7 @@ mod PcapWritten
 mod Rounds
 mod Rules
 mod SameRun
+mod SkippedFiles
 mod Sums
 mod Totals
 mod Twins

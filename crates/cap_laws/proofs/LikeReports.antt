@@ -41,6 +41,9 @@ use Rattle.cap_laws.proofs.LikePieces.{pieces-alike, place-like}
 use Rattle.cap_laws.proofs.LikeUnits.{LikeUnit, LikeUnits, first_unit-like, key-like, refused-like, rows-like}
 use Rattle.cap_laws.specs.Forms.{BodyParts, IsSameTalk, SameButForms, counts_text}
 use Rattle.cap_laws.specs.Reports.{Place, refusal_place_or, refused_after}
+use Rattle.cap_class.specs.Ipv6.{report_classes}
+use Rattle.cap_talks.specs.table.CountedUnits.{unit_for, units_for}
+use Rattle.cap_talks.specs.table.TakenText.{body_for, counts_text_for}
 
 -- Two packets have clocks of one time, and the same link, length, bytes and time, maybe in another form.
 pub record IsLikeTaken (x y : Taken) : Type 0 where
@@ -164,7 +167,7 @@ listed-like : (u v : Option CountedUnit) → LikeUnit u v → LikeUnits (listed 
 listed-like u v h = grind arith
 
 units-like : (xs ys : List Taken) → LikeTaken xs ys → LikeUnits (counted_units xs) (counted_units ys)
-unfolding counted_units
+unfolding units_for unit_for
 units-like (x ∷ xs) (y ∷ ys) h = search (units-like xs ys h.1, zip-both, listed, listed-like, unit-at)
 units-like xs ys h = grind arith
 
@@ -194,7 +197,7 @@ lines-like xs ys h =
     ++ talks_text (rows i)
 
 pub body-parts : BodyParts
-unfolding body_text_in
+unfolding body_for counts_text_for report_classes
 body-parts xs = refl
 
 -- ---- refusals
@@ -206,6 +209,7 @@ limit-by xs ys u v h k = grind (arith, refused-like, key-like, talks-like)
 
 limit-like : (xs ys : List Taken) (x y : Taken) → LikeTaken xs ys → IsLikeTaken x y
     → is_limit_at xs x ≡ is_limit_at ys y
+unfolding unit_for unit_at
 limit-like xs ys x y h k = limit-by xs ys (unit_at xs x) (unit_at ys y) h (unit-at xs ys x y h k)
 
 refused-here : (c d : Option Stamp) (a b : Item) (xs ys : List Taken) (p q : Option Place) → LikeItems c d a b

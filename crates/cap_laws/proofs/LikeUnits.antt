@@ -24,6 +24,7 @@ use Rattle.cap_talks.specs.table.Conversations.{same_talk}
 use Rattle.cap_talks.specs.table.Conversations.{units_of_talk}
 use Rattle.cap_talks.specs.table.Units.{ends_of}
 use Rattle.cap_talks.specs.declared.table.rows.TalkKey.{TalkKey}
+use Rattle.cap_talks.specs.declared.table.units.Address.TheVariants.{Ipv4}
 use Rattle.cap_talks.specs.declared.table.units.CountedUnit.{CountedUnit}
 use Rattle.cap_talks.specs.declared.table.units.Endpoint.{Endpoint}
 use Rattle.cap_talks.specs.declared.table.units.TimedFrame.{TimedFrame}
@@ -71,7 +72,7 @@ abbrev unit_with : List Piece → List ℕ → Option HeaderFields → Option Co
 unit_with pieces bytes header =
     option_and_then (λ h. option_map (unit_of h.key.protocol (length pieces) (pieces_original pieces)
     (timed_frame (first_frame pieces)) (timed_frame (last_frame pieces)))
-    (ends_of h.key.source h.key.destination (transport_of h.key.protocol bytes (length bytes)))) header
+    (ends_of (Ipv4 h.key.source) (Ipv4 h.key.destination) (transport_of h.key.protocol bytes (length bytes)))) header
 
 with-like : (ps qs : List Piece) (bytes : List ℕ) (header : Option HeaderFields) → Like ps qs
     → LikeUnit (unit_with ps bytes header) (unit_with qs bytes header)

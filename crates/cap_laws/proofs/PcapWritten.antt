@@ -12,7 +12,7 @@ use Rattle.cap_merge.specs.Run.{Clocked, opened_track, run}
 use Rattle.cap_source.specs.Feed.{Item, packet, refusal_of}
 use Rattle.cap_source.specs.Items.{file_first, file_items}
 use Rattle.cap_time.specs.declared.stamps.Stamp.{Stamp}
-use Rattle.cap_write.specs.Pcap.{pcap_bytes}
+use Rattle.cap_write.specs.Pcap.{first_in_unit, pcap_bytes}
 use Rattle.cap_laws.specs.again.Laws.{PcapAgain, SamePackets}
 use Rattle.cap_laws.proofs.LikeReports.{LikeItems, RunsLike, same-but-forms}
 use Rattle.cap_laws.proofs.OneFile.{run-one}
@@ -60,10 +60,10 @@ runs-like t u (a ∷ as_) (b ∷ bs) e h k w = search (
 runs-like t u as_ bs e h k w = grind arith
 
 pub pcap-report : PcapAgain → PcapReport
-pcap-report again-law order tail tail_again bytes are none short =
+pcap-report again-law order unit tail tail_again bytes are none short =
     let items = file_items tail 1 bytes in
-    let again = file_items tail_again 1 (pcap_bytes order (file_first tail 1 bytes) items) in
-    let same = (again-law order tail tail_again 1 1 bytes are).1 none short in
+    let again = file_items tail_again 1 (pcap_bytes order (first_in_unit unit (file_first tail 1 bytes)) items) in
+    let same = (again-law order unit tail tail_again 1 1 bytes are).1 none short in
     let one : run_of_lists (items ∷ []) ≡ items = run-one items (never-first items again same) in
     let other : run_of_lists (again ∷ []) ≡ again = run-one again (never-again items again same) in
     let both : AllZip SamePackets (run_of_lists (items ∷ [])) (run_of_lists (again ∷ [])) =

@@ -7,10 +7,11 @@ use Rattle.cap_class.specs.Runs.{with_item}
 use Rattle.cap_talks.specs.talks.ReportText.{refusal_after}
 use Rattle.cap_class.specs.Taken.{Taken}
 use Rattle.cap_laws.specs.Reports.{refused_after, RuleLaw}
+use Rattle.cap_talks.specs.talks.ReportText.{refusal_for}
 
 rule-after : (xs : List Taken) (run : List (Clocked Item))
     → option_map (λ p. p.rule) (refused_after xs run) ≡ option_map (λ r. r.rule) (refusal_after xs run)
-unfolding refused_after refusal_after
+unfolding refused_after refusal_for
 rule-after xs [] = refl
 rule-after xs (x ∷ run) = grind (arith, rule-after (with_item x.clock x.item xs) run)
 

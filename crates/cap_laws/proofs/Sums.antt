@@ -36,6 +36,7 @@ use Rattle.cap_source.specs.Feed.{Item, packet, refused, refusal_of}
 use Rattle.cap_source.specs.declared.packets.Meta.{Meta}
 use Rattle.cap_talks.specs.declared.table.rows.TalkKey.{TalkKey}
 use Rattle.cap_talks.specs.declared.table.rows.TalkRow.{TalkRow}
+use Rattle.cap_talks.specs.declared.table.units.Address.TheVariants.{Ipv4}
 use Rattle.cap_talks.specs.declared.table.units.CountedUnit.{CountedUnit}
 use Rattle.cap_talks.specs.declared.table.units.Endpoint.{Endpoint}
 use Rattle.cap_talks.specs.declared.table.units.TimedFrame.{TimedFrame}
@@ -320,7 +321,7 @@ own-by : (dir : CountedUnit → Bool) (each : CountedUnit → ℕ) → ReadsNoPl
 unfolding own_unit
 own-by dir each d e key None h captured n m meta =
     own-ends dir each d e key h.key.protocol meta.original n m meta
-    (ends_of h.key.source h.key.destination (transport_of h.key.protocol captured h.data_length))
+    (ends_of (Ipv4 h.key.source) (Ipv4 h.key.destination) (transport_of h.key.protocol captured h.data_length))
 own-by dir each d e key (Some it) h captured n m meta = refl
 
 own-in : (dir : CountedUnit → Bool) (each : CountedUnit → ℕ) → ReadsNoPlace dir → ReadsNoPlace each → (key : TalkKey)

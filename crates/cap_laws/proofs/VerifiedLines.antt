@@ -25,6 +25,7 @@ use Rattle.cap_line.proofs.ShownNames.{text-back}
 use Rattle.cap_line.specs.Shown.{is_escaped, shown_text, spells_hidden, unshown_text}
 use Rattle.cap_print.specs.Facts.{bytes_text, fields_in}
 use Rattle.cap_print.specs.declared.forms.Form.TheVariants.{Text}
+use Rattle.cap_print.specs.declared.forms.TimeForm.TheVariants.{Exact}
 use Rattle.cap_source.specs.Feed.{refusal_of}
 use Rattle.cap_source.specs.Items.{file_ending, file_items}
 use Rattle.cap_source.specs.declared.feeds.FileEnd.{FileEnd}
@@ -45,19 +46,19 @@ use Rattle.cap_laws.specs.VerifiedLines.{IsPlainName, IsReadable, VerifiesAsSame
 -- ---- what stands before the name of a file in its line
 
 abbrev end_front : Check → CheckEnd → List ℕ
-end_front check end = fields_in Text (digest_end_fields check end) []
+end_front check end = fields_in (Text Exact) (digest_end_fields check end) []
 
 abbrev line_front : ℕ → Check → List ℕ
 line_front n check = codes "digest" ++ ((32 ∷ decimal n) ++ end_front check check.end)
 
 whole-rest : (digest : Option (List ℕ)) (packets : ℕ) (was_cut : Bool) (rest : List ℕ)
-    → fields_in Text (whole_fields digest packets was_cut) rest
-    ≡ fields_in Text (whole_fields digest packets was_cut) [] ++ rest
+    → fields_in (Text Exact) (whole_fields digest packets was_cut) rest
+    ≡ fields_in (Text Exact) (whole_fields digest packets was_cut) [] ++ rest
 whole-rest None packets was_cut rest = grind (arith, append_assoc)
 whole-rest (Some digest) packets was_cut rest = grind (arith, append_assoc)
 
 end-rest : (check : Check) (end : CheckEnd) (rest : List ℕ)
-    → fields_in Text (digest_end_fields check end) rest ≡ end_front check end ++ rest
+    → fields_in (Text Exact) (digest_end_fields check end) rest ≡ end_front check end ++ rest
 end-rest check (Whole end) rest = whole-rest check.digest check.counts.packets _ rest
 end-rest check (Refusing refusal end) rest = grind (arith, append_assoc)
 end-rest check (Reading offset end) rest = grind (arith, append_assoc)
@@ -106,7 +107,7 @@ packets-front packets was_cut =
     (front-append (front-number packets) (cut-front was_cut))
 
 whole-front : (digest : Option (List ℕ)) (packets : ℕ) (was_cut : Bool)
-    → Front (fields_in Text (whole_fields digest packets was_cut) [])
+    → Front (fields_in (Text Exact) (whole_fields digest packets was_cut) [])
 whole-front None packets was_cut =
     front-append {xs = codes " sha256 -"} (record { clear = refl; line = refl; plain = refl })
     (packets-front packets was_cut)
@@ -153,7 +154,7 @@ line-is n name check =
 
 -- a blank stands behind the number
 whole-blank : (digest : Option (List ℕ)) (packets : ℕ) (was_cut : Bool)
-    → (more : List ℕ) × (fields_in Text (whole_fields digest packets was_cut) [] ≡ 32 ∷ more)
+    → (more : List ℕ) × (fields_in (Text Exact) (whole_fields digest packets was_cut) [] ≡ 32 ∷ more)
 whole-blank None packets was_cut = (_, refl)
 whole-blank (Some digest) packets was_cut = (_, refl)
 
@@ -228,19 +229,19 @@ entries_from n (name ∷ names) [] = []
 entries_from n (name ∷ names) (check ∷ checks) = entry_for n name check ∷ entries_from (n + 1) names checks
 
 first-line : (n : ℕ) (name : List ℕ) (check : Check) (field rest : List ℕ) → IsUtf8 name
-    → field ≡ name_field Text true name
-    → pieces 10 (check_line_in Digest Text n field check ++ rest) ≡ line_text n name check ∷ pieces 10 rest
+    → field ≡ name_field (Text Exact) true name
+    → pieces 10 (check_line_in Digest (Text Exact) n field check ++ rest) ≡ line_text n name check ∷ pieces 10 rest
 first-line n name check field rest utf8 named =
     let line = line_text n name check in
-    let text = ap (λ f. check_line_in Digest Text n f check) named ∙ line-is n name check in
+    let text = ap (λ f. check_line_in Digest (Text Exact) n f check) named ∙ line-is n name check in
     ap (λ t. pieces 10 (t ++ rest)) text
     ∙ (ap (pieces 10) (append_assoc line (codes "\n") rest) ∙ pieces-line 10 line rest (line-lined n name check utf8))
 
 lines-back : (tail : Tail) (names : List (List ℕ)) (files : List Opened) (checks : List Check) (n : ℕ)
     (field : ℕ → List ℕ) → AllByRecursion IsPlainName names → length names ≡ length files → 1 ≤ n
-    → n + length files ≤ 4294967296 → ((i : ℕ) → field (n + i) ≡ name_field Text true (get_or names i []))
+    → n + length files ≤ 4294967296 → ((i : ℕ) → field (n + i) ≡ name_field (Text Exact) true (get_or names i []))
     → AreChecked tail true n (map Some files) checks
-    → entries_in (check_lines Digest Text field n checks) ≡ map Some (entries_from n names checks)
+    → entries_in (check_lines Digest (Text Exact) field n checks) ≡ map Some (entries_from n names checks)
 unfolding pieces
 lines-back tail [] [] [] n field plain same some few named checked = refl
 lines-back tail [] [] (check ∷ checks) n field plain same some few named checked = absurd checked
@@ -248,8 +249,8 @@ lines-back tail [] (file ∷ files) checks n field plain same some few named che
 lines-back tail (name ∷ names) [] checks n field plain same some few named checked = absurd (omega (arith, same))
 lines-back tail (name ∷ names) (file ∷ files) [] n field plain same some few named checked = absurd checked
 lines-back tail (name ∷ names) (file ∷ files) (check ∷ checks) n field plain same some few named checked =
-    let own : field n ≡ name_field Text true name = ap field (omega arith) ∙ named 0 in
-    let rest = check_lines Digest Text field (n + 1) checks in
+    let own : field n ≡ name_field (Text Exact) true name = ap field (omega arith) ∙ named 0 in
+    let rest = check_lines Digest (Text Exact) field (n + 1) checks in
     let more = lines-back tail names files checks (n + 1) field plain.1 (omega (arith, same)) (omega (arith, some))
     (omega (arith, few)) (λ i. ap field (omega arith) ∙ named (suc i)) checked.1 in
     let first = entry-back n name check some (omega (arith, few)) plain.0 in
@@ -333,8 +334,9 @@ verdicts-same tail (name ∷ names) (file ∷ files) (check ∷ checks) (verdict
 pub verifies-as-same : VerifiesAsSame
 verifies-as-same tail names files checks plain readable same few checked = (
   entries_from 1 names checks,
-  lines-back tail names files checks 1 (name_fields Text true names) plain same (omega arith) (omega (arith, few))
-      (λ i. ap (λ k. name_field Text true (get_or names k [])) (omega arith)) checked,
+  lines-back tail names files checks 1 (name_fields (Text Exact) true names) plain same (omega arith)
+      (omega (arith, few))
+      (λ i. ap (λ k. name_field (Text Exact) true (get_or names k [])) (omega arith)) checked,
   names-back tail names files checks 1 same checked,
   λ verdicts. verdicts-same tail names files checks verdicts 1 readable same checked,
 )

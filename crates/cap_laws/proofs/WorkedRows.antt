@@ -24,6 +24,9 @@ use Rattle.cap_talks.specs.table.TakenText.{body_text_in, files_part_in}
 use Rattle.cap_class.specs.Taken.{classify, events_of}
 use Rattle.cap_talks.specs.table.CountedUnits.{group_unit, unit_at, counted_units}
 use Rattle.cap_laws.specs.WorkedReport.{Overlapped, Tagged}
+use Rattle.cap_class.specs.Ipv6.{report_classes}
+use Rattle.cap_talks.specs.table.CountedUnits.{unit_for, units_for}
+use Rattle.cap_talks.specs.table.TakenText.{body_for, counts_text_for}
 
 pub overlapped : Overlapped
 unfolding digits number version header_length service total_length identification more_fragments offset time_to_live
@@ -33,7 +36,7 @@ unfolding digits number version header_length service total_length identificatio
     transport_of completes joined_data piece_of joined_pieces step open_groups_after typed raw network_of counted
     rows_of
     units_of_code stamp_cmp stamp_in stamp_plus time_cmp time_at floor_of remainder_of classes group_class completed_of
-    body_text_in files_part_in classify events_of group_unit unit_at counted_units
+    body_for counts_text_for report_classes files_part_in classify events_of group_unit unit_at units_for unit_for
 overlapped = record { before = refl; after = refl; so_far = refl; done = refl }
 
 pub tagged : Tagged
@@ -44,6 +47,7 @@ unfolding digits number version header_length service total_length identificatio
     transport_of completes joined_data piece_of joined_pieces step open_groups_after typed raw network_of counted
     rows_of
     units_of_code stamp_cmp stamp_in stamp_plus time_cmp time_at floor_of remainder_of classes group_class completed_of
-    body_text_in files_part_in classify events_of group_unit unit_at counted_units is_tag tag_ended payload carried
+    body_for counts_text_for report_classes files_part_in classify events_of group_unit unit_at units_for unit_for
+    is_tag tag_ended payload carried
     announced announced_in
 tagged = record { classes_are = refl; done = refl }

@@ -11,7 +11,7 @@ use Rattle.cap_source.specs.Items.{file_items}
 use Rattle.cap_source.specs.Times.{meta_time}
 use Rattle.cap_source.specs.declared.packets.Meta.{Meta}
 use Rattle.cap_time.specs.Clock.{clock_cmp}
-use Rattle.cap_bytes.specs.declared.formats.Format.{Format}
+use Rattle.cap_commands.specs.declared.counting.OutputFormat.{OutputFormat}
 use Rattle.cap_commands.specs.Converted.{convert_refusal, convert_text}
 use Rattle.cap_commands.specs.DiffText.{comparison_of, is_same, nothing_ignored, same_packets}
 use Rattle.cap_laws.specs.again.Laws.{SamePackets}
@@ -46,11 +46,11 @@ SameButIgnored =
     → IsTrue (is_same (comparison_of ignored tail first second))
     ↔ AllZip (SameBut ignored) (file_items tail 1 first) (file_items tail 2 second)
 
--- A capture and what `convert` writes of it, in either format and byte order, have the same packets, as many as the
--- capture has, if nothing is refused and at most 2^40 bytes are written.
+-- A capture and what `convert` writes of it, in either format and byte order and in any unit, have the same packets, as
+-- many as the capture has, if nothing is refused and at most 2^40 bytes are written.
 abbrev pub SameAsConverted : Type 0
 SameAsConverted =
-    (format : Format) (order : Order) (tail : Tail) (bytes : List ℕ) → AreBytes bytes
+    (format : OutputFormat) (order : Order) (tail : Tail) (bytes : List ℕ) → AreBytes bytes
     → convert_refusal format tail bytes ≡ None → length (convert_text format order tail bytes) ≤ 2 ^ 40
     → comparison_of nothing_ignored tail bytes (convert_text format order tail bytes)
     ≡ same_packets (length (file_items tail 1 bytes))

@@ -12,7 +12,7 @@ use Rattle.cap_print.specs.declared.forms.Form.{Form}
 use Rattle.cap_source.specs.Feed.{Item, refusal_of}
 use Rattle.cap_source.specs.Items.{file_items}
 use Rattle.cap_source.specs.inner.Fields.{ItemFits}
-use Rattle.cap_bytes.specs.declared.formats.Format.{Format}
+use Rattle.cap_commands.specs.declared.counting.OutputFormat.{OutputFormat}
 use Rattle.cap_commands.specs.Converted.{convert_refusal, convert_text}
 use Rattle.cap_commands.specs.DiffText.{comparison_of, is_same, nothing_ignored}
 
@@ -41,13 +41,13 @@ SameAsDiff =
     → (canonical_text (file_items tail 1 first) ≡ canonical_text (file_items tail 2 second))
     ↔ IsTrue (is_same (comparison_of nothing_ignored tail first second))
 
--- What `convert` writes of any file, in either format and byte order, is a capture that isn't refused, and has the
--- digest line of the file, under every number and in either form, apart from whether a cut end was dropped; if nothing
--- is refused of the file and at most 2^40 bytes are written. So its line is that of a file that wasn't cut, if no end
--- is to be dropped of it.
+-- What `convert` writes of any file, in either format and byte order and in any unit, is a capture that isn't refused,
+-- and has the digest line of the file, under every number and in either form, apart from whether a cut end was dropped;
+-- if nothing is refused of the file and at most 2^40 bytes are written. So its line is that of a file that wasn't cut,
+-- if no end is to be dropped of it.
 abbrev pub DigestOfConverted : Type 0
 DigestOfConverted =
-    (format : Format) (order : Order) (tail tail_again : Tail) (bytes : List ℕ) → AreBytes bytes
+    (format : OutputFormat) (order : Order) (tail tail_again : Tail) (bytes : List ℕ) → AreBytes bytes
     → convert_refusal format tail bytes ≡ None → length (convert_text format order tail bytes) ≤ 2 ^ 40
     → (number : ℕ)
     → (refusal_of (file_items tail_again number (convert_text format order tail bytes)) ≡ None)

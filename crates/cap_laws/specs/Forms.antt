@@ -1,5 +1,5 @@
 -- What stays of the report when packets are written with their times in another form.
-use Rattle.std.specs.Prelude.{◌≡◌, ℕ, ◌≤◌, ◌^◌, List, [], ◌∷◌, ◌++◌, length, None}
+use Rattle.std.specs.Prelude.{◌≡◌, ℕ, ◌≤◌, ◌^◌, List, [], ◌∷◌, ◌++◌, length, Option, None}
 use Rattle.std.specs.List.{AllZip}
 use Rattle.std.specs.declared.cmp.Ordering.TheVariants.{Equal}
 use Rattle.cap_blocks.specs.Split.{AreBytes}
@@ -18,7 +18,8 @@ use Rattle.cap_talks.specs.table.TakenText.{body_text, taken_bytes, truncated_of
 use Rattle.cap_talks.specs.table.TalkLines.{talk_texts, talks_text}
 use Rattle.cap_class.specs.Taken.{Taken}
 use Rattle.cap_talks.specs.table.Conversations.{Conversation, rows_of}
-use Rattle.cap_write.specs.Pcap.{pcap_bytes, pcap_refusal}
+use Rattle.cap_time.specs.declared.stamps.Unit.{Unit as Fraction}
+use Rattle.cap_write.specs.Pcap.{first_in_unit, pcap_bytes, pcap_refusal}
 use Rattle.cap_laws.specs.Reports.{refused_at}
 
 -- Two rows of conversations have the same protocol and ends, the same counts and places, and the same times, maybe in
@@ -53,13 +54,13 @@ pub record SameButForms (run again : List (Clocked Item)) : Type 0 where
       (rows_of (counted_units (taken_after [] again)))
   pub refused : refused_at again ≡ refused_at run
 
--- The pcap file that is written of one file, if nothing is refused and it is at most 2^40 bytes long, has the file's
--- report, but for the forms of times.
+-- The pcap file that is written of one file, in whatever unit, if nothing is refused and it is at most 2^40 bytes long,
+-- has the file's report, but for the forms of times.
 abbrev pub PcapReport : Type 0
 PcapReport =
-    (order : Order) (tail tail_again : Tail) (bytes : List ℕ) → AreBytes bytes
+    (order : Order) (unit : Option Fraction) (tail tail_again : Tail) (bytes : List ℕ) → AreBytes bytes
     → (let items = file_items tail 1 bytes in
-    let first = file_first tail 1 bytes in
+    let first = first_in_unit unit (file_first tail 1 bytes) in
     let text = pcap_bytes order first items in
     pcap_refusal 1 first items ≡ None → length text ≤ 2 ^ 40
     → SameButForms (clocked_run tail (bytes ∷ [])) (clocked_run tail_again (text ∷ [])))

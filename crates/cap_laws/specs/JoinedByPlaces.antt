@@ -12,6 +12,7 @@ use Rattle.cap_merge.specs.Run.{Clocked, opened_track, run}
 use Rattle.cap_source.specs.Feed.{Item, packet, refused}
 use Rattle.cap_source.specs.declared.packets.Meta.{Meta}
 use Rattle.cap_time.specs.declared.stamps.Stamp.{Stamp}
+use Rattle.cap_time.specs.declared.stamps.Unit.{Unit as Fraction}
 use Rattle.cap_write.specs.Joined.{Complete, datagram_of, events_here, items_with_datagram, joined_bytes}
 use Rattle.cap_write.specs.Joined.{joined_refusal}
 use Rattle.cap_write.specs.PcapRun.{joined_pcap_bytes, joined_pcap_refusal, run_bytes, run_refusal}
@@ -46,19 +47,20 @@ bytes_by_places order run = merged_bytes order (joined_by_places 0 [] run)
 abbrev pub refusal_by_places : List (Clocked Item) → Option Refusal
 refusal_by_places run = merged_refusal (joined_by_places 0 [] run)
 
--- the same as pcap
-abbrev pub pcap_by_places : Order → List (Clocked Item) → List ℕ
-pcap_by_places order run = run_bytes order (joined_by_places 0 [] run)
+-- the same as pcap, in the unit of time that is asked for, if one is
+abbrev pub pcap_by_places : Option Fraction → Order → List (Clocked Item) → List ℕ
+pcap_by_places unit order run = run_bytes unit order (joined_by_places 0 [] run)
 
-abbrev pub pcap_refusal_by_places : List (Clocked Item) → Option Refusal
-pcap_refusal_by_places run = run_refusal (joined_by_places 0 [] run)
+abbrev pub pcap_refusal_by_places : Option Fraction → List (Clocked Item) → Option Refusal
+pcap_refusal_by_places unit run = run_refusal unit (joined_by_places 0 [] run)
 
--- What is written for a run of files, in either format, and the refusal that is returned, are those by places.
+-- What is written for a run of files, in either format and in any unit, and the refusal that is returned, are those by
+-- places.
 pub record WritesByPlaces (order : Order) (run : List (Clocked Item)) : Type 0 where
   pub bytes : joined_bytes order run ≡ bytes_by_places order run
   pub refusal : joined_refusal run ≡ refusal_by_places run
-  pub pcap_bytes : joined_pcap_bytes order run ≡ pcap_by_places order run
-  pub pcap_refusal : joined_pcap_refusal run ≡ pcap_refusal_by_places run
+  pub pcap_bytes : (unit : Option Fraction) → joined_pcap_bytes unit order run ≡ pcap_by_places unit order run
+  pub pcap_refusal : (unit : Option Fraction) → joined_pcap_refusal unit run ≡ pcap_refusal_by_places unit run
 
 abbrev pub JoinedByPlaces : Type 0
 JoinedByPlaces = (order : Order) (files : List (List Item))

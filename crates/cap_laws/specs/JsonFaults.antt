@@ -6,6 +6,7 @@ use Rattle.cap_bytes.specs.declared.stops.CutRest.{CutRest}
 use Rattle.cap_laws.specs.JsonLines.{json_text, object, string, whole}
 use Rattle.cap_tool.specs.Cuts.{cut_fields}
 use Rattle.cap_print.specs.declared.forms.Form.TheVariants.{Json}
+use Rattle.cap_print.specs.declared.forms.TimeForm.{TimeForm}
 use Rattle.cap_talks.specs.declared.table.others.OtherCounts.{OtherCounts}
 use Rattle.cap_tool.specs.NetworkLine.{networks_in}
 use Rattle.cap_tool.specs.Objects.{hint_json, list_line_json, object_json, open_fields, read_fields, refused_fields}
@@ -50,8 +51,8 @@ IsListLine =
 -- So is the line of the networks of the packets that a report counts as `not-ipv4`.
 abbrev pub IsNetworkLine : Type 0
 IsNetworkLine =
-    (n : OtherCounts) → n.ipv6 < 10 ^ 64 → n.arp < 10 ^ 64 → n.other < 10 ^ 64
-    → networks_in Json n
+    (times : TimeForm) (n : OtherCounts) → n.ipv6 < 10 ^ 64 → n.arp < 10 ^ 64 → n.other < 10 ^ 64
+    → networks_in (Json times) n
     ≡ json_text 2 (object ((codes "type", string (codes "not_ipv4")) ∷ (codes "ipv6", whole (pos n.ipv6))
     ∷ (codes "arp", whole (pos n.arp)) ∷ (codes "other", whole (pos n.other)) ∷ [])) ++ codes "\n"
 

@@ -9,6 +9,11 @@ use Rattle.cap_check.specs.declared.checked.Check.{Check}
 use Rattle.cap_check.specs.declared.checked.CheckLine.{CheckLine}
 use Rattle.cap_print.specs.Facts.{Facts, Field, Value, coded, flag, group, hex, line_in, moment, number, one, word}
 use Rattle.cap_print.specs.declared.forms.Form.TheVariants.{Json}
+use Rattle.cap_print.specs.declared.forms.TimeForm.{TimeForm}
+use Rattle.cap_print.specs.declared.forms.TimeForm.TheVariants.{Decimal, Exact, Utc}
+use Rattle.cap_print.specs.Dates.{utc_text}
+use Rattle.cap_print.specs.Decimals.{decimal_text}
+use Rattle.cap_time.specs.Time.{Printed}
 use Rattle.cap_tool.specs.NameFields.{name_field}
 use Rattle.cap_tool.specs.Objects.{escaped_character}
 use Rattle.hex.specs.Hex.{encode_lower}
@@ -53,26 +58,32 @@ abbrev pub json_text : (depth : ℕ) → JsonValue depth → List ℕ
 json_text zero value = []
 json_text (suc depth) value = layer_text (json_text depth) value
 
--- the value of a fact; a time is an array of its three numbers
-abbrev pub fact_value : {A : Type 0} → Value → Layer (Layer A)
-fact_value (number n) = whole (pos n)
-fact_value (coded text n) = whole (pos n)
-fact_value (word None) = null
-fact_value (word (Some known)) = string known
-fact_value (moment None) = null
-fact_value (moment (Some time)) =
-    array (whole time.seconds ∷ whole (pos time.numerator) ∷ whole (pos time.denominator) ∷ [])
-fact_value (hex bytes) = string (encode_lower bytes)
-fact_value (flag is_so) = truth is_so
+-- the value of a time in a form: an array of its three numbers, or a string
+abbrev pub time_value : {A : Type 0} → TimeForm → Printed → Layer (Layer A)
+time_value Exact time = array (whole time.seconds ∷ whole (pos time.numerator) ∷ whole (pos time.denominator) ∷ [])
+time_value Decimal time = string (decimal_text time)
+time_value Utc time = string (utc_text time)
+
+-- the value of a fact, with times in a form
+abbrev pub fact_value : {A : Type 0} → TimeForm → Value → Layer (Layer A)
+fact_value times (number n) = whole (pos n)
+fact_value times (coded text n) = whole (pos n)
+fact_value times (word None) = null
+fact_value times (word (Some known)) = string known
+fact_value times (moment None) = null
+fact_value times (moment (Some time)) = time_value times time
+fact_value times (hex bytes) = string (encode_lower bytes)
+fact_value times (flag is_so) = truth is_so
 
 -- a field of a line as a member: a fact, or an object of several facts
-abbrev pub field_member : Field → List ℕ × JsonValue 3
-field_member (one fact) = (fact.key, fact_value fact.value)
-field_member (group key fact facts) = (key, object (map (λ it. (it.key, fact_value it.value)) (fact ∷ facts)))
+abbrev pub field_member : TimeForm → Field → List ℕ × JsonValue 3
+field_member times (one fact) = (fact.key, fact_value times fact.value)
+field_member times (group key fact facts) =
+    (key, object (map (λ it. (it.key, fact_value times it.value)) (fact ∷ facts)))
 
 -- the members of a line: its kind under the name `type`, and its fields
-abbrev pub line_members : Facts → List (List ℕ × JsonValue 3)
-line_members line = (codes "type", string line.kind) ∷ map field_member line.fields
+abbrev pub line_members : TimeForm → Facts → List (List ℕ × JsonValue 3)
+line_members times line = (codes "type", string line.kind) ∷ map (field_member times) line.fields
 
 -- a value whose strings have no character that is escaped, and whose numbers have up to 64 digits
 abbrev pub LayerFits : {A : Type 0} → (A → Type 0) → Layer A → Type 0
@@ -91,16 +102,16 @@ ValueFits (suc depth) value = LayerFits (ValueFits depth) value
 -- A line of facts is the text of the object with its kind and its fields as members, if this object fits.
 abbrev pub IsJsonLine : Type 0
 IsJsonLine =
-    (line : Facts) → ValueFits 4 (object (line_members line))
-    → line_in Json line ≡ json_text 4 (object (line_members line)) ++ codes "\n"
+    (times : TimeForm) (line : Facts) → ValueFits 4 (object (line_members times line))
+    → line_in (Json times) line ≡ json_text 4 (object (line_members times line)) ++ codes "\n"
 
 -- So is the line of a file in `check` and `digest`, whose last member is the file's name, whatever characters it has.
 abbrev pub IsNamedLine : Type 0
 IsNamedLine =
-    (which : CheckLine) (file : ℕ) (check : Check) (is_shown : Bool) (name : List ℕ)
-    → ValueFits 4 (object (line_members (check_facts which file check)))
-    → check_line_in which Json file (name_field Json is_shown name) check
-    ≡ json_text 4 (object (line_members (check_facts which file check)
+    (times : TimeForm) (which : CheckLine) (file : ℕ) (check : Check) (is_shown : Bool) (name : List ℕ)
+    → ValueFits 4 (object (line_members times (check_facts which file check)))
+    → check_line_in which (Json times) file (name_field (Json times) is_shown name) check
+    ≡ json_text 4 (object (line_members times (check_facts which file check)
     ++ (codes "path", string (chars name)) ∷ [])) ++ codes "\n"
 
 -- No two values of any depth have the same text on a line, whatever comes after the line.
@@ -113,5 +124,6 @@ ValuesReadBack =
 -- So two lines of facts that are the same have the same members.
 abbrev pub LinesReadBack : Type 0
 LinesReadBack =
-    (line other : Facts) → ValueFits 4 (object (line_members line)) → ValueFits 4 (object (line_members other))
-    → line_in Json line ≡ line_in Json other → line_members line ≡ line_members other
+    (times : TimeForm) (line other : Facts) → ValueFits 4 (object (line_members times line))
+    → ValueFits 4 (object (line_members times other))
+    → line_in (Json times) line ≡ line_in (Json times) other → line_members times line ≡ line_members times other

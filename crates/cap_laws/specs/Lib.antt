@@ -17,6 +17,7 @@ pub mod MergeSorts
 pub mod Reports
 pub mod Rounds
 pub mod Runs
+pub mod SkippedFiles
 pub mod Sums
 pub mod Totals
 pub mod VerifiedLines

@@ -1,5 +1,5 @@
 -- What `digest --verify` says of the lines that `digest --names` printed, if the files are the same.
-use Rattle.std.specs.Prelude.{◌≡◌, ◌≤◌, ◌+◌, ℕ, List, [], ◌∷◌, length, map, chars, true, false, Some, IsTrue, IsFalse}
+use Rattle.std.specs.Prelude.{◌≡◌, ◌≤◌, ℕ, List, length, map, chars, true, Some, IsTrue, IsFalse}
 use Rattle.std.specs.Prelude.{IsUtf8}
 use Rattle.std.specs.List.{AllByRecursion}
 use Rattle.cap_bytes.specs.declared.faults.Tail.{Tail}
@@ -9,6 +9,7 @@ use Rattle.cap_check.specs.declared.checked.Check.{Check}
 use Rattle.cap_check.specs.declared.checked.CheckLine.TheVariants.{Digest}
 use Rattle.cap_line.specs.Shown.{spells_hidden}
 use Rattle.cap_print.specs.declared.forms.Form.TheVariants.{Text}
+use Rattle.cap_print.specs.declared.forms.TimeForm.TheVariants.{Exact}
 use Rattle.cap_tool.specs.CheckedNames.{name_fields}
 use Rattle.cap_tool.specs.DigestLines.{Entry, entries_in}
 use Rattle.cap_tool.specs.Verdicts.{AreVerdicts}
@@ -33,7 +34,7 @@ VerifiesAsSame =
     → length names ≡ length files → length files ≤ 4294967295
     → AreChecked tail true 1 (map Some files) checks
     → (entries : List Entry)
-    × (entries_in (check_lines Digest Text (name_fields Text true names) 1 checks) ≡ map Some entries)
+    × (entries_in (check_lines Digest (Text Exact) (name_fields (Text Exact) true names) 1 checks) ≡ map Some entries)
     × (map (λ entry. entry.name) entries ≡ names)
     × ((verdicts : List Verdict) → AreVerdicts tail entries (map Some files) verdicts
     → AllByRecursion (λ verdict. verdict ≡ Same) verdicts)

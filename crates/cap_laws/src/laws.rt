@@ -18,6 +18,7 @@ ghost use Rattle.cap_laws.specs.MergeSorts.{MergeSorts, RunSorts, SortsOnce};
 ghost use Rattle.cap_laws.specs.Reports.{MergedReport, PcapngReport, RuleLaw};
 ghost use Rattle.cap_laws.specs.Rounds.{RoundsInBytes, SharingRoundsInBytes};
 ghost use Rattle.cap_laws.specs.Runs.{MergedRun, PcapngRun};
+ghost use Rattle.cap_laws.specs.SkippedFiles.{KeepsWhole, SkipsAsOthers};
 ghost use Rattle.cap_laws.specs.Sums.{LoneClasses, ReportSums};
 ghost use Rattle.cap_laws.specs.Totals.{ReportTotals};
 ghost use Rattle.cap_laws.specs.VerifiedLines.{VerifiesAsSame};
@@ -238,6 +239,16 @@ pub fn exact_times()
 /// spells out the escape of a hidden character.
 pub fn verified_lines()
     ensures { VerifiesAsSame }
+{}
+
+/// If `info` or `report` leaves out the files that are refused, it keeps those that aren't: `info` refuses none of
+/// them, and keeps all if it refuses none (`kept`). If the kept files have the same bytes when they are opened once
+/// more, a run that is done has printed what it prints of all files, and none is refused. One that ends as having
+/// left files out has printed the lines of those that are refused, at least one, and then what it prints of the others
+/// alone (`printed`).
+pub fn skipped_files()
+    ensures kept { KeepsWhole }
+    ensures printed { SkipsAsOthers }
 {}
 
 /// Each packet has one class, and the seven counts add up to the number of packets.

@@ -15,5 +15,5 @@ pub use crate::laws::{
     joined_by_places, joined_units, json_cuts, json_differences, json_faults, json_lines,
     json_networks, json_words, merge_sorts, merged_report, merged_run, one_class, pcap_report,
     pcapng_report, pcapng_run, refusal_rule, report_by_places, report_sums, report_totals,
-    rounds_bytes, sharing_rounds, verified_lines, worked_report,
+    rounds_bytes, sharing_rounds, skipped_files, verified_lines, worked_report,
 };

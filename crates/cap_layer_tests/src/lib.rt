@@ -1,4 +1,4 @@
-//! Tests of what reads captures, of links and IPv4, and of what joins fragments; and frames for the tests above.
+//! Tests of what reads captures, of links, IPv4 and IPv6, and of what joins fragments; and frames for the tests above.
 #![tactic(auto)]
 
 #[cfg(test)]
@@ -14,6 +14,8 @@ pub mod frames;
 mod holding;
 #[cfg(test)]
 mod ip;
+#[cfg(test)]
+mod ipv6;
 #[cfg(test)]
 mod join;
 #[cfg(test)]

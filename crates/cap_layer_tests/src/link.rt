@@ -4,7 +4,7 @@ use crate::frames::{
     CAPTURED_FRAME, COOKED_2_FRAME, COOKED_2_TAGGED_FRAME, COOKED_FRAME, FRAGMENT, IPV6_FRAME,
     LENGTH_FRAME, PACKET, TAG_FRAME, TAGGED_FRAME,
 };
-use cap_link::{Network, OtherNetwork, network, other_network, tags_law};
+use cap_link::{Network, OtherNetwork, ipv6_packet, network, other_network, tags_law};
 use std::process::Abort;
 
 // A link type, a frame, its original length, how many of its bytes come before the IPv4 packet, and the packet's
@@ -103,5 +103,25 @@ const NETWORKS: [(u16, &[u8], Option<OtherNetwork>); 14] = [
 fn networks_other_than_ipv4(rt: HostRuntime) {
     for &(link, frame, wanted) in &NETWORKS {
         same!(&rt; other_network(link, frame), wanted, link);
+    }
+}
+
+// A link type, a frame, and how many of its bytes come before the IPv6 packet that it carries, if it carries one.
+const IPV6_CARRIED: [(u16, &[u8], Option<usize>); 8] = [
+    (1, &IPV6_FRAME, Some(14)),
+    (101, &[0x60, 1], Some(0)),
+    (101, &[0x45, 1], None),
+    (101, &[], None),
+    (229, &[0x45], Some(0)),
+    (228, &[0x60], None),
+    (1, &LENGTH_FRAME, None),
+    (113, &COOKED_FRAME, None),
+];
+
+#[test]
+fn carries_ipv6_or_none(rt: HostRuntime) {
+    for &(link, frame, before) in &IPV6_CARRIED {
+        let wanted = before.and_then(|place| frame.get(place..));
+        holds!(&rt; ipv6_packet(link, frame) == wanted, link);
     }
 }

@@ -12,8 +12,8 @@ use Rattle.std.proofs.lemmas.Result.{IfOk-weaker}
 use Rattle.clap.specs.declared.builder.arg.Arg.{Arg}
 use Rattle.clap.specs.declared.builder.command.Command.{Command}
 use Rattle.clap.specs.declared.builder.command.Command.TheViews.{out-Command}
-use Rattle.cap_line.specs.Command.{AddsMade, AddsRule, IsCapt, IsConvert, IsDiff, IsJoin, IsMerge, IsPrinting}
-use Rattle.cap_line.specs.Command.{printing_app, surveying_app}
+use Rattle.cap_line.specs.Command.{AddsMade, AddsRule, ArgumentNames, IsCapt, IsConvert, IsJoin, IsMerge, IsPrinting}
+use Rattle.cap_line.specs.Command.{IsTimed, skipping_app, surveying_app}
 use Rattle.cap_line.specs.CommandLine.{Parses, IsJobOf, IsNoJob, IsRefused, fault_by}
 use Rattle.cap_line.specs.Jobs.{IsWholeJob}
 use Rattle.cap_line.specs.declared.jobs.Job.{Job}
@@ -61,7 +61,9 @@ Errs words app k = (k ≡ kind.OutOfMemory) ⊎ IsAmong k (fault_of app words)
 refused_line : (words : List Text) (app : App) (k : ErrorKind) → IsCapt app → fault_by k ≡ Line
     → (k ≡ kind.OutOfMemory → ⊥)
     → Errs words app k → (r : Result Job LineFault) → r ≡ Err Line → Parses words r
-refused_line words app k h line other w r at = grind arith
+refused_line words app k h line other (inl w) r at = absurd (other w)
+refused_line words app k h line other (inr among) r at =
+    subst (Parses words) (sym at) (inl (app, k, line, record { is_capt = h; refused = among }))
 
 -- clap's refusal is the parse's
 pub Parses-refused : (words : List Text) (app : App) (k : ErrorKind) → IsCapt app → Errs words app k
@@ -127,6 +129,14 @@ AddsRule-is made all rule known before is rule_is =
     AddsRule-weaker (λ app. app ≡ before) (λ app. app ≡ with_rule before known) made all rule is
     (λ app e. rw (e, rule_is) refl)
 
+-- a command that is made of the names of the forms of times, with one more argument
+pub IsTimed-more : (make : ArgumentNames → App) (made all : Result Command AllocError) (rule known : Rule)
+    → IfOk made (λ c. IsTimed make (app_of c)) → rule ≡ known → IfOk all (λ c. AddsRule made rule (app_of c))
+    → IfOk all (λ c. IsTimed (λ times. with_rule (make times) known) (app_of c))
+IsTimed-more make made all rule known is rule_is =
+    AddsRule-weaker (IsTimed make) (IsTimed (λ times. with_rule (make times) known)) made all rule is
+    (λ app e. record { times = e.times; times_are = e.times_are; app_is = rw (e.app_is, rule_is) refl })
+
 -- a command with one more argument, behind what was added to one before
 pub AddsRule-behind : (made mid all : Result Command AllocError) (f : App → App) (rule known : Rule)
     → IfOk mid (λ c. IsOkAnd made (λ b. app_of c ≡ f (app_of b))) → rule ≡ known
@@ -139,11 +149,20 @@ AddsRule-behind (Err e) (Ok m) all f rule known is rule_is = absurd is
 AddsRule-behind made (Err e) all f rule known is rule_is = IfOk-weaker all _ _ (λ c added. absurd added)
 
 -- a command that takes any number of captures, of a known one
-pub surveys : (made all : Result Command AllocError) (before : App) → IfOk made (λ c. app_of c ≡ before)
+pub surveys : (P : App → Type 0) (made all : Result Command AllocError) → IfOk made (λ c. P (app_of c))
     → IfOk all (λ c. IsOkAnd made (λ b. app_of c ≡ surveying_app (app_of b)))
-    → IfOk all (λ c. app_of c ≡ surveying_app before)
-surveys (Ok b) all before is = IfOk-weaker all _ _ (λ c added. added ∙ ap surveying_app is)
-surveys (Err e) all before is = IfOk-weaker all _ _ (λ c added. absurd added)
+    → IfOk all (λ c. (before : App) × P before × (app_of c ≡ surveying_app before))
+surveys P (Ok b) all is = IfOk-weaker all _ _ (λ c added. (app_of b, is, added))
+surveys P (Err e) all is = IfOk-weaker all _ _ (λ c added. absurd added)
+
+-- a command that can leave out captures, of one that is made of the names of the forms of times
+pub skips : (make : ArgumentNames → App) (made all : Result Command AllocError)
+    → IfOk made (λ c. IsTimed make (app_of c))
+    → IfOk all (λ c. IsOkAnd made (λ b. app_of c ≡ skipping_app (app_of b)))
+    → IfOk all (λ c. IsTimed (λ times. skipping_app (make times)) (app_of c))
+skips make (Ok b) all is = IfOk-weaker all _ _ (λ c added.
+    record { times = is.times; times_are = is.times_are; app_is = added ∙ ap skipping_app is.app_is })
+skips make (Err e) all is = IfOk-weaker all _ _ (λ c added. absurd added)
 
 -- what a command with one more subcommand is
 pub AddsMade-weaker : (P S Q : App → Type 0) (made sub all : Result Command AllocError) → IfOk made (λ c. P (app_of c))
@@ -165,8 +184,8 @@ AddsMade-is made sub all before known is sub_is =
 
 -- what prints with `convert` added, and with `merge` too
 abbrev HasConvert : App → Type 0
-HasConvert app = (diff : App) × (convert : App) × IsDiff diff × IsConvert convert
-    × (app ≡ with_subcommand (printing_app diff) convert.top)
+HasConvert app = (printing : App) × (convert : App) × IsPrinting printing × IsConvert convert
+    × (app ≡ with_subcommand printing convert.top)
 
 abbrev HasMerge : App → Type 0
 HasMerge app = (old : App) × (merge : App) × HasConvert old × IsMerge merge × (app ≡ with_subcommand old merge.top)
@@ -179,16 +198,16 @@ pub IsCapt-added : (printing convert merge join mid most all : Result Command Al
     → IfOk all (λ c. AddsMade most join (app_of c)) → IfOk all (λ c. IsCapt (app_of c))
 IsCapt-added printing convert merge join mid most all is is_convert is_merge is_join mid_is most_is all_is =
     let first = AddsMade-weaker IsPrinting IsConvert HasConvert printing convert mid is is_convert
-    (λ app s e s_is. (e.0, s, e.1, s_is, rw e.2 refl)) mid_is in
+    (λ app s e s_is. (app, s, e, s_is, refl)) mid_is in
     let second = AddsMade-weaker HasConvert IsMerge HasMerge mid merge most first is_merge
     (λ app s e s_is. (app, s, e, s_is, refl)) most_is in
     AddsMade-weaker HasMerge IsJoin IsCapt most join all second is_join
     (λ app s e s_is. record {
-      diff = e.2.0;
+      printing = e.2.0;
       convert = e.2.1;
       merge = e.1;
       join = s;
-      is_diff = e.2.2;
+      is_printing = e.2.2;
       is_convert = e.2.3;
       is_merge = e.3;
       is_join = s_is;

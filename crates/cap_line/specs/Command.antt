@@ -52,6 +52,16 @@ abbrev pub IsRequiredToRule : Rule → Type 0
 IsRequiredToRule rule = (names : ArgumentNames) × AreNames names (codes "pcap" ∷ codes "pcapng" ∷ [])
     × (rule ≡ required_to_rule names)
 
+-- the option `--unit`
+abbrev pub unit_rule : ArgumentNames → Rule
+unit_rule names = choice_rule (codes "unit") names
+
+abbrev pub AreUnits : ArgumentNames → Type 0
+AreUnits names = AreNames names (codes "micro" ∷ codes "nano" ∷ [])
+
+abbrev pub IsUnitRule : Rule → Type 0
+IsUnitRule rule = (names : ArgumentNames) × AreUnits names × (rule ≡ unit_rule names)
+
 -- the option `--ignore`, which may be given more than once
 abbrev pub ignore_rule : ArgumentNames → Rule
 ignore_rule names = record (choice_rule (codes "ignore") names) { action = Some Append }
@@ -60,6 +70,16 @@ abbrev pub IsIgnoreRule : Rule → Type 0
 IsIgnoreRule rule = (names : ArgumentNames)
     × AreNames names (codes "time" ∷ codes "link" ∷ codes "original" ∷ [])
     × (rule ≡ ignore_rule names)
+
+-- the option `--time`
+abbrev pub time_rule : ArgumentNames → Rule
+time_rule names = choice_rule (codes "time") names
+
+abbrev pub AreTimes : ArgumentNames → Type 0
+AreTimes names = AreNames names (codes "exact" ∷ codes "decimal" ∷ codes "utc" ∷ [])
+
+abbrev pub IsTimeRule : Rule → Type 0
+IsTimeRule rule = (names : ArgumentNames) × AreTimes names × (rule ≡ time_rule names)
 
 -- the option `-o` or `--output`, the letter's code being 111, which is required
 abbrev pub out_rule : Rule
@@ -126,24 +146,35 @@ verify_rule = option_rule (codes "verify")
 abbrev pub showing_app : Text → App
 showing_app name = with_rule (reading_app name) (flag_rule (codes "json"))
 
--- `list [--class] [--data N] FILE`
-abbrev pub list_app : App
-list_app =
-    with_rule (with_rule (with_rule (showing_app (codes "list")) (flag_rule (codes "class"))) data_rule) file_rule
+-- the same with `[--time FORM]` too: one that prints times
+abbrev pub timing_app : Text → ArgumentNames → App
+timing_app name times = with_rule (showing_app name) (time_rule times)
+
+-- The subcommand is made of the names of the forms of times.
+pub record IsTimed (make : ArgumentNames → App) (app : App) : Type 0 where
+  pub times : ArgumentNames
+  pub times_are : AreTimes times
+  pub app_is : app ≡ make times
+
+-- `list [--time FORM] [--class] [--data N] FILE`
+abbrev pub list_app : ArgumentNames → App
+list_app times =
+    with_rule (with_rule (with_rule (timing_app (codes "list") times) (flag_rule (codes "class"))) data_rule) file_rule
 
 -- `blocks FILE`
 abbrev pub blocks_app : App
 blocks_app = with_rule (showing_app (codes "blocks")) file_rule
 
--- `diff [--data N] [--ignore KIND].. A B`
-abbrev pub diff_app : ArgumentNames → App
-diff_app kinds = with_rule (with_rule (with_rule (with_rule (showing_app (codes "diff")) data_rule) (ignore_rule kinds))
+-- `diff [--time FORM] [--data N] [--ignore KIND].. A B`
+abbrev pub diff_app : ArgumentNames → ArgumentNames → App
+diff_app kinds times =
+    with_rule (with_rule (with_rule (with_rule (timing_app (codes "diff") times) data_rule) (ignore_rule kinds))
     (required_rule (codes "A"))) (required_rule (codes "B"))
 
 pub record IsDiff (app : App) : Type 0 where
   pub kinds : ArgumentNames
   pub kinds_are : AreNames kinds (codes "time" ∷ codes "link" ∷ codes "original" ∷ [])
-  pub app_is : app ≡ diff_app kinds
+  pub is_timed : IsTimed (diff_app kinds) app
 
 -- a command that takes any number of captures, with `[--names] [--files0-from LIST] [FILE..]` behind its other
 -- arguments
@@ -154,62 +185,75 @@ surveying_app before = with_rule (with_rule (with_rule before (flag_rule (codes 
 abbrev pub digest_app : App
 digest_app = surveying_app (with_rule (showing_app (codes "digest")) verify_rule)
 
--- `check [--digest] [--names] [--files0-from LIST] [FILE..]`
-abbrev pub check_app : App
-check_app = surveying_app (with_rule (showing_app (codes "check")) (flag_rule (codes "digest")))
+-- `check [--time FORM] [--digest] [--names] [--files0-from LIST] [FILE..]`
+abbrev pub check_app : ArgumentNames → App
+check_app times = surveying_app (with_rule (timing_app (codes "check") times) (flag_rule (codes "digest")))
 
--- `info FILE..`
-abbrev pub info_app : App
-info_app = with_rule (showing_app (codes "info")) files_rule
+-- a command that can leave out captures that are refused, with `[--skip-refused] FILE..` behind its other arguments
+abbrev pub skipping_app : App → App
+skipping_app before = with_rule (with_rule before (flag_rule (codes "skip-refused"))) files_rule
 
--- `report [--top N] FILE..`
-abbrev pub report_app : App
-report_app = with_rule (with_rule (showing_app (codes "report")) top_rule) files_rule
+-- `info [--time FORM] [--skip-refused] FILE..`
+abbrev pub info_app : ArgumentNames → App
+info_app times = skipping_app (timing_app (codes "info") times)
 
--- the subcommand of that name with `[--order ORDER] -o OUT [--whole]`, before its files
-abbrev pub writing_app : Text → ArgumentNames → App
-writing_app name orders = with_rule (with_rule (with_rule (reading_app name) (order_rule orders)) out_rule)
-    (flag_rule (codes "whole"))
+-- `report [--time FORM] [--top N] [--skip-refused] FILE..`
+abbrev pub report_app : ArgumentNames → App
+report_app times = skipping_app (with_rule (timing_app (codes "report") times) top_rule)
+
+-- the subcommand of that name with `[--order ORDER] [--unit UNIT] -o OUT [--whole]`, before its files
+abbrev pub writing_app : Text → ArgumentNames → ArgumentNames → App
+writing_app name orders units = with_rule (with_rule (with_rule (with_rule (reading_app name) (order_rule orders))
+    (unit_rule units)) out_rule) (flag_rule (codes "whole"))
 
 pub record IsWriting (name : Text) (app : App) : Type 0 where
   pub orders : ArgumentNames
   pub orders_are : AreNames orders (codes "big" ∷ codes "little" ∷ [])
-  pub app_is : app ≡ writing_app name orders
+  pub units : ArgumentNames
+  pub units_are : AreUnits units
+  pub app_is : app ≡ writing_app name orders units
 
 -- `convert .. --to FORMAT FILE`
-abbrev pub convert_app : ArgumentNames → ArgumentNames → App
-convert_app orders formats =
-    with_rule (with_rule (writing_app (codes "convert") orders) (required_to_rule formats)) file_rule
+abbrev pub convert_app : ArgumentNames → ArgumentNames → ArgumentNames → App
+convert_app orders units formats =
+    with_rule (with_rule (writing_app (codes "convert") orders units) (required_to_rule formats)) file_rule
 
 pub record IsConvert (app : App) : Type 0 where
   pub orders : ArgumentNames
   pub orders_are : AreNames orders (codes "big" ∷ codes "little" ∷ [])
+  pub units : ArgumentNames
+  pub units_are : AreUnits units
   pub formats : ArgumentNames
   pub formats_are : AreNames formats (codes "pcap" ∷ codes "pcapng" ∷ [])
-  pub app_is : app ≡ convert_app orders formats
+  pub app_is : app ≡ convert_app orders units formats
 
 -- the subcommand of that name with `.. [--to FORMAT] FILE..`
-abbrev pub gathering_app : Text → ArgumentNames → ArgumentNames → App
-gathering_app name orders formats = with_rule (with_rule (writing_app name orders) (to_rule formats)) files_rule
+abbrev pub gathering_app : Text → ArgumentNames → ArgumentNames → ArgumentNames → App
+gathering_app name orders units formats =
+    with_rule (with_rule (writing_app name orders units) (to_rule formats)) files_rule
 
 pub record IsGathering (name : Text) (app : App) : Type 0 where
   pub orders : ArgumentNames
   pub orders_are : AreNames orders (codes "big" ∷ codes "little" ∷ [])
+  pub units : ArgumentNames
+  pub units_are : AreUnits units
   pub formats : ArgumentNames
   pub formats_are : AreNames formats (codes "pcap" ∷ codes "pcapng" ∷ [])
-  pub app_is : app ≡ gathering_app name orders formats
+  pub app_is : app ≡ gathering_app name orders units formats
 
 -- `merge .. [--share-interfaces] FILE..`
-abbrev pub merge_app : ArgumentNames → ArgumentNames → App
-merge_app orders formats =
-    with_rule (gathering_app (codes "merge") orders formats) (flag_rule (codes "share-interfaces"))
+abbrev pub merge_app : ArgumentNames → ArgumentNames → ArgumentNames → App
+merge_app orders units formats =
+    with_rule (gathering_app (codes "merge") orders units formats) (flag_rule (codes "share-interfaces"))
 
 pub record IsMerge (app : App) : Type 0 where
   pub orders : ArgumentNames
   pub orders_are : AreNames orders (codes "big" ∷ codes "little" ∷ [])
+  pub units : ArgumentNames
+  pub units_are : AreUnits units
   pub formats : ArgumentNames
   pub formats_are : AreNames formats (codes "pcap" ∷ codes "pcapng" ∷ [])
-  pub app_is : app ≡ merge_app orders formats
+  pub app_is : app ≡ merge_app orders units formats
 
 -- `join .. FILE..`
 abbrev pub IsJoin : App → Type 0
@@ -227,36 +271,55 @@ AddsMade made sub new = IsOkAnd made (λ old. IsOkAnd sub (λ s. new ≡ with_su
 abbrev pub capt_alone : App
 capt_alone = on_top (λ s. record s { has_version = true; subcommand_required = true }) (new_app (codes "capt"))
 
--- `capt` with the subcommands that print one capture, with `diff`, `digest` and `check` too, with those that print, and
--- with all
-abbrev pub listing_app : App
-listing_app = with_subcommand (with_subcommand capt_alone list_app.top) blocks_app.top
+-- `capt` with the subcommands that print one capture
+abbrev pub listing_app : App → App
+listing_app list = with_subcommand (with_subcommand capt_alone list.top) blocks_app.top
 
-abbrev pub comparing_app : App → App
-comparing_app diff =
-    with_subcommand (with_subcommand (with_subcommand listing_app diff.top) digest_app.top) check_app.top
+pub record IsListing (app : App) : Type 0 where
+  pub list : App
+  pub is_list : IsTimed list_app list
+  pub app_is : app ≡ listing_app list
 
-abbrev pub IsComparing : App → Type 0
-IsComparing app = (diff : App) × IsDiff diff × (app ≡ comparing_app diff)
+-- those with `diff`, `digest` and `check` too
+abbrev pub comparing_app : App → App → App → App
+comparing_app listing diff check =
+    with_subcommand (with_subcommand (with_subcommand listing diff.top) digest_app.top) check.top
 
-abbrev pub printing_app : App → App
-printing_app diff = with_subcommand (with_subcommand (comparing_app diff) info_app.top) report_app.top
+pub record IsComparing (app : App) : Type 0 where
+  pub listing : App
+  pub diff : App
+  pub check : App
+  pub is_listing : IsListing listing
+  pub is_diff : IsDiff diff
+  pub is_check : IsTimed check_app check
+  pub app_is : app ≡ comparing_app listing diff check
 
-abbrev pub IsPrinting : App → Type 0
-IsPrinting app = (diff : App) × IsDiff diff × (app ≡ printing_app diff)
+-- all that print
+abbrev pub printing_app : App → App → App → App
+printing_app comparing info report = with_subcommand (with_subcommand comparing info.top) report.top
 
+pub record IsPrinting (app : App) : Type 0 where
+  pub comparing : App
+  pub info : App
+  pub report : App
+  pub is_comparing : IsComparing comparing
+  pub is_info : IsTimed info_app info
+  pub is_report : IsTimed report_app report
+  pub app_is : app ≡ printing_app comparing info report
+
+-- those with all that write
 abbrev pub capt_app : App → App → App → App → App
-capt_app diff convert merge join =
-    with_subcommand (with_subcommand (with_subcommand (printing_app diff) convert.top) merge.top) join.top
+capt_app printing convert merge join =
+    with_subcommand (with_subcommand (with_subcommand printing convert.top) merge.top) join.top
 
 -- The application is capt's: `capt` and its subcommands.
 pub record IsCapt (app : App) : Type 0 where
-  pub diff : App
+  pub printing : App
   pub convert : App
   pub merge : App
   pub join : App
-  pub is_diff : IsDiff diff
+  pub is_printing : IsPrinting printing
   pub is_convert : IsConvert convert
   pub is_merge : IsMerge merge
   pub is_join : IsJoin join
-  pub app_is : app ≡ capt_app diff convert merge join
+  pub app_is : app ≡ capt_app printing convert merge join

@@ -7,8 +7,10 @@ use Rattle.clap.specs.declared.error.kind.ErrorKind.{ErrorKind}
 use Rattle.clap.specs.declared.error.kind.ErrorKind.TheVariants as kind
 use Rattle.cap_line.specs.Command.{IsCapt}
 use Rattle.cap_bytes.specs.declared.formats.Format.{Format}
-use Rattle.cap_line.specs.Jobs.{IsShownJob, IsWholeJob, can_replace, can_share, can_show, can_verify, data_by}
-use Rattle.cap_line.specs.Jobs.{format_by, ignored_by, inputs_fault, is_whole_task, order_by, task_by, top_by}
+use Rattle.cap_time.specs.declared.stamps.Unit.{Unit as Fraction}
+use Rattle.cap_line.specs.Jobs.{IsShownJob, IsWholeJob, can_have_unit, can_replace, can_share, can_show, can_skip}
+use Rattle.cap_line.specs.Jobs.{can_verify, data_by, format_by, ignored_by, inputs_fault, is_whole_task, order_by}
+use Rattle.cap_line.specs.Jobs.{task_by, time_by, top_by, unit_by}
 use Rattle.cap_line.specs.declared.jobs.Job.{Job}
 use Rattle.cap_line.specs.declared.jobs.Task.{Task}
 use Rattle.cap_line.specs.declared.faults.LineFault.{LineFault}
@@ -45,6 +47,10 @@ names_file_in rows = option_or (verify_in rows) (list_in rows)
 abbrev pub to_in : List Row → Option Format
 to_in rows = format_by (first_of (codes "to") rows)
 
+-- the unit of time that they ask for
+abbrev pub unit_in : List Row → Option Fraction
+unit_in rows = unit_by (first_of (codes "unit") rows)
+
 -- how many bytes of a packet they ask for
 abbrev pub data_in : List Row → Result (Option ℕ) LineFault
 data_in rows = data_by (first_of (codes "data") rows)
@@ -72,11 +78,20 @@ abbrev pub CannotShare : List Row → Type 0
 CannotShare rows =
     (shares : Bool) × Flags shares (codes "share-interfaces") rows × IsFalse (can_share shares (to_in rows))
 
+-- Times are to be written in a unit, and can't be.
+abbrev pub CannotHaveUnit : List Row → Type 0
+CannotHaveUnit rows = IsFalse (can_have_unit (unit_in rows) (to_in rows))
+
 -- Lines are to be verified, and can't be.
 abbrev pub CannotVerify : List Row → Type 0
 CannotVerify rows =
     (names : Bool) × Flags names (codes "names") rows
     × IsFalse (can_verify (is_some (verify_in rows)) (is_some (list_in rows)) names)
+
+-- Files that are refused are to be left out, and standard input is one of the files.
+abbrev pub CannotSkip : List Row → Type 0
+CannotSkip rows =
+    (skips : Bool) × Flags skips (codes "skip-refused") rows × IsFalse (can_skip skips (files_in rows))
 
 -- What is to be shown is no number of bytes or of conversations, or a task can't show it.
 abbrev pub CannotShow : Text → List Row → Type 0
@@ -98,6 +113,7 @@ pub record HasRows (task : Task) (rows : List Row) (job : Job) : Type 0 where
   pub allow_cut : Flags job.allow_cut (codes "allow-cut") rows
   pub order : job.order ≡ order_by (first_of (codes "order") rows)
   pub to : job.to ≡ to_in rows
+  pub unit : job.unit ≡ unit_in rows
   pub out : option_map (λ o. o.now) job.out ≡ out_in rows
   pub explain : Flags job.explain (codes "explain") rows
   pub whole : Flags job.whole (codes "whole") rows
@@ -106,15 +122,18 @@ pub record HasRows (task : Task) (rows : List Row) (job : Job) : Type 0 where
   pub digests : Flags job.digests (codes "digest") rows
   pub names : Flags job.names (codes "names") rows
   pub shares : Flags job.shares (codes "share-interfaces") rows
+  pub skips : Flags job.skips (codes "skip-refused") rows
   pub list : option_map (λ l. l.now) job.list ≡ list_in rows
   pub verify : option_map (λ v. v.now) job.verify ≡ verify_in rows
   pub count : data_in rows ≡ Ok job.data
   pub top : top_in rows ≡ Ok job.top
+  pub time : job.time ≡ time_by (first_of (codes "time") rows)
   pub ignored : job.ignored ≡ ignored_by (names_in (codes "ignore") rows)
 
 -- What a subcommand of that name with those rows gives: a whole job, or the first fault. A name that is no task's, a
--- task that lacks what it takes, standard output that is to take a name, interfaces that can't be shared, what can't be
--- shown, and lines that can't be verified, are refused as the line.
+-- task that lacks what it takes, standard output that is to take a name, interfaces that can't be shared, times that
+-- can't be written in a unit, what can't be shown, and lines that can't be verified, are refused as the line; and
+-- standard input, if files are to be left out.
 abbrev pub IsJobBy : Text → List Row → Result Job LineFault → Type 0
 IsJobBy name rows (Ok job) =
     (task : Task) × (task_by name ≡ Some task)
@@ -122,10 +141,10 @@ IsJobBy name rows (Ok job) =
     × HasRows task rows job × IsWholeJob job × IsShownJob job
 IsJobBy name rows (Err Help) = ⊥
 IsJobBy name rows (Err Line) =
-    (task_by name ≡ None) ⊎ Lacks name rows ⊎ CannotReplace rows ⊎ CannotShare rows ⊎ CannotShow name rows
-    ⊎ CannotVerify rows ⊎ RefusesFiles name rows Line
+    (task_by name ≡ None) ⊎ Lacks name rows ⊎ CannotReplace rows ⊎ CannotShare rows ⊎ CannotHaveUnit rows
+    ⊎ CannotShow name rows ⊎ CannotVerify rows ⊎ RefusesFiles name rows Line
 IsJobBy name rows (Err Files) = RefusesFiles name rows Files
-IsJobBy name rows (Err Input) = RefusesFiles name rows Input
+IsJobBy name rows (Err Input) = RefusesFiles name rows Input ⊎ CannotSkip rows
 IsJobBy name rows (Err Output) = RefusesFiles name rows Output
 IsJobBy name rows (Err Memory) = Unit {0}
 

@@ -1,7 +1,7 @@
 -- What a job has, and what a command line's words name in one.
 use Rattle.std.specs.Prelude.{◌&&◌, ◌||◌, ◌==◌, ◌≤◌, ℕ, not, Bool, true, false, List, length, codes, count_by, Option}
 use Rattle.std.specs.Prelude.{Some, None, is_some, Result, Ok, Err, if◌then◌else◌, nat_le, nat_lt, option_map, vec_len}
-use Rattle.std.specs.Prelude.{IsTrue, IfSome, IsSome}
+use Rattle.std.specs.Prelude.{IsTrue, IfSome, IsSome, is_none, map}
 use Rattle.std.specs.Option.{option_map_or, option_or}
 use Rattle.std.specs.Char.{is_ascii_digit}
 use Rattle.std.specs.Str.{bytes_eq}
@@ -11,6 +11,10 @@ use Rattle.cap_bytes.specs.declared.numbers.Order.{Order}
 use Rattle.cap_bytes.specs.declared.numbers.Order.TheVariants.{Big, Little}
 use Rattle.cap_bytes.specs.declared.formats.Format.{Format}
 use Rattle.cap_bytes.specs.declared.formats.Format.TheVariants.{Pcap, Pcapng}
+use Rattle.cap_print.specs.declared.forms.TimeForm.{TimeForm}
+use Rattle.cap_print.specs.declared.forms.TimeForm.TheVariants.{Decimal, Exact, Utc}
+use Rattle.cap_time.specs.declared.stamps.Unit.{Unit as Fraction}
+use Rattle.cap_time.specs.declared.stamps.Unit.TheVariants.{Micro, Nano}
 use Rattle.cap_line.specs.declared.jobs.Ignored.{Ignored}
 use Rattle.cap_line.specs.declared.jobs.Job.{Job}
 use Rattle.cap_line.specs.declared.jobs.Task.{Task}
@@ -48,6 +52,18 @@ format_by None = None
 format_by (Some name) =
     if bytes_eq name (codes "pcap") then Some Pcap else if bytes_eq name (codes "pcapng") then Some Pcapng else None
 
+-- the form of times that is named: exact if none is
+abbrev pub time_by : Option (List ℕ) → TimeForm
+time_by None = Exact
+time_by (Some name) =
+    if bytes_eq name (codes "decimal") then Decimal else if bytes_eq name (codes "utc") then Utc else Exact
+
+-- the unit of time that is named
+abbrev pub unit_by : Option (List ℕ) → Option Fraction
+unit_by None = None
+unit_by (Some name) =
+    if bytes_eq name (codes "micro") then Some Micro else if bytes_eq name (codes "nano") then Some Nano else None
+
 -- how many files a task takes at most
 abbrev pub most_files : Task → ℕ
 most_files tasks.List = 32
@@ -75,6 +91,12 @@ abbrev pub is_surveying : Task → Bool
 is_surveying tasks.Digest = true
 is_surveying tasks.Check = true
 is_surveying _ = false
+
+-- whether a task leaves out the files that are refused, if that is asked for: `info` and `report` do
+abbrev pub is_skipping : Task → Bool → Bool
+is_skipping tasks.Info skips = skips
+is_skipping tasks.Report skips = skips
+is_skipping _ skips = false
 
 -- what these are refused by where a list may stand in place of the files: a list with files, or of a task that takes
 -- none
@@ -111,6 +133,16 @@ abbrev pub can_share : Bool → Option Format → Bool
 can_share shares None = true
 can_share shares (Some Pcap) = not shares
 can_share shares (Some Pcapng) = true
+
+-- whether files that are refused can be left out, if that is asked for: standard input can't be read twice
+abbrev pub can_skip : Bool → List (List ℕ) → Bool
+can_skip skips files = not (skips && list_any (λ f. bytes_eq f (codes "-")) files)
+
+-- whether times can be written in a unit, if one is asked for: only the header of a pcap file has one
+abbrev pub can_have_unit : Option Fraction → Option Format → Bool
+can_have_unit unit None = is_none unit
+can_have_unit unit (Some Pcap) = true
+can_have_unit unit (Some Pcapng) = is_none unit
 
 -- whether the lines of a file can be verified, if that is asked for: a list of names besides, or names that are asked
 -- for, are refused with it
@@ -188,6 +220,8 @@ pub record IsWholeJob (job : Job) : Type 0 where
   pub taken : IsTrue (is_whole_task job.task (vec_len job.files) job.to (option_map (λ o. o.now) job.out))
   pub replaced : IsTrue (can_replace job.whole (option_map (λ o. o.now) job.out))
   pub shared : IsTrue (can_share job.shares job.to)
+  pub skipped : IsTrue (can_skip job.skips (map (λ f. f.now) job.files.items))
+  pub in_unit : IsTrue (can_have_unit job.unit job.to)
 
 -- A job's task can show what is asked for, and at most 262,144 bytes of each packet.
 pub record IsShownJob (job : Job) : Type 0 where

@@ -3,11 +3,12 @@ ghost use Rattle.std.specs.Prelude.{◌≡◌, codes, false, IfOk, IsOkAnd};
 ghost use Rattle.clap.specs.Words.{app_of, rule_of};
 ghost use Rattle.clap.specs.declared.builder.command.Command.TheViews.{out-Command as fields_of};
 ghost use Rattle.cap_line.specs.Command.{AddsMade, AddsRule, IsCapt, IsComparing, IsConvert, IsDiff, IsGathering};
-ghost use Rattle.cap_line.specs.Command.{IsIgnoreRule, IsJoin, IsMerge, IsOrderRule, IsPrinting, IsRequiredToRule};
-ghost use Rattle.cap_line.specs.Command.{IsToRule, IsWriting, blocks_app, capt_alone, check_app, choice_rule};
+ghost use Rattle.cap_line.specs.Command.{IsIgnoreRule, IsJoin, IsListing, IsMerge, IsOrderRule, IsPrinting};
+ghost use Rattle.cap_line.specs.Command.{IsRequiredToRule, IsTimeRule, IsTimed, IsToRule, IsUnitRule, IsWriting};
+ghost use Rattle.cap_line.specs.Command.{blocks_app, capt_alone, check_app, choice_rule, timing_app};
 ghost use Rattle.cap_line.specs.Command.{cutting_app, data_rule, digest_app, file_rule, files_rule, flag_rule};
-ghost use Rattle.cap_line.specs.Command.{info_app, list_app, list_rule, listed_rule, listing_app, option_rule};
-ghost use Rattle.cap_line.specs.Command.{out_rule, reading_app, report_app, required_rule, showing_app};
+ghost use Rattle.cap_line.specs.Command.{info_app, list_app, list_rule, listed_rule, option_rule};
+ghost use Rattle.cap_line.specs.Command.{out_rule, reading_app, report_app, required_rule, showing_app, skipping_app};
 ghost use Rattle.cap_line.specs.Command.{surveying_app, top_rule, verify_rule};
 
 use crate::texts;
@@ -19,6 +20,11 @@ use std::alloc::{AllocError, Global};
 static ORDERS: [&str; 2] = ["big", "little"];
 
 static FORMATS: [&str; 2] = ["pcap", "pcapng"];
+
+// The names of the forms of times.
+static TIMES: [&str; 3] = ["exact", "decimal", "utc"];
+// The names of the units of time.
+static UNITS: [&str; 2] = ["micro", "nano"];
 
 // The names of what can be ignored.
 static KINDS: [&str; 3] = ["time", "link", "original"];
@@ -141,6 +147,14 @@ fn share_interfaces<'a>(alloc: Global) -> Arg<'a>
     flag(alloc, "share-interfaces", texts::SHARE_HELP)
 }
 
+// `--skip-refused`
+fn skip_refused<'a>(alloc: Global) -> Arg<'a>
+    ensures rule { rule_of result ≡ flag_rule (codes "skip-refused") }
+    ensures local { result.global ≡ false }
+{
+    flag(alloc, "skip-refused", texts::SKIP_HELP)
+}
+
 // The argument of that name, which is required
 fn required<'a>(alloc: Global, name: &'a str, help: &'a str) -> Arg<'a>
     ensures rule { rule_of result ≡ required_rule name.entry.now }
@@ -216,6 +230,14 @@ fn ignore<'a>(alloc: Global) -> Arg<'a>
     .action(ArgAction::Append)
 }
 
+// `--time`
+fn time<'a>(alloc: Global) -> Arg<'a>
+    ensures rule { IsTimeRule (rule_of result) }
+    ensures local { result.global ≡ false }
+{
+    choice(alloc, "time", TIMES.as_slice(), "FORM", texts::TIME_HELP)
+}
+
 // `--to`
 fn to<'a>(alloc: Global, help: &'a str) -> Arg<'a>
     ensures rule { IsToRule (rule_of result) }
@@ -230,6 +252,14 @@ fn required_to<'a>(alloc: Global) -> Arg<'a>
     ensures local { result.global ≡ false }
 {
     to(alloc, texts::TO_HELP).required(true)
+}
+
+// `--unit`
+fn unit<'a>(alloc: Global) -> Arg<'a>
+    ensures rule { IsUnitRule (rule_of result) }
+    ensures local { result.global ≡ false }
+{
+    choice(alloc, "unit", UNITS.as_slice(), "UNIT", texts::UNIT_HELP)
 }
 
 // `-o`, `--output`
@@ -324,7 +354,21 @@ fn showing<'a>(
     with_argument(reading(alloc, name, about, help), json(alloc))
 }
 
-// A subcommand with `[--allow-cut] [--explain] [--order ORDER] -o OUT [--whole]`, before its other arguments
+// A subcommand that prints times: with `[--time FORM]` too
+fn timing<'a>(
+    alloc: Global,
+    name: &'a str,
+    about: &'a str,
+    help: &'a str,
+) -> Result<Command<'a>, AllocError>
+    ensures app { IfOk result (λ c. IsTimed (timing_app name.entry.now) (app_of c)) }
+    ensures local { IfOk result (λ c. (fields_of c).has_globals ≡ false) }
+{
+    with_argument(showing(alloc, name, about, help), time(alloc))
+}
+
+// A subcommand with `[--allow-cut] [--explain] [--order ORDER] [--unit UNIT] -o OUT [--whole]`, before its other
+// arguments
 fn writing<'a>(
     alloc: Global,
     name: &'a str,
@@ -336,16 +380,17 @@ fn writing<'a>(
     ensures local { IfOk result (λ c. (fields_of c).has_globals ≡ false) }
 {
     let before = reading(alloc, name, about, help);
-    let named = with_argument(with_argument(before, order(alloc, order_help)), out(alloc));
+    let ordered = with_argument(before, order(alloc, order_help));
+    let named = with_argument(with_argument(ordered, unit(alloc)), out(alloc));
     with_argument(named, whole(alloc))
 }
 
 // `list`
 fn list<'a>(alloc: Global) -> Result<Command<'a>, AllocError>
-    ensures app { IfOk result (λ c. app_of c ≡ list_app) }
+    ensures app { IfOk result (λ c. IsTimed list_app (app_of c)) }
     ensures local { IfOk result (λ c. (fields_of c).has_globals ≡ false) }
 {
-    let before = showing(alloc, "list", texts::LIST_ABOUT, texts::LIST_HELP);
+    let before = timing(alloc, "list", texts::LIST_ABOUT, texts::LIST_HELP);
     let classed = with_argument(before, class(alloc));
     with_argument(with_argument(classed, data(alloc)), file(alloc))
 }
@@ -366,7 +411,7 @@ fn diff<'a>(alloc: Global) -> Result<Command<'a>, AllocError>
     ensures app { IfOk result (λ c. IsDiff (app_of c)) }
     ensures local { IfOk result (λ c. (fields_of c).has_globals ≡ false) }
 {
-    let before = showing(alloc, "diff", texts::DIFF_ABOUT, texts::DIFF_HELP);
+    let before = timing(alloc, "diff", texts::DIFF_ABOUT, texts::DIFF_HELP);
     let shown = with_argument(before, data(alloc));
     let ignoring = with_argument(shown, ignore(alloc));
     let first = required(alloc, "A", texts::A_HELP);
@@ -404,31 +449,42 @@ fn digest<'a>(alloc: Global) -> Result<Command<'a>, AllocError>
 
 // `check`
 fn check<'a>(alloc: Global) -> Result<Command<'a>, AllocError>
-    ensures app { IfOk result (λ c. app_of c ≡ check_app) }
+    ensures app { IfOk result (λ c. IsTimed check_app (app_of c)) }
     ensures local { IfOk result (λ c. (fields_of c).has_globals ≡ false) }
 {
-    let before = showing(alloc, "check", texts::CHECK_ABOUT, texts::CHECK_HELP);
+    let before = timing(alloc, "check", texts::CHECK_ABOUT, texts::CHECK_HELP);
     surveying(alloc, with_argument(before, digests(alloc)))
+}
+
+// A command that can leave out captures that are refused, with `[--skip-refused] FILE..` behind its other arguments
+fn skipping<'a>(
+    alloc: Global,
+    before: Result<Command<'a>, AllocError>,
+) -> Result<Command<'a>, AllocError>
+    requires local { IfOk before (λ c. (fields_of c).has_globals ≡ false) }
+    ensures app { IfOk result (λ c. IsOkAnd before.entry (λ b. app_of c ≡ skipping_app (app_of b))) }
+    ensures local { IfOk result (λ c. (fields_of c).has_globals ≡ false) }
+{
+    let skipped = with_argument(before, skip_refused(alloc));
+    with_argument(skipped, files(alloc))
 }
 
 // `info`
 fn info<'a>(alloc: Global) -> Result<Command<'a>, AllocError>
-    ensures app { IfOk result (λ c. app_of c ≡ info_app) }
+    ensures app { IfOk result (λ c. IsTimed info_app (app_of c)) }
     ensures local { IfOk result (λ c. (fields_of c).has_globals ≡ false) }
 {
-    with_argument(
-        showing(alloc, "info", texts::INFO_ABOUT, texts::INFO_HELP),
-        files(alloc),
-    )
+    let before = timing(alloc, "info", texts::INFO_ABOUT, texts::INFO_HELP);
+    skipping(alloc, before)
 }
 
 // `report`
 fn report<'a>(alloc: Global) -> Result<Command<'a>, AllocError>
-    ensures app { IfOk result (λ c. app_of c ≡ report_app) }
+    ensures app { IfOk result (λ c. IsTimed report_app (app_of c)) }
     ensures local { IfOk result (λ c. (fields_of c).has_globals ≡ false) }
 {
-    let before = showing(alloc, "report", texts::REPORT_ABOUT, texts::REPORT_HELP);
-    with_argument(with_argument(before, top(alloc)), files(alloc))
+    let before = timing(alloc, "report", texts::REPORT_ABOUT, texts::REPORT_HELP);
+    skipping(alloc, with_argument(before, top(alloc)))
 }
 
 // `convert`
@@ -446,7 +502,7 @@ fn convert<'a>(alloc: Global) -> Result<Command<'a>, AllocError>
     with_argument(with_argument(before, required_to(alloc)), file(alloc))
 }
 
-// A subcommand with `[--allow-cut] [--explain] [--order ORDER] -o OUT [--whole] [--to FORMAT] FILE..`
+// A subcommand with `[--allow-cut] [--explain] [--order ORDER] [--unit UNIT] -o OUT [--whole] [--to FORMAT] FILE..`
 fn gathering<'a>(
     alloc: Global,
     name: &'a str,
@@ -505,7 +561,7 @@ fn capt_itself<'a>(alloc: Global) -> Command<'a>
 
 // `capt` with the subcommands that print one capture
 fn listing<'a>(alloc: Global) -> Result<Command<'a>, AllocError>
-    ensures { IfOk result (λ c. app_of c ≡ listing_app) }
+    ensures { IfOk result (λ c. IsListing (app_of c)) }
 {
     let capt = with_subcommand(Ok(capt_itself(alloc)), list(alloc));
     with_subcommand(capt, blocks(alloc))

@@ -1,14 +1,17 @@
 //! Jobs, and what the words of a command line name in one.
-ghost use Rattle.std.specs.Prelude.{◌≡◌, map, count_by, codes, option_map, is_some};
+ghost use Rattle.std.specs.Prelude.{◌≡◌, map, count_by, codes, false, option_map, is_some};
 ghost use Rattle.std.specs.Char.{is_ascii_digit};
 ghost use Rattle.std.specs.List.{list_all, list_any};
 ghost use Rattle.std.specs.Str.{bytes_eq};
-ghost use Rattle.cap_line.specs.Jobs.{can_replace, can_share, can_show, can_verify, count_in, data_by, files_fault};
-ghost use Rattle.cap_line.specs.Jobs.{format_by, ignored_by, inputs_fault, is_also_file, is_digits, is_surveying};
-ghost use Rattle.cap_line.specs.Jobs.{is_whole_task, most_files, number_in, order_by, task_by, top_by};
+ghost use Rattle.cap_line.specs.Jobs.{can_have_unit, can_replace, can_share, can_show, can_skip, can_verify, count_in};
+ghost use Rattle.cap_line.specs.Jobs.{data_by, files_fault, format_by, ignored_by, inputs_fault, is_also_file};
+ghost use Rattle.cap_line.specs.Jobs.{is_digits, is_skipping, is_surveying, is_whole_task, most_files, number_in};
+ghost use Rattle.cap_line.specs.Jobs.{order_by, task_by, time_by, top_by, unit_by};
 
 use crate::faults::LineFault;
 use cap_bytes::{Format, Order};
+use cap_print::TimeForm;
+use cap_time::Unit;
 
 // How many files a command reads at most, and how many `digest` and `check` do, which read one after the other.
 const FILES_LIMIT: usize = 32;
@@ -82,6 +85,8 @@ pub struct Job<'a> {
     pub order: Order,
     /// The format that is written, if it was asked for.
     pub to: Option<Format>,
+    /// The unit of time of the pcap file that is written, if one was asked for.
+    pub unit: Option<Unit>,
     /// The file that is written, if one was named. `-` is standard output.
     pub out: Option<&'a str>,
     /// Whether a second line says, also where standard error is no terminal, which file a fault is of and why.
@@ -92,6 +97,8 @@ pub struct Job<'a> {
     pub json: bool,
     /// How many bytes of each packet are shown at most, if that was asked for: from 0 to 262,144.
     pub data: Option<u32>,
+    /// The form of the times that are printed.
+    pub time: TimeForm,
     /// How many conversations have a line in `Report` at most, those with the most bytes, if that was asked for: from 1
     /// on.
     pub top: Option<u32>,
@@ -105,6 +112,40 @@ pub struct Job<'a> {
     pub names: bool,
     /// Whether equal interfaces are one in what `Merge` writes.
     pub shares: bool,
+    /// Whether `Info` and `Report` leave out the files that are refused. Such a run reads its files twice; a call of
+    /// `job_to`, which reads them once, leaves none out.
+    pub skips: bool,
+}
+
+impl<'a> Job<'a> {
+    /// The same job over other files. It leaves none of them out.
+    pub fn over(&self, files: Vec<&'a str>) -> Job<'a>
+        ensures { result ≡ record self.now { files = files.entry; skips = false } }
+    {
+        Job {
+            task: self.task,
+            files,
+            list: self.list,
+            verify: self.verify,
+            allow_cut: self.allow_cut,
+            order: self.order,
+            to: self.to,
+            out: self.out,
+            explain: self.explain,
+            whole: self.whole,
+            json: self.json,
+            data: self.data,
+            top: self.top,
+            ignored: self.ignored,
+            class: self.class,
+            digests: self.digests,
+            names: self.names,
+            shares: self.shares,
+            skips: false,
+            time: self.time,
+            unit: self.unit,
+        }
+    }
 }
 
 /// The task of that name, if it is one's: `list`, `blocks`, `diff`, `digest`, `check`, `info`, `report`,
@@ -148,6 +189,28 @@ pub fn format_of(name: Option<&str>) -> Option<Format>
     }
 }
 
+/// The form of times of that name: `decimal` and `utc` are theirs, and all else is exact, also no name.
+pub fn time_of(name: Option<&str>) -> TimeForm
+    ensures { result ≡ time_by (option_map (λ o. o.now) name.entry) }
+{
+    match name {
+        Some("decimal") => TimeForm::Decimal,
+        Some("utc") => TimeForm::Utc,
+        _ => TimeForm::Exact,
+    }
+}
+
+/// The unit of time of that name, if it is one's: `micro` or `nano`.
+pub fn unit_of(name: Option<&str>) -> Option<Unit>
+    ensures { result ≡ unit_by (option_map (λ o. o.now) name.entry) }
+{
+    match name {
+        Some("micro") => Some(Unit::Micro),
+        Some("nano") => Some(Unit::Nano),
+        _ => None,
+    }
+}
+
 /// Whether a task has what it takes, with that many files: one file if it is of one, two for `diff`, a format for
 /// `convert`, an output if it writes one.
 pub fn is_whole(task: Task, files: usize, to: Option<Format>, out: Option<&str>) -> bool
@@ -180,6 +243,17 @@ pub fn can_share(shares: bool, to: Option<Format>) -> bool
         Some(Format::Pcap) => !shares,
         Some(Format::Pcapng) => true,
         None => true,
+    }
+}
+
+/// Whether times can be written in a unit, if one is asked for: only the header of a pcap file has one.
+pub fn can_have_unit(unit: Option<Unit>, to: Option<Format>) -> bool
+    ensures { result ≡ can_have_unit unit to }
+{
+    match to {
+        Some(Format::Pcap) => true,
+        Some(Format::Pcapng) => unit.is_none(),
+        None => unit.is_none(),
     }
 }
 
@@ -320,6 +394,13 @@ pub fn files_limit(task: Task) -> usize
     }
 }
 
+/// Whether files that are refused can be left out, if that is asked for: standard input, `-`, can't be read twice.
+pub fn can_skip(skips: bool, files: &[&str]) -> bool
+    ensures { result ≡ can_skip skips (map (λ f. f.now) files.now) }
+{
+    !(skips && is_named("-", files))
+}
+
 /// Tests the files and the output that a task is given. Returns the first of these faults: `Line` if there is no file,
 /// `Files` if there are more than the task takes, 32 or of `digest` and `check` 4,294,967,295, `Input` if standard
 /// input, `-`, is named twice, `Output` if the output, other than `-`, is one of the files. Texts are compared.
@@ -349,6 +430,17 @@ pub fn is_surveying(task: Task) -> bool
     match task {
         Task::Digest | Task::Check => true,
         Task::List | Task::Blocks | Task::Diff | Task::Info | Task::Report => false,
+        Task::Convert | Task::Merge | Task::Join => false,
+    }
+}
+
+/// Whether a task leaves out the files that are refused, if that is asked for: `Info` and `Report` do.
+pub fn is_skipping(task: Task, skips: bool) -> bool
+    ensures { result ≡ is_skipping task skips }
+{
+    match task {
+        Task::Info | Task::Report => skips,
+        Task::List | Task::Blocks | Task::Diff | Task::Digest | Task::Check => false,
         Task::Convert | Task::Merge | Task::Join => false,
     }
 }

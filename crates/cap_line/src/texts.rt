@@ -16,7 +16,8 @@ pub(crate) const REPORT_HELP: &str = "Prints, of all packets in the order of tim
   talk PROTO A B forward P BYTES backward P BYTES first T last T
 If a capture is refused, nothing is printed. Bytes are original lengths; Q
 packets were captured in part, S blocks skipped. A time T is SEC+NUM/DEN:
-2+500000/1000000 is 2.5 seconds after 1970 began; - is no time.
+2+500000/1000000 is 2.5 seconds after 1970 began; - is no time. With --time
+decimal it is 2.500000, with --time utc 1970-01-01T00:00:02.500000Z.
 Each packet is of one class: of a link type that isn't looked into; not IPv4;
 short, if it ends in its link header; cut, if too little was captured; bad, if
 its headers are wrong; unjoined, a fragment whose datagram lacks another; or
@@ -27,9 +28,16 @@ standard error counts the IPv6, the ARP and the other packets of not-ipv4.
 With --top N, only the N conversations with the most bytes, both ways, have a
 talk line, the greatest first; of equal bytes, the one that began first. C
 counts all.
+With --skip-refused, each capture that is refused is left out. The first lines
+say which, by their place I on the command line, and why:
+  left out I offset O rule R NAME
+Then comes the report of the other captures, which it numbers from 1, unless all
+are refused. Each capture is read twice, so none may be standard input. The
+status is 1 if any was left out.
 
 Examples: capt report morning.pcap evening.pcapng
           capt report --top 10 morning.pcap
+          capt report --skip-refused ring-*.pcapng
           set -o pipefail; zcat trace.pcap.gz | capt report -";
 
 pub(crate) const INFO_ABOUT: &str = "Prints a line for each capture";
@@ -40,9 +48,17 @@ pub(crate) const INFO_HELP: &str = "Prints:
 The line of a capture that is cut off ends with cut. If a capture is refused,
 nothing is printed. Bytes are original lengths; Q packets were captured in
 part, S blocks skipped. A time T is SEC+NUM/DEN: 2+500000/1000000 is 2.5
-seconds after 1970 began; - is no time.
+seconds after 1970 began; - is no time. With --time decimal it is 2.500000,
+with --time utc 1970-01-01T00:00:02.500000Z.
+With --skip-refused, each capture that is refused is left out. The first lines
+say which, by their place I on the command line, and why:
+  left out I offset O rule R NAME
+Then come the lines of the other captures, which are numbered from 1, unless all
+are refused. Each capture is read twice, so none may be standard input. The
+status is 1 if any was left out.
 
-Example: capt info morning.pcap evening.pcapng";
+Examples: capt info morning.pcap evening.pcapng
+          capt info --skip-refused ring-*.pcapng";
 
 pub(crate) const LIST_ABOUT: &str = "Prints a line for each packet of a capture";
 
@@ -51,7 +67,8 @@ pub(crate) const LIST_HELP: &str = "Prints, for each packet, as it is found:
 O is where its record or block begins, C and G are its captured and original
 length, L its link type, X at most 16 of its bytes in hex. If the capture is
 refused, the lines before are printed. A time T is SEC+NUM/DEN:
-2+500000/1000000 is 2.5 seconds after 1970 began; - is no time.
+2+500000/1000000 is 2.5 seconds after 1970 began; - is no time. With --time
+decimal it is 2.500000, with --time utc 1970-01-01T00:00:02.500000Z.
 With --class, one of these follows X, as report counts the packet by itself:
   class counted PROTO A B  it counts in the conversation that report prints so
   class fragment identification I fragment-offset O
@@ -150,7 +167,7 @@ pub(crate) const CONVERT_ABOUT: &str = "Writes the packets of a capture in eithe
 pub(crate) const CONVERT_HELP: &str =
     "A pcap file has one link type and times in whole micro- or nanoseconds: the
 first packet that it can't hold is refused. Its snaplen is that of the first
-interface.
+interface, and its unit of time too, unless --unit asks for one.
 OUT has each packet's bytes, lengths and time; as pcapng, also the link type,
 snaplen, time resolution and time offset of its interface. Not carried on:
 names, descriptions and filters of interfaces, comments and other options,
@@ -169,11 +186,12 @@ is changed: where the times of a file run back, those of OUT do too.
 OUT has each packet's bytes, lengths and time; as pcapng, also the link type,
 snaplen, time resolution and time offset of its interface. A pcap file has the
 link type and the snaplen of the first packet's interface, and times in whole
-micro- or nanoseconds: the first packet that it can't hold is refused. Not
-carried on: names, descriptions and filters of interfaces, comments and other
-options, secrets, name records, statistics. At a terminal, or with --explain, a
-line tells how many blocks and comments aren't, and one how many packets ran
-back: had a time below the greatest so far in their file.
+micro- or nanoseconds, by that interface or --unit: the first packet that it
+can't hold is refused. Not carried on: names, descriptions and filters of
+interfaces, comments and other options, secrets, name records, statistics. At a
+terminal, or with --explain, a line tells how many blocks and comments aren't,
+and one how many packets ran back: had a time below the greatest so far in their
+file.
 As pcapng, each capture has interfaces of its own in OUT, at most 1,024 in all.
 With --share-interfaces those of the same link type, snaplen, time resolution
 and time offset are one, whichever captures they are of.
@@ -192,12 +210,12 @@ frame that completed it, which also gives its place in the order of merge. What
 isn't IPv4, and what lacks a fragment, is left out.
 OUT has each datagram's bytes and time; as pcapng, also the time resolution and
 time offset of its interface. A pcap file has times in whole micro- or
-nanoseconds, by the first datagram's interface: the first datagram that it can't
-hold is refused. Not carried on: link headers, names, descriptions and filters
-of interfaces, comments and other options, secrets, name records, statistics. At
-a terminal, or with --explain, a line tells how many blocks and comments aren't,
-one how many packets ran back, as of merge, and one how many packets are in no
-datagram of OUT, by their class in the frames line of report.
+nanoseconds, by the first datagram's interface or --unit: the first datagram
+that it can't hold is refused. Not carried on: link headers, names, descriptions
+and filters of interfaces, comments and other options, secrets, name records,
+statistics. At a terminal, or with --explain, a line tells how many blocks and
+comments aren't, one how many packets ran back, as of merge, and one how many
+packets are in no datagram of OUT, by their class in the frames line of report.
 
 Example: capt join -o whole.pcapng morning.pcap evening.pcapng";
 
@@ -227,6 +245,9 @@ pub(crate) const TOP_HELP: &str = "Print a line for each of the N conversations 
 the most bytes, the greatest first, and for no other;
 N is from 1 on";
 
+pub(crate) const TIME_HELP: &str = "Form of times,
+default exact";
+
 pub(crate) const IGNORE_HELP: &str = "What may differ";
 
 pub(crate) const WHOLE_HELP: &str = "Write OUT beside itself and rename it once all is
@@ -235,11 +256,16 @@ capt is killed, a file OUT.capt-1 may be left";
 
 pub(crate) const SHARE_HELP: &str = "Write equal interfaces as one";
 
+pub(crate) const SKIP_HELP: &str = "Leave out each capture that is refused, and print
+a line that says so first";
+
 pub(crate) const ORDER_HELP: &str = "Byte order, default little";
 
 // The same beside a long option.
 pub(crate) const ORDER_SHORT_HELP: &str = "Byte order,
 default little";
+
+pub(crate) const UNIT_HELP: &str = "Unit of times in pcap";
 
 pub(crate) const TO_HELP: &str = "The format of OUT";
 

@@ -4,14 +4,17 @@
 pub const USAGE: &str = "Reads packet captures, pcap 2.4 and pcapng 1.0 and 1.2, reports on them,
 compares and checks them, and converts, merges and joins them.
 
-Usage: capt report [--allow-cut] [--json] [--top N] FILE...
-       capt info [--allow-cut] [--json] FILE...
-       capt list [--allow-cut] [--class] [--json [--data N]] FILE
+Usage: capt report [--allow-cut] [--json] [--time FORM] [--top N]
+            [--skip-refused] FILE...
+       capt info [--allow-cut] [--json] [--time FORM] [--skip-refused] FILE...
+       capt list [--allow-cut] [--class] [--json [--data N]] [--time FORM] FILE
        capt blocks [--allow-cut] [--json] FILE
-       capt diff [--allow-cut] [--ignore KIND]... [--json [--data N]] A B
+       capt diff [--allow-cut] [--ignore KIND]... [--json [--data N]]
+            [--time FORM] A B
        capt digest [--allow-cut] [--json] [--names] FILE...
        capt digest [--allow-cut] [--json] --verify LIST
-       capt check [--allow-cut] [--digest] [--json] [--names] FILE...
+       capt check [--allow-cut] [--digest] [--json] [--names] [--time FORM]
+            FILE...
        capt convert [--allow-cut] [--order ORDER] --to FORMAT -o OUT FILE
        capt merge [--allow-cut] [--order ORDER] [--to FORMAT] -o OUT FILE...
        capt join [--allow-cut] [--order ORDER] [--to FORMAT] -o OUT FILE...
@@ -43,6 +46,13 @@ Options:
                  default 16
       --top N    Of report: print a line for the N conversations with the most
                  bytes, the greatest first, and for no others
+      --time FORM
+                 Of report, info, list, diff and check: print times as exact,
+                 2+500000/1000000, which is the default, as decimal, 2.500000,
+                 or as utc, 1970-01-01T00:00:02.500000Z
+      --skip-refused
+                 Of report and info: leave out each capture that is refused,
+                 and print a line that says so first
       --ignore KIND
                  Of diff: let packets differ in KIND, which is time, link or
                  original
@@ -59,6 +69,9 @@ Options:
                  done
       --share-interfaces
                  Of merge: write equal interfaces as one
+      --unit UNIT
+                 Of convert, merge and join with --to pcap: write times in UNIT,
+                 which is micro or nano
 
 A refusal names the file, the offset and the broken rule.
 Status 0: success; 1: a capture is refused, or one that is checked isn't whole,
@@ -108,6 +121,15 @@ pub(crate) const SHARE_PCAP: &str =
     "error: the argument '--share-interfaces' cannot be used with '--to pcap'
 
   tip: a pcap file has one interface
+
+For more information, try '--help'.
+";
+
+// What is printed for `--unit` without `--to pcap`.
+pub(crate) const UNIT_PCAPNG: &str =
+    "error: the argument '--unit <UNIT>' cannot be used without '--to pcap'
+
+  tip: in a pcapng file each interface has its own unit
 
 For more information, try '--help'.
 ";

@@ -11,13 +11,15 @@ ghost use Rattle.cap_line.specs.Shown.{IsSeenOrLine};
 use crate::command::capt;
 use crate::faults::LineFault;
 use crate::jobs::{
-    Ignored, Job, NOTHING_IGNORED, Task, can_replace, can_share, can_show, can_verify,
-    check_inputs, data_of, format_of, ignored_of, is_whole, order_of, task_of, top_of,
+    Ignored, Job, NOTHING_IGNORED, Task, can_have_unit, can_replace, can_share, can_show, can_skip,
+    can_verify, check_inputs, data_of, format_of, ignored_of, is_whole, order_of, task_of, time_of,
+    top_of, unit_of,
 };
 use crate::shown::{escape, escape_lines};
 use crate::usage::{
     DATA_ALONE, DATA_NUMBER, FILES_BESIDE_LIST, FILES_BESIDE_VERIFY, LIST_BESIDE_VERIFY,
-    NAMES_BESIDE_VERIFY, NO_FILES, SHARE_PCAP, TALKS_TIP, TOP_NUMBER, WHOLE_DASH, WRITE_TIP,
+    NAMES_BESIDE_VERIFY, NO_FILES, SHARE_PCAP, TALKS_TIP, TOP_NUMBER, UNIT_PCAPNG, WHOLE_DASH,
+    WRITE_TIP,
 };
 use clap::error::ErrorKind;
 use clap::{ArgMatches, Error};
@@ -98,8 +100,8 @@ fn said_by<S: AsStr>(alloc: Global, error: Error, words: &[S]) -> Option<String>
 
 // What is wrong with a line that clap takes and that gives no job, by the matches of its subcommand: the text of
 // `--data` is no number, or is one without `--json`; that of `--top` is no number; a pcap file is to share interfaces;
-// standard output can't take its name once all is done; `--verify` has beside it what it can't have; there are files
-// beside a list of them; or there is neither.
+// a pcapng file is to have a unit; standard output can't take its name once all is done; `--verify` has beside it what
+// it can't have; there are files beside a list of them; or there is neither.
 fn line_text(matches: &ArgMatches<'_>) -> &'static str {
     if let Some(text) = text_of(matches, "data") {
         return if data_of(Some(text)).is_ok() {
@@ -111,9 +113,12 @@ fn line_text(matches: &ArgMatches<'_>) -> &'static str {
     if top_of(text_of(matches, "top")).is_err() {
         return TOP_NUMBER;
     }
-    let shares = is_set(text_of(matches, "share-interfaces"));
-    if !can_share(shares, format_of(text_of(matches, "to"))) {
+    let to = format_of(text_of(matches, "to"));
+    if !can_share(is_set(text_of(matches, "share-interfaces")), to) {
         return SHARE_PCAP;
+    }
+    if !can_have_unit(unit_of(text_of(matches, "unit")), to) {
+        return UNIT_PCAPNG;
     }
     if is_set(text_of(matches, "whole")) {
         return WHOLE_DASH;
@@ -226,10 +231,14 @@ fn job_of<'a>(alloc: Global, name: &str, matches: &ArgMatches<'a>) -> Result<Job
     };
     let out = text_of(matches, "out");
     let to = format_of(text_of(matches, "to"));
+    let unit = unit_of(text_of(matches, "unit"));
     let whole = is_set(text_of(matches, "whole"));
     let json = is_set(text_of(matches, "json"));
     let shares = is_set(text_of(matches, "share-interfaces"));
     if !is_whole(task, files.len(), to, out) || !can_replace(whole, out) || !can_share(shares, to) {
+        return Err(LineFault::Line);
+    }
+    if !can_have_unit(unit, to) {
         return Err(LineFault::Line);
     }
     let data = data_of(text_of(matches, "data"))?;
@@ -238,6 +247,10 @@ fn job_of<'a>(alloc: Global, name: &str, matches: &ArgMatches<'a>) -> Result<Job
         return Err(LineFault::Line);
     }
     check_named(task, files.as_slice(), matches)?;
+    let skips = is_set(text_of(matches, "skip-refused"));
+    if !can_skip(skips, files.as_slice()) {
+        return Err(LineFault::Input);
+    }
     Ok(Job {
         task,
         files,
@@ -246,17 +259,20 @@ fn job_of<'a>(alloc: Global, name: &str, matches: &ArgMatches<'a>) -> Result<Job
         allow_cut: is_set(text_of(matches, "allow-cut")),
         order: order_of(text_of(matches, "order")),
         to,
+        unit,
         out,
         explain: is_set(text_of(matches, "explain")),
         whole,
         json,
         data,
+        time: time_of(text_of(matches, "time")),
         top,
         ignored: ignored_in(matches),
         class: is_set(text_of(matches, "class")),
         digests: is_set(text_of(matches, "digest")),
         names: is_set(text_of(matches, "names")),
         shares,
+        skips,
     })
 }
 

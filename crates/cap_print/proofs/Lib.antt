@@ -1,3 +1,10 @@
+pub mod AddressTexts
 pub mod Denominators
+pub mod Calendar
+pub mod Division
 pub mod HexPairs
+pub mod Places
+pub mod ReadDates
+pub mod ReadDecimals
+pub mod UtcParts
 pub mod Words

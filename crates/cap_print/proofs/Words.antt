@@ -8,5 +8,5 @@ use Rattle.cap_print.specs.inner.Parts.{quote_in}
 -- between its quotes it is the word
 pub quoted-word : (form : Form) (known rest : List ℕ)
     → quote_in form (known ++ quote_in form rest) ≡ word_in form (Some known) ++ rest
-quoted-word Text known rest = refl
-quoted-word Json known rest = simp append_assoc
+quoted-word (Text times) known rest = refl
+quoted-word (Json times) known rest = simp append_assoc

@@ -1,11 +1,11 @@
 -- A printed line as its facts, and the forms in which it is printed: a line of text, or a JSON object on a line of its
 -- own (RFC 8259). A form says how a line begins and ends, what names a value, how a value is written and what encloses
--- a group. The definitions that say this have a clause for each form; all others are the same in every form.
+-- a group. The definitions that say this have a clause for text and one for JSON; all others are the same in both.
 use Rattle.std.specs.Prelude.{ℕ, List, [], ◌∷◌, ◌++◌, codes, decimal, drop, Bool, Option, Some, None}
 use Rattle.std.specs.Prelude.{if◌then◌else◌}
 use Rattle.hex.specs.Hex.{encode_lower}
 use Rattle.cap_time.specs.Time.{Printed}
-use Rattle.cap_print.specs.Times.{time_json, time_text}
+use Rattle.cap_print.specs.Times.{time_json_in, time_text_in}
 use Rattle.cap_print.specs.declared.forms.Form.{Form}
 use Rattle.cap_print.specs.declared.forms.Form.TheVariants.{Text, Json}
 
@@ -45,45 +45,45 @@ pub record Facts : Type 0 where
 
 -- how a line of a kind begins, and then its fields
 abbrev pub begin_in : Form → List ℕ → List ℕ → List ℕ
-begin_in Text kind rest = kind ++ rest
-begin_in Json kind rest = codes "{\"type\":\"" ++ kind ++ codes "\"" ++ rest
+begin_in (Text times) kind rest = kind ++ rest
+begin_in (Json times) kind rest = codes "{\"type\":\"" ++ kind ++ codes "\"" ++ rest
 
 -- how a line ends
 abbrev pub end_in : Form → List ℕ
-end_in Text = codes "\n"
-end_in Json = codes "}\n"
+end_in (Text times) = codes "\n"
+end_in (Json times) = codes "}\n"
 
 -- what names a value, and then the value: in text its label, in JSON its name
 abbrev pub name_in : Form → List ℕ → List ℕ → List ℕ → List ℕ
-name_in Text label key rest = label ++ rest
-name_in Json label key rest = codes ",\"" ++ key ++ codes "\":" ++ rest
+name_in (Text times) label key rest = label ++ rest
+name_in (Json times) label key rest = codes ",\"" ++ key ++ codes "\":" ++ rest
 
 -- how a group begins, and then its facts; in JSON the first of them has no comma before it
 abbrev pub open_in : Form → List ℕ → List ℕ → List ℕ
-open_in Text key rest = rest
-open_in Json key rest = codes ",\"" ++ key ++ codes "\":{" ++ drop 1 rest
+open_in (Text times) key rest = rest
+open_in (Json times) key rest = codes ",\"" ++ key ++ codes "\":{" ++ drop 1 rest
 
 -- how a group ends, and then the rest of the line
 abbrev pub close_in : Form → List ℕ → List ℕ
-close_in Text rest = rest
-close_in Json rest = codes "}" ++ rest
+close_in (Text times) rest = rest
+close_in (Json times) rest = codes "}" ++ rest
 
 -- a number that has a name in text
 abbrev pub coded_in : Form → List ℕ → ℕ → List ℕ
-coded_in Text text n = text
-coded_in Json text n = decimal n
+coded_in (Text times) text n = text
+coded_in (Json times) text n = decimal n
 
 -- a word, in text `-` and in JSON `null` if it isn't known
 abbrev pub word_in : Form → Option (List ℕ) → List ℕ
-word_in Text None = codes "-"
-word_in Text (Some known) = known
-word_in Json None = codes "null"
-word_in Json (Some known) = codes "\"" ++ known ++ codes "\""
+word_in (Text times) None = codes "-"
+word_in (Text times) (Some known) = known
+word_in (Json times) None = codes "null"
+word_in (Json times) (Some known) = codes "\"" ++ known ++ codes "\""
 
--- a time, if there is one
+-- a time, if there is one, which alone depends on the form of times
 abbrev pub moment_in : Form → Option Printed → List ℕ
-moment_in Text at = time_text at
-moment_in Json at = time_json at
+moment_in (Text times) at = time_text_in times at
+moment_in (Json times) at = time_json_in times at
 
 -- some bytes in text, in lower case hex, `-` if there are none
 abbrev pub bytes_text : List ℕ → List ℕ
@@ -92,13 +92,14 @@ bytes_text (byte ∷ rest) = encode_lower (byte ∷ rest)
 
 -- some bytes, in JSON a string of hex digits
 abbrev pub hex_in : Form → List ℕ → List ℕ
-hex_in Text shown = bytes_text shown
-hex_in Json shown = codes "\"" ++ encode_lower shown ++ codes "\""
+hex_in (Text times) shown = bytes_text shown
+hex_in (Json times) shown = codes "\"" ++ encode_lower shown ++ codes "\""
 
 -- a flag with what names it, and then the rest of the line: in text its label alone, or nothing if it isn't so
 abbrev pub flag_in : Form → List ℕ → List ℕ → Bool → List ℕ → List ℕ
-flag_in Text label key is_so rest = (if is_so then label else []) ++ rest
-flag_in Json label key is_so rest = name_in Json label key ((if is_so then codes "true" else codes "false") ++ rest)
+flag_in (Text times) label key is_so rest = (if is_so then label else []) ++ rest
+flag_in (Json times) label key is_so rest =
+    name_in (Json times) label key ((if is_so then codes "true" else codes "false") ++ rest)
 
 -- a value with what names it, and then the rest of the line
 abbrev pub value_in : Form → List ℕ → List ℕ → Value → List ℕ → List ℕ
@@ -124,10 +125,6 @@ fields_in form [] rest = rest
 fields_in form (one fact ∷ fields) rest = fact_in form fact (fields_in form fields rest)
 fields_in form (group key fact facts ∷ fields) rest =
     open_in form key (fact_in form fact (facts_in form facts (close_in form (fields_in form fields rest))))
-
--- some fields in JSON, and then the rest of the line
-abbrev pub fields_json : List Field → List ℕ → List ℕ
-fields_json fields rest = fields_in Json fields rest
 
 -- a line in a form, with its end
 abbrev pub line_in : Form → Facts → List ℕ

@@ -1,5 +1,10 @@
+pub mod Addresses
+pub mod Calendar
+pub mod Dates
+pub mod Decimals
 pub mod Facts
 pub mod Lines
 pub mod Times
+pub mod ReadTimes
 pub mod Strings
 pub mod inner

@@ -9,11 +9,12 @@
 ghost use Rattle.std.specs.Prelude.{◌≡◌, ◌+◌, ◌*◌, ◌≤◌, ◌++◌, [], codes, length, option_map, unwrap_or};
 ghost use Rattle.cap_time.specs.Stamp.{printed_of};
 ghost use Rattle.cap_print.specs.Facts.{begin_in, bytes_text, close_in, coded, end_in, fact_in, flagged, hex, moment};
+ghost use Rattle.cap_print.specs.Facts.{moment_in};
 ghost use Rattle.cap_print.specs.Facts.{name_in, named, number, open_in, word, word_in};
 ghost use Rattle.cap_print.specs.Lines.{room_in, text_in};
 ghost use Rattle.cap_print.specs.inner.Parts.{name_room, quote_in};
 
-use crate::forms::Form;
+use crate::forms::{Form, TimeForm};
 use crate::lines::Line;
 use crate::numbers::Number;
 use cap_time::Stamp;
@@ -23,7 +24,7 @@ impl Line {
     #[inline(always)]
     pub fn end(form: Form) -> Line
         ensures text { text_in result ≡ end_in form }
-        ensures room { 510 ≤ room_in result }
+        ensures room { 638 ≤ room_in result }
     {
         let mut line = Line::new();
         line.clear_to_end(form);
@@ -34,12 +35,12 @@ impl Line {
     #[inline(always)]
     pub fn clear_to_end(&mut self, form: Form)
         ensures text { text_in self.new ≡ end_in form }
-        ensures room { 510 ≤ room_in self.new }
+        ensures room { 638 ≤ room_in self.new }
     {
         self.clear();
         match form {
-            Form::Text => self.prepend_text(b"\n"),
-            Form::Json => self.prepend_text(b"}\n"),
+            Form::Text(_) => self.prepend_text(b"\n"),
+            Form::Json(_) => self.prepend_text(b"}\n"),
         }
     }
 
@@ -50,8 +51,8 @@ impl Line {
         ensures { text_in self.new ≡ begin_in form kind.now (text_in self.old) }
     {
         match form {
-            Form::Text => self.prepend_text(kind),
-            Form::Json => self.prepend_between(b"{\"type\":\"", kind, b"\""),
+            Form::Text(_) => self.prepend_text(kind),
+            Form::Json(_) => self.prepend_between(b"{\"type\":\"", kind, b"\""),
         }
     }
 
@@ -63,8 +64,8 @@ impl Line {
         ensures room { room_in self.old ≤ room_in self.new + length key.now + 5 }
     {
         match form {
-            Form::Text => {}
-            Form::Json => {
+            Form::Text(_) => {}
+            Form::Json(_) => {
                 self.drop_first();
                 self.prepend_between(b",\"", key, b"\":{");
             }
@@ -79,8 +80,8 @@ impl Line {
         ensures room { room_in self.old ≤ room_in self.new + 1 }
     {
         match form {
-            Form::Text => {}
-            Form::Json => self.prepend_text(b"}"),
+            Form::Text(_) => {}
+            Form::Json(_) => self.prepend_text(b"}"),
         }
     }
 
@@ -92,8 +93,8 @@ impl Line {
         ensures room { room_in self.old ≤ room_in self.new + 1 }
     {
         match form {
-            Form::Text => {}
-            Form::Json => self.prepend_text(b"\""),
+            Form::Text(_) => {}
+            Form::Json(_) => self.prepend_text(b"\""),
         }
     }
 
@@ -105,8 +106,8 @@ impl Line {
         ensures room { room_in self.old ≤ room_in self.new + name_room label.now key.now }
     {
         match form {
-            Form::Text => self.prepend_text(label),
-            Form::Json => self.prepend_between(b",\"", key, b"\":"),
+            Form::Text(_) => self.prepend_text(label),
+            Form::Json(_) => self.prepend_between(b",\"", key, b"\":"),
         }
     }
 
@@ -119,8 +120,8 @@ impl Line {
         ensures room { room_in self.old ≤ room_in self.new + length key.now + 4 }
     {
         match form {
-            Form::Text => self.prepend_between(b" ", key, b" "),
-            Form::Json => self.prepend_between(b",\"", key, b"\":"),
+            Form::Text(_) => self.prepend_between(b" ", key, b" "),
+            Form::Json(_) => self.prepend_between(b",\"", key, b"\":"),
         }
     }
 
@@ -163,8 +164,8 @@ impl Line {
             ≤ room_in self.new + name_room label.now key.now + length text.now + N.DIGITS }
     {
         match form {
-            Form::Text => self.prepend_text(text),
-            Form::Json => n.prepend_to(self),
+            Form::Text(_) => self.prepend_text(text),
+            Form::Json(_) => n.prepend_to(self),
         }
         self.put_name(form, label, key);
     }
@@ -178,12 +179,12 @@ impl Line {
     {
         match known {
             None => match form {
-                Form::Text => self.prepend_text(b"-"),
-                Form::Json => self.prepend_text(b"null"),
+                Form::Text(_) => self.prepend_text(b"-"),
+                Form::Json(_) => self.prepend_text(b"null"),
             },
             Some(word) => match form {
-                Form::Text => self.prepend_text(word.as_bytes()),
-                Form::Json => self.prepend_between(b"\"", word.as_bytes(), b"\""),
+                Form::Text(_) => self.prepend_text(word.as_bytes()),
+                Form::Json(_) => self.prepend_between(b"\"", word.as_bytes(), b"\""),
             },
         }
     }
@@ -217,17 +218,31 @@ impl Line {
         self.put_key(form, key);
     }
 
+    // Puts a time in any form. The usual one is put where it is asked for, so that it needs no call.
+    #[inline(never)]
+    fn prepend_moment(&mut self, form: Form, time: Option<Stamp>)
+        requires { 106 ≤ room_in self.old }
+        ensures text { text_in self.new ≡ moment_in form (option_map printed_of time) ++ text_in self.old }
+        ensures room { room_in self.old ≤ room_in self.new + 106 }
+    {
+        match form {
+            Form::Text(times) => self.prepend_time_in(times, time),
+            Form::Json(times) => self.prepend_time_in_json(times, time),
+        }
+    }
+
     /// Puts a time, if there is one, labelled with its name.
     #[inline(always)]
     pub fn put_time(&mut self, form: Form, key: &[u8], time: Option<Stamp>)
-        requires { length key.now + 88 ≤ room_in self.old }
+        requires { length key.now + 110 ≤ room_in self.old }
         ensures text { text_in self.new
             ≡ fact_in form (named key.now (moment (option_map printed_of time))) (text_in self.old) }
-        ensures room { room_in self.old ≤ room_in self.new + length key.now + 88 }
+        ensures room { room_in self.old ≤ room_in self.new + length key.now + 110 }
     {
         match form {
-            Form::Text => self.prepend_time(b"", time),
-            Form::Json => self.prepend_time_array(b"", time),
+            Form::Text(TimeForm::Exact) => self.prepend_time(b"", time),
+            Form::Json(TimeForm::Exact) => self.prepend_time_array(b"", time),
+            _ => self.prepend_moment(form, time),
         }
         self.put_key(form, key);
     }
@@ -254,8 +269,8 @@ impl Line {
         ensures room { room_in self.old ≤ room_in self.new + length key.now + 2 * length bytes.now + 6 }
     {
         match form {
-            Form::Text => self.prepend_bytes(bytes),
-            Form::Json => self.prepend_hex_string(b"", bytes),
+            Form::Text(_) => self.prepend_bytes(bytes),
+            Form::Json(_) => self.prepend_hex_string(b"", bytes),
         }
         self.put_key(form, key);
     }
@@ -267,10 +282,10 @@ impl Line {
         ensures room { room_in self.old ≤ room_in self.new + length key.now + 9 }
     {
         match (form, is_so) {
-            (Form::Text, true) => self.prepend_between(b" ", key, b""),
-            (Form::Text, false) => {}
-            (Form::Json, true) => self.prepend_between(b",\"", key, b"\":true"),
-            (Form::Json, false) => self.prepend_between(b",\"", key, b"\":false"),
+            (Form::Text(_), true) => self.prepend_between(b" ", key, b""),
+            (Form::Text(_), false) => {}
+            (Form::Json(_), true) => self.prepend_between(b",\"", key, b"\":true"),
+            (Form::Json(_), false) => self.prepend_between(b",\"", key, b"\":false"),
         }
     }
 }

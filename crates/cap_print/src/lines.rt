@@ -1,16 +1,18 @@
 //! A line, and what is put before it.
-ghost use Rattle.std.specs.Prelude.{◌≡◌, ◌+◌, ◌*◌, ◌≤◌, ◌++◌, [], codes, decimal, drop, length, option_map};
+ghost use Rattle.std.specs.Prelude.{◌≡◌, ◌+◌, ◌*◌, ◌<◌, ◌≤◌, ◌++◌, [], codes, decimal, drop, length, option_map};
 ghost use Rattle.std.specs.Fmt.{signed_decimal};
+ghost use Rattle.cap_print.specs.Decimals.{place_digits};
 ghost use Rattle.cap_print.specs.Times.{time_json, time_text};
 ghost use Rattle.cap_time.specs.Stamp.{printed_of};
 ghost use Rattle.hex.specs.Hex.{encode_lower};
 
+use crate::decimals::write_places;
 use crate::digits::write_pairs;
 use cap_time::Stamp;
 use itoa::{Buffer, Integer, write_digits};
 
 /// The most bytes of a line.
-pub const LINE: usize = 512;
+pub const LINE: usize = 640;
 
 // Writes a text so that it ends at `end`, and returns where it starts.
 #[inline(always)]
@@ -40,6 +42,26 @@ fn write_hex(bytes: &[u8], room: &mut [u8], end: usize) -> usize
     start
 }
 
+// Writes the decimal places of a fraction below 1 so that they end at `end`, and returns where they start.
+fn write_fraction(
+    numerator: u64,
+    denominator: u64,
+    places: usize,
+    room: &mut [u8],
+    end: usize,
+) -> usize
+    requires fraction { numerator < denominator }
+    requires room { (places ≤ end) × (end ≤ length room.old) }
+    ensures start { result + places ≡ end }
+    ensures written { drop result room.new ≡ place_digits places numerator denominator ++ drop end room.old }
+{
+    let start = end - places;
+    let (before, _) = room.split_at_mut(end);
+    let (_, place) = before.split_at_mut(start);
+    write_places(numerator, denominator, place);
+    start
+}
+
 /// A line that is being written, from its last byte to its first, as the digits of a number are: what is put stands
 /// before all that was put already. So nothing that was put is moved or copied. Each function wants room for the most
 /// that it may put.
@@ -48,7 +70,7 @@ pub struct Line {
     bytes: [u8; LINE],
     // where what was put begins
     start: usize,
-    ghost within: { start ≤ 512 },
+    ghost within: { start ≤ 640 },
 }
 
 impl Line {
@@ -57,7 +79,7 @@ impl Line {
     /// An empty line.
     pub fn new() -> Line
         ensures text { text_in result ≡ [] }
-        ensures room { room_in result ≡ 512 }
+        ensures room { room_in result ≡ 640 }
     {
         Line {
             bytes: [0; LINE],
@@ -69,7 +91,7 @@ impl Line {
     #[inline(always)]
     pub fn clear(&mut self)
         ensures text { text_in self.new ≡ [] }
-        ensures room { room_in self.new ≡ 512 }
+        ensures room { room_in self.new ≡ 640 }
     {
         self.start = LINE;
     }
@@ -221,6 +243,16 @@ impl Line {
             }
         }
         self.prepend_text(label);
+    }
+
+    // Puts the first decimal places of a fraction below 1.
+    pub(crate) fn prepend_places(&mut self, numerator: u64, denominator: u64, places: usize)
+        requires fraction { numerator < denominator }
+        requires room { places ≤ room_in self.old }
+        ensures text { text_in self.new ≡ place_digits places numerator denominator ++ text_in self.old }
+        ensures room { room_in self.new + places ≡ room_in self.old }
+    {
+        self.start = write_fraction(numerator, denominator, places, &mut self.bytes, self.start);
     }
 
     /// Puts a label and some bytes as a string of lower case hex digits.

@@ -1,6 +1,6 @@
 -- Taking all packets of a run, one by one, and counting those of networks other than IPv4.
-use Rattle.std.proofs.Common.{◌≡◌, ◌+◌, ◌<◌, ◌≤◌, ◌^◌, ◌⊎◌, ℕ, List, [], inl, inr, refl, sym, ap, ◌∙◌, arith, IsTrue}
-use Rattle.std.proofs.Common.{Option, Some, None, Result, Ok, Err}
+use Rattle.std.proofs.Common.{◌≡◌, ◌+◌, ◌<◌, ◌≤◌, ◌^◌, ◌⊎◌, [], inl, inr, refl, sym, ap, ◌∙◌, arith, IsTrue}
+use Rattle.std.proofs.Common.{Option, Some, None, Ok, Err}
 use Rattle.std.specs.Prelude.{IfSome}
 use Rattle.cap_bytes.specs.declared.faults.Fault.{Fault}
 use Rattle.cap_bytes.specs.declared.faults.Fault.TheVariants.{Refused, Read, Write, Memory}
@@ -11,17 +11,17 @@ use Rattle.cap_source.specs.declared.feeds.Head.TheVariants as heads
 use Rattle.cap_merge.specs.Parts.{merged_feed, run_of}
 use Rattle.cap_class.specs.Taken.{Taken}
 use Rattle.cap_talks.specs.inner.table.Others.{ComesOf, LooksAhead, with_network}
-use Rattle.cap_talks.specs.inner.table.Stepping.{AnswersAgain, StepKeeps, TableEnds, TableStands, TableState}
-use Rattle.cap_talks.specs.inner.table.Stepping.{TableSteps, TableTakes, next_taken}
-use Rattle.cap_talks.specs.inner.talks.Reporting.{TakesAll, TookAll}
+use Rattle.cap_talks.specs.inner.table.Stepping.{AnswersAgain, StepKeeps, TableStands, TableState}
+use Rattle.cap_talks.specs.inner.table.Stepping.{TableSteps, next_taken}
+use Rattle.cap_talks.specs.inner.talks.Reporting.{TakesAll}
 use Rattle.cap_talks.specs.table.OtherNetworks.{other_counts, other_network_at, sum_of_networks}
 use Rattle.cap_class.specs.Runs.{taken_after}
-use Rattle.cap_talks.specs.talks.ReportText.{refusal_after}
+use Rattle.cap_talks.specs.talks.ReportText.{refusal_for}
 use Rattle.cap_talks.specs.declared.table.others.OtherCounts.{OtherCounts}
 use Rattle.cap_talks.specs.declared.table.tables.Step.{Step}
 use Rattle.cap_talks.specs.declared.table.tables.Step.TheVariants as steps
 use Rattle.cap_talks.proofs.OtherNetworks.{networks-few, networks-more}
-use Rattle.cap_talks.proofs.Reporting.{Reporting, TakesAll-end, TakesAll-fault, more, taken-none}
+use Rattle.cap_talks.proofs.Reporting.{Reporting, more, taken-none}
 
 -- Some packets were taken, of which those of networks other than IPv4 are counted, and others are to come.
 pub record CountsSoFar (old new : TableState) (counts : OtherCounts) : Type 0 where
@@ -33,6 +33,7 @@ begins t = record {
   taken = [];
   went = Went-none (merged_feed t.parts);
   files = refl;
+  reads = refl;
   stands = λ s. s;
   text = λ h. refl;
   refusal = λ h s. refl;
@@ -54,9 +55,10 @@ looked network old mid new p k l = record {
         (Lasts-goes (merged_feed mid.parts) (merged_feed new.parts) l.goes);
   };
   files = k.files ∙ p.files;
+  reads = k.reads ∙ p.reads;
   stands = λ s. l.stays.stands p.taken (p.stands s);
   text = λ h. p.text h ∙ ap (taken_after p.taken) (sym (l.same (p.went.keeps.told h)).run);
-  refusal = λ h s. p.refusal h s ∙ ap (refusal_after p.taken) (sym (l.same (p.went.keeps.told h)).run);
+  refusal = λ h s. p.refusal h s ∙ ap (refusal_for old.tally.reads p.taken) (sym (l.same (p.went.keeps.told h)).run);
   endings = λ h file. (l.same (p.went.keeps.told h)).endings file ∙ p.endings h file;
 }
 

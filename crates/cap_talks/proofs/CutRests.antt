@@ -5,7 +5,7 @@ use Rattle.std.proofs.Common.{take-append-drop}
 use Rattle.std.specs.Prelude.{◌==◌, replicate, if◌then◌else◌}
 use Rattle.std.specs.List.{range_with_len}
 use Rattle.std.proofs.lemmas.List.{drop-drop, drop-replicate, drop-set-lt, map_more, take_all, take_more_set}
-use Rattle.std.proofs.lemmas.List.FromFn.{length-map-range_with_len, map-range_with_len_more}
+use Rattle.std.proofs.lemmas.List.FromFn.{map-range_with_len_more}
 use Rattle.cap_bytes.specs.declared.faults.Tail.{Tail}
 use Rattle.cap_bytes.specs.declared.stops.CutRest.{CutRest}
 use Rattle.cap_merge.specs.Files.{counted_endings, endings_from, endings_of_files}

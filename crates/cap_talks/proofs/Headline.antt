@@ -25,11 +25,11 @@ use Rattle.cap_talks.specs.declared.talks.reports.ReportLeft.{ReportLeft}
 use Rattle.cap_merge.specs.Run.{Clocked}
 use Rattle.cap_source.specs.Feed.{Item}
 use Rattle.cap_source.specs.declared.feeds.FileEnd.{FileEnd}
-use Rattle.cap_talks.specs.talks.ReportText.{report_shown_in, report_refusal}
+use Rattle.cap_talks.specs.talks.ReportText.{report_for, report_refusal_for}
 use Rattle.cap_class.specs.Runs.{taken_after}
 use Rattle.cap_talks.specs.table.Conversations.{rows_of}
-use Rattle.cap_talks.specs.table.CountedUnits.{counted_units}
-use Rattle.cap_talks.specs.table.TakenText.{text_showing_in}
+use Rattle.cap_talks.specs.table.CountedUnits.{units_for}
+use Rattle.cap_talks.specs.table.TakenText.{text_showing_for}
 use Rattle.cap_talks.specs.table.TopRows.{shown_rows}
 use Rattle.cap_talks.proofs.TableTexts.{text-all}
 use Rattle.cap_talks.specs.inner.table.Stepping.{TableState, TableStands, endings_so_far}
@@ -53,16 +53,17 @@ module _ {A : Type 0} (reader : A → ReaderFacts) (tail : Tail) (sources : List
   count-is = ap length unread.files ∙ length-range_with_len 1 (length (map reader sources)) ∙ length-map sources reader
 
   -- the report of their run is theirs
-  pub tells-files : {B : Type 0} (form : Form) (top : Option ℕ) (held out : List ℕ) (result : Result B Fault)
-      → (IsTrue (merged_feed ps).told → TellsReport form top (length (merged_feed ps).files) ps held result out)
+  pub tells-files : {B : Type 0} (reads : Bool) (form : Form) (top : Option ℕ) (held out : List ℕ)
+      (result : Result B Fault)
+      → (IsTrue (merged_feed ps).told → TellsReport reads form top (length (merged_feed ps).files) ps held result out)
       → IsTrue (list_all (λ s. (reader s).told) sources)
-      → Tells (report_shown_in form top (length sources)
+      → Tells (report_for reads form top (length sources)
       (endings_of_files tail (map (λ s. (reader s).bytes) sources))
       (clocked_run tail (map (λ s. (reader s).bytes) sources)))
-      (report_refusal (clocked_run tail (map (λ s. (reader s).bytes) sources))) held result out
-  tells-files form top held out result tells t =
+      (report_refusal_for reads (clocked_run tail (map (λ s. (reader s).bytes) sources))) held result out
+  tells-files reads form top held out result tells t =
       subst (λ (e : List ℕ × Option Refusal). Tells e.0 e.1 held result out)
-      (λ i. (report_shown_in form top (count-is i) (endings-are i) (run-is i), report_refusal (run-is i)))
+      (λ i. (report_for reads form top (count-is i) (endings-are i) (run-is i), report_refusal_for reads (run-is i)))
       (tells (told-readers reader tail sources ps unread t))
 
   -- and so are the rests that were cut
@@ -98,12 +99,13 @@ took-cuts old new took t =
     ∙ ap (rests_by_place (merged_feed old.parts).endings) took.files)
 
 -- the report of a run with the lines of the conversations that are shown
-text-shown : (form : Form) (top : Option ℕ) (count : ℕ) (endings : ℕ → FileEnd) (run : List (Clocked Item))
-    → text_showing_in form (shown_rows top (rows_of (counted_units (taken_after [] run)))) count (Some endings)
+text-shown : (reads : Bool) (form : Form) (top : Option ℕ) (count : ℕ) (endings : ℕ → FileEnd)
+    (run : List (Clocked Item))
+    → text_showing_for reads form (shown_rows top (rows_of (units_for reads (taken_after [] run)))) count (Some endings)
     (taken_after [] run)
-    ≡ report_shown_in form top count endings run
-text-shown form None count endings run = text-all form count (Some endings) (taken_after [] run)
-text-shown form (Some most) count endings run = refl
+    ≡ report_for reads form top count endings run
+text-shown reads form None count endings run = text-all reads form count (Some endings) (taken_after [] run)
+text-shown reads form (Some most) count endings run = refl
 
 -- all packets of a table were taken: the report is written
 pub tells-report : (form : Form) (top : Option ℕ) (old new : TableState) (held out : List ℕ)
@@ -111,9 +113,9 @@ pub tells-report : (form : Form) (top : Option ℕ) (old new : TableState) (held
     → IsTrue (merged_feed old.parts).told → TableStands old []
     → TookAll old new → IsOkUnless result Write
     → ((xs : List Taken) → TableStands new xs → Prints
-    (text_showing_in form (shown_rows top new.tally.talks.rows) (length new.totals.files) (endings_so_far new) xs) None
-    held result out)
-    → TellsReport form top (length old.totals.files) old.parts held result out
+    (text_showing_for new.tally.reads form (shown_rows top new.tally.talks.rows) (length new.totals.files)
+    (endings_so_far new) xs) None held result out)
+    → TellsReport old.tally.reads form top (length old.totals.files) old.parts held result out
 tells-report form top old new held out result t stands took fault prints =
     let endings = ap (λ (d : Bool). if d then Some (merged_feed new.parts).endings else None) took.done
     ∙ ap Some (λ i file. took.endings t file i) in
@@ -121,15 +123,18 @@ tells-report form top old new held out result t stands took fault prints =
     let new_stands = took.stands t stands in
     tells-printed _ _ held result out (took.free t stands) fault
     (subst (λ l. Prints l None held result out)
-    ((λ i. text_showing_in form (shown_rows top (new_stands.tally.talks.rows i)) (took.files i) (endings i) xs)
-    ∙ text-shown form top (length old.totals.files) (merged_feed old.parts).endings (run_of old.parts))
+    ((λ i. text_showing_for new.tally.reads form (shown_rows top (new_stands.tally.talks.rows i)) (took.files i)
+    (endings i) xs)
+    ∙ ap (λ (b : Bool). text_showing_for b form (shown_rows top (rows_of (units_for b xs))) (length old.totals.files)
+    (Some (merged_feed old.parts).endings) xs) took.reads
+    ∙ text-shown old.tally.reads form top (length old.totals.files) (merged_feed old.parts).endings (run_of old.parts))
     (prints xs new_stands))
 
 -- taking them faults: nothing is written
 pub tells-nothing : (A : Type 0) (form : Form) (top : Option ℕ) (old new : TableState) (held : List ℕ) (fault : Fault)
     → TakesAll {A = A} old (Err fault) new
     → IsTrue (merged_feed old.parts).told → TableStands old []
-    → TellsReport {A = A} form top (length old.totals.files) old.parts held (Err fault) held
+    → TellsReport {A = A} old.tally.reads form top (length old.totals.files) old.parts held (Err fault) held
 tells-nothing A form top old new held fault takes t stands = grind arith
 
 -- the feed is at its end as the report is written
@@ -151,8 +156,8 @@ writer-same A w old new fault takes = grind arith
 -- a fault of the report is also that of a call that returns more
 pub report-fault : (A B : Type 0) (form : Form) (top : Option ℕ) (old : TableState) (held out : List ℕ)
     (fault : Fault)
-    → TellsReport {A = A} form top (length old.totals.files) old.parts held (Err fault) out
-    → TellsReport {A = B} form top (length old.totals.files) old.parts held (Err fault) out
+    → TellsReport {A = A} old.tally.reads form top (length old.totals.files) old.parts held (Err fault) out
+    → TellsReport {A = B} old.tally.reads form top (length old.totals.files) old.parts held (Err fault) out
 report-fault A B form top old held out fault t = tells-fault A B _ _ held out fault t
 
 pub walks-fault : (A B : Type 0) (old new : Feed) (fault : Fault) → Walks {A = A} old (Err fault) new

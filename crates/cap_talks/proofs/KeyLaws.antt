@@ -12,15 +12,25 @@ use Rattle.cap_talks.proofs.Talking.{same_end-self, and_true}
 use Rattle.cap_talks.specs.inner.table.Keys.{same_end-is, and_left, and_right}
 use Rattle.cap_talks.specs.inner.table.Laws.{KeyLaw}
 use Rattle.cap_talks.specs.table.Conversations.{is_forward, same_end, same_talk}
-use Rattle.cap_talks.specs.table.Units.{end_cmp}
+use Rattle.cap_talks.specs.table.Units.{address_cmp, end_cmp, number_of, version_of}
+use Rattle.cap_talks.specs.declared.table.units.Address.TheVariants.{Ipv4, Ipv6}
 use Rattle.cap_talks.specs.declared.table.units.Endpoint.{Endpoint}
 
+address_total : IsTotalOrder address_cmp
+address_total = then_total (on_total version_of nat_cmp_total) (on_total number_of nat_cmp_total)
+
+exact_addresses : CmpEqualImpliesEq address_cmp
+exact_addresses (Ipv4 a) (Ipv4 b) h = grind arith
+exact_addresses (Ipv4 a) (Ipv6 b) h = grind arith
+exact_addresses (Ipv6 a) (Ipv4 b) h = grind arith
+exact_addresses (Ipv6 a) (Ipv6 b) h = grind arith
+
 end_total : IsTotalOrder end_cmp
-end_total = then_total (on_total (λ e. e.address) nat_cmp_total) (on_total (λ e. e.port) (options_total nat_cmp_total))
+end_total = then_total (on_total (λ e. e.address) address_total) (on_total (λ e. e.port) (options_total nat_cmp_total))
 
 -- ends that compare alike are one
 exact_ends : CmpEqualImpliesEq end_cmp
-exact_ends a b h = grind arith
+exact_ends a b h = grind (arith, exact_addresses)
 
 both_greater : (r s : Ordering) → r ≡ ordering_reverse s → is_gt r ≡ true → is_gt s ≡ true → ⊥
 both_greater r s e h k = grind arith

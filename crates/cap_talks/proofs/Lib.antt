@@ -33,3 +33,4 @@ pub mod Reporting
 pub mod OtherNetworks
 pub mod CountedNetworks
 pub mod Headline
+pub mod Ipv6Law

@@ -2,26 +2,24 @@
 use Rattle.std.proofs.Common.{◌≡◌, ◌≤◌, ℕ, ◌+◌, Bool, false, List, [], ◌∷◌, length, Option, Some, None, refl}
 use Rattle.std.proofs.Common.{sym, ap, ◌∙◌, arith}
 use Rattle.std.specs.Prelude.{is_some, if◌then◌else◌}
-use Rattle.std.specs.List.{find}
 use Rattle.std.specs.Option.{option_map_or}
 use Rattle.cap_ip.specs.Header.{HeaderFields}
 use Rattle.cap_ip.specs.Read.{Reading, found, bad, cut, read_of}
-use Rattle.cap_ip.specs.Transport.{transport_of}
 use Rattle.cap_ip.specs.declared.headers.Fragment.{Fragment}
 use Rattle.cap_ip.specs.declared.transports.Transport.{Transport}
 use Rattle.cap_ip.specs.declared.transports.Transport.TheVariants as transport
 use Rattle.cap_join.specs.Fragments.{Piece}
 use Rattle.cap_join.specs.declared.datagrams.Stamped.{Stamped}
 use Rattle.cap_link.proofs.OtherNetworks.{other-some}
-use Rattle.cap_link.specs.Links.{is_captured_whole, is_not_ipv4, network_of}
+use Rattle.cap_link.specs.Links.{is_not_ipv4, network_of}
 use Rattle.cap_link.specs.Seen.{Carried, ipv4, other_link, not_ipv4, short, cut as link_cut}
 use Rattle.cap_link.specs.declared.networks.OtherNetwork.{OtherNetwork}
 use Rattle.cap_link.specs.declared.networks.OtherNetwork.TheVariants.{Ipv6, Arp, Other}
 use Rattle.cap_class.specs.Taken.{Taken, classify, classify_at, classify_by, classify_in, stamped_of}
 use Rattle.cap_class.specs.declared.classes.Class.TheVariants as class
-use Rattle.cap_class.specs.Classes.{class_by, class_in, class_of, classes, classes_in, group_class, groups_of}
+use Rattle.cap_class.specs.Classes.{class_by, class_of, classes, classes_in, group_class, groups_of}
 use Rattle.cap_class.specs.Counting.{is_class, times}
-use Rattle.cap_class.specs.Classes.{has_place, joined_transport}
+use Rattle.cap_class.specs.Classes.{joined_transport}
 use Rattle.cap_talks.specs.table.OtherNetworks.{OtherNetworks, is_network, other_counts, other_network_at}
 use Rattle.cap_talks.specs.table.OtherNetworks.{packets_of_network, sum_of_networks}
 use Rattle.cap_talks.specs.inner.table.Others.{with_network}

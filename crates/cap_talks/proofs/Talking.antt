@@ -2,7 +2,7 @@
 use Rattle.std.proofs.lemmas.Bool.Decides.{nat_tests}
 use Rattle.std.proofs.lemmas.Grind.{common_steps}
 use Rattle.std.proofs.Common.{◌≡◌, ℕ, ◌+◌, Bool, true, false, cond, not, ◌&&◌, List, [], ◌∷◌, ◌++◌, filter, map, refl}
-use Rattle.std.proofs.Common.{sym, ap, ◌∙◌, true≢false, arith, Option, Some, append-nil}
+use Rattle.std.proofs.Common.{subst, sym, ap, ◌∙◌, true≢false, arith, Option, Some, append-nil}
 use Rattle.std.specs.Map.{lookup}
 use Rattle.indexmap.specs.IndexMap.{insert_entry}
 use Rattle.std.proofs.lemmas.Bool.{eq-eqb}
@@ -31,7 +31,13 @@ same_talk-self a = grind arith
 
 -- two keys that differ, the other way round
 other_way : (a b : TalkKey) → same_talk a b ≡ false → same_talk b a ≡ false
-other_way a b h = grind arith
+other_way a b h = by (same_talk b a) refl
+  where
+    by : (t : Bool) → same_talk b a ≡ t → t ≡ false
+    by false e = refl
+    by true e =
+        absurd (true≢false (sym (same_talk-self a)
+        ∙ subst (λ k. same_talk a k ≡ false) (same_talk-is b a e) h))
 
 -- Whether a key is among some keys.
 abbrev has : TalkKey → List TalkKey → Bool

@@ -3,6 +3,7 @@ use Rattle.std.proofs.Common.{◌≡◌, ℕ, Bool, true, false, not, List, [], 
 use Rattle.std.proofs.Common.{option_map, refl, sym, ap, ◌∙◌, subst, arith}
 use Rattle.std.specs.Ordering.{is_lt}
 use Rattle.cap_ip.specs.Header.{HeaderFields}
+use Rattle.cap_ipv6.specs.Read.{Reading}
 use Rattle.cap_join.specs.Fragments.{Piece}
 use Rattle.cap_join.specs.Frames.{earlier_stamped, later_stamped, timed, first_frame, last_frame}
 use Rattle.cap_join.specs.inner.Groups.{IsDatagramOf}
@@ -15,7 +16,7 @@ use Rattle.cap_time.specs.Stamp.{stamp_cmp}
 use Rattle.cap_time.specs.inner.StampLaws.{stamp_cmp_total}
 use Rattle.cap_time.specs.declared.stamps.Stamp.{Stamp}
 use Rattle.cap_time.proofs.Chosen.{not_trans}
-use Rattle.cap_talks.specs.table.CountedUnits.{timed_frame, unit_of, whole_unit}
+use Rattle.cap_talks.specs.table.CountedUnits.{ipv6_unit, timed_frame, unit_of, whole_unit}
 use Rattle.cap_talks.specs.inner.table.Adding.{datagram_unit}
 use Rattle.cap_class.specs.Taken.{Taken}
 use Rattle.cap_talks.specs.inner.table.Tallies.{TallyState, Joins, TallyStands}
@@ -33,6 +34,13 @@ itself frame = grind (arith, stamp_cmp_total.antisymm)
 pub whole-order : (header : HeaderFields) (captured : List ℕ) (stamped : Stamped)
     → IfSome (whole_unit header captured stamped) IsUnitInOrder
 whole-order header captured stamped = by_ends _ _ _ _ _ _ (itself (timed_frame (Some stamped))) (λ one. refl)
+
+pub ipv6-order : (r : Reading) (stamped : Stamped) → IfSome (ipv6_unit r stamped) IsUnitInOrder
+ipv6-order (Reading.datagram header captured) stamped =
+    by_ends _ _ _ _ _ _ (itself (timed_frame (Some stamped))) (λ one. refl)
+ipv6-order (Reading.fragment f) stamped = tt
+ipv6-order (Reading.bad why) stamped = tt
+ipv6-order (Reading.cut why) stamped = tt
 
 -- two frames that have times are there, the second not earlier than the first, or neither is
 abbrev times_in_order : Option Stamp → Option Stamp → Bool

@@ -6,8 +6,9 @@ mod table;
 mod talks;
 
 pub use crate::table::{
-    CountedUnit, Description, Endpoint, Held, NO_OTHERS, OtherCounts, Step, Table, TalkKey,
-    TalkRow, TimedFrame, describe, other_networks_law, put_description, talk_laws, top_rows_law,
+    Address, CountedUnit, Description, Endpoint, Held, NO_OTHERS, OtherCounts, Step, Table,
+    TalkKey, TalkRow, TimedFrame, describe, describe_for, ipv6_law, other_networks_law,
+    put_description, talk_laws, top_rows_law,
 };
 pub use crate::talks::{
     ReportLeft, ReportOptions, file_lines, file_lines_and_cuts, file_lines_in, report,

@@ -16,10 +16,10 @@ mod top;
 mod totals;
 mod units;
 
-pub use crate::table::descriptions::{Description, describe, put_description};
-pub use crate::table::laws::{other_networks_law, talk_laws, top_rows_law};
+pub use crate::table::descriptions::{Description, describe, describe_for, put_description};
+pub use crate::table::laws::{ipv6_law, other_networks_law, talk_laws, top_rows_law};
 pub(crate) use crate::table::others::with_network;
 pub use crate::table::others::{NO_OTHERS, OtherCounts};
 pub use crate::table::rows::{TalkKey, TalkRow};
 pub use crate::table::tables::{Held, Step, Table};
-pub use crate::table::units::{CountedUnit, Endpoint, TimedFrame};
+pub use crate::table::units::{Address, CountedUnit, Endpoint, TimedFrame};

@@ -5,7 +5,7 @@ use cap_layer_tests::frames::{
     COOKED_2_FRAME, COOKED_FRAME, FRAGMENT, IPV6_FRAME, PACKET, TAG_FRAME,
 };
 use cap_layer_tests::packets::meta_of;
-use cap_print::{Form, Line};
+use cap_print::{Form, Line, TimeForm};
 use cap_source::Meta;
 use cap_talks::{describe, put_description};
 use std::process::Abort;
@@ -140,7 +140,19 @@ fn is_described(rt: &impl Abort, meta: &Meta, frame: Option<&[u8]>, form: Form, 
 fn a_packet_is_described(rt: HostRuntime) {
     for &(link, frame, captured, original, text, json) in &DESCRIBED {
         let meta = meta_of(link, original);
-        is_described(&rt, &meta, frame.get(..captured), Form::Text, text);
-        is_described(&rt, &meta, frame.get(..captured), Form::Json, json);
+        is_described(
+            &rt,
+            &meta,
+            frame.get(..captured),
+            Form::Text(TimeForm::Exact),
+            text,
+        );
+        is_described(
+            &rt,
+            &meta,
+            frame.get(..captured),
+            Form::Json(TimeForm::Exact),
+            json,
+        );
     }
 }

@@ -11,11 +11,11 @@ use crate::report::TAGGED_REPORT;
 use cap_blocks::{PacketFields, put_interface, put_packet, put_section};
 use cap_bytes::{Fault, Order, Pieces, Sink, Source, Tail, Tracked};
 use cap_check::{CheckLine, check_all_to};
-use cap_commands::{blocks_to, convert_to, diff_to, join_to, list_to, merge_to};
+use cap_commands::{OutputFormat, blocks_to, convert_to, diff_to, join_to, list_to, merge_to};
 use cap_line::Task;
 use cap_pcap::{PcapHeader, RecordTime, put_header, put_record};
-use cap_print::Form;
-use cap_source::{Capture, Format, PacketFeed};
+use cap_print::{Form, TimeForm};
+use cap_source::{Capture, PacketFeed};
 use cap_talks::{file_lines, report};
 use cap_time::{Interface, Resolution, Unit};
 use std::alloc::Global;
@@ -93,17 +93,33 @@ fn call<R: Source, W: Sink>(
         }
         Task::Digest => {
             let which = CheckLine::Digest;
-            check_all_to(alloc, sources, tail, which, Form::Text, writer).map(|_| ())
+            check_all_to(
+                alloc,
+                sources,
+                tail,
+                which,
+                Form::Text(TimeForm::Exact),
+                writer,
+            )
+            .map(|_| ())
         }
         Task::Check => {
             let which = CheckLine::Counts;
-            check_all_to(alloc, sources, tail, which, Form::Text, writer).map(|_| ())
+            check_all_to(
+                alloc,
+                sources,
+                tail,
+                which,
+                Form::Text(TimeForm::Exact),
+                writer,
+            )
+            .map(|_| ())
         }
         Task::Info => file_lines(alloc, sources, tail, writer),
         Task::Report => report(alloc, sources, tail, writer),
         Task::Convert => {
             let source = sources.remove(0);
-            convert_to(alloc, source, tail, order, Format::Pcapng, writer)
+            convert_to(alloc, source, tail, order, OutputFormat::Pcapng, writer)
         }
         Task::Merge => merge_to(alloc, sources, tail, order, writer),
         Task::Join => join_to(alloc, sources, tail, order, writer),

@@ -2,11 +2,14 @@
 use crate::checks::same;
 use cap_bytes::Order;
 use cap_line::{
-    Ignored, LineFault, Task, can_replace, can_share, can_show, can_verify, check_files,
-    check_inputs, data_of, files_limit, format_of, ignored_of, is_surveying, is_whole, number_of,
-    order_of, standard_inputs, task_of, top_of, unescape,
+    Ignored, LineFault, Task, can_have_unit, can_replace, can_share, can_show, can_skip,
+    can_verify, check_files, check_inputs, data_of, files_limit, format_of, ignored_of,
+    is_skipping, is_surveying, is_whole, number_of, order_of, standard_inputs, task_of, time_of,
+    top_of, unescape, unit_of,
 };
+use cap_print::TimeForm;
 use cap_source::Format;
+use cap_time::Unit;
 
 const TASKS: [(&str, Option<Task>); 13] = [
     ("list", Some(Task::List)),
@@ -35,6 +38,14 @@ const FORMATS: [(Option<&str>, Option<Format>); 4] = [
     (Some("pcap"), Some(Format::Pcap)),
     (Some("pcapng"), Some(Format::Pcapng)),
     (Some("tar"), None),
+    (None, None),
+];
+
+const UNITS: [(Option<&str>, Option<Unit>); 5] = [
+    (Some("micro"), Some(Unit::Micro)),
+    (Some("nano"), Some(Unit::Nano)),
+    (Some("milli"), None),
+    (Some("Nano"), None),
     (None, None),
 ];
 
@@ -82,6 +93,29 @@ fn names_are_of_formats(rt: HostRuntime) {
     }
 }
 
+const FORMS_OF_TIMES: [(Option<&str>, TimeForm); 6] = [
+    (Some("exact"), TimeForm::Exact),
+    (Some("decimal"), TimeForm::Decimal),
+    (Some("utc"), TimeForm::Utc),
+    (Some("UTC"), TimeForm::Exact),
+    (Some(""), TimeForm::Exact),
+    (None, TimeForm::Exact),
+];
+
+#[test]
+fn names_are_of_forms_of_times(rt: HostRuntime) {
+    for (name, form) in &FORMS_OF_TIMES {
+        same!(&rt; time_of(*name), *form, *name);
+    }
+}
+
+#[test]
+fn names_are_of_units(rt: HostRuntime) {
+    for (name, unit) in &UNITS {
+        same!(&rt; unit_of(*name), *unit, *name);
+    }
+}
+
 #[test]
 fn a_task_has_what_it_takes(rt: HostRuntime) {
     for (task, files, to, out, whole) in &WHOLE {
@@ -113,6 +147,23 @@ const SHARED: [(bool, Option<Format>, bool); 5] = [
     (false, Some(Format::Pcap), true),
     (false, None, true),
 ];
+
+// The unit and the format that are asked for, and whether times can be written so.
+const IN_UNITS: [(Option<Unit>, Option<Format>, bool); 6] = [
+    (Some(Unit::Nano), Some(Format::Pcap), true),
+    (Some(Unit::Micro), Some(Format::Pcapng), false),
+    (Some(Unit::Micro), None, false),
+    (None, Some(Format::Pcap), true),
+    (None, Some(Format::Pcapng), true),
+    (None, None, true),
+];
+
+#[test]
+fn only_a_pcap_file_has_a_unit(rt: HostRuntime) {
+    for (unit, to, can) in &IN_UNITS {
+        same!(&rt; can_have_unit(*unit, *to), *can, *to);
+    }
+}
 
 #[test]
 fn a_pcap_file_shares_no_interfaces(rt: HostRuntime) {
@@ -360,4 +411,17 @@ fn digest_and_check_take_any_number_of_files(rt: HostRuntime) {
         }
     }
     same!(&rt; standard_inputs(&["-", "a", "./-", "-"]), 2, "dashes");
+}
+
+// Which tasks leave out files that are refused, if that is asked for; standard input can't be read twice.
+#[test]
+fn info_and_report_leave_files_out(rt: HostRuntime) {
+    for (name, task) in &TASKS {
+        if let Some(task) = task {
+            same!(&rt; is_skipping(*task, true), *name == "info" || *name == "report", *name);
+            same!(&rt; is_skipping(*task, false), false, *name);
+        }
+    }
+    same!(&rt; (can_skip(true, &["a", "./-"]), can_skip(true, &["a", "-"])), (true, false));
+    same!(&rt; can_skip(false, &["-"]), true);
 }

@@ -9,7 +9,7 @@ use crate::hex_vectors::{
 };
 use crate::report::UNTIMED;
 use cap_bytes::{Fault, Sink, Source, Tail};
-use cap_print::Form;
+use cap_print::{Form, TimeForm};
 use cap_talks::{file_lines_in, report_in};
 use std::alloc::Global;
 use std::process::Abort;
@@ -138,8 +138,8 @@ fn tell<R: Source, W: Sink>(
     holds!(rt; !sources.is_empty());
     holds!(rt; sources.len() <= 32);
     match printed {
-        Printed::Lines => file_lines_in(alloc, sources, tail, Form::Json, writer),
-        Printed::Report => report_in(alloc, sources, tail, Form::Json, writer),
+        Printed::Lines => file_lines_in(alloc, sources, tail, Form::Json(TimeForm::Exact), writer),
+        Printed::Report => report_in(alloc, sources, tail, Form::Json(TimeForm::Exact), writer),
     }
 }
 

@@ -6,10 +6,12 @@ use crate::hex_vectors::{
     COMMENTS_PCAPNG, CUT_PCAP, File, LATE, OPTIONS_PCAPNG, RUNS_BACK, RUNS_ON, SKIPPED_PCAPNG,
 };
 use cap_bytes::{CutRest, Fault, Order, Pieces, Refusal, Rule, Sink, Source, Tail};
-use cap_commands::{DroppedInfo, RunForm, convert_and_count, join_and_count, merge_and_count};
+use cap_commands::{
+    DroppedInfo, OutputFormat, RunForm, convert_and_count, join_and_count, merge_and_count,
+};
 use cap_merge::{Merged, merge_files};
-use cap_print::Form;
-use cap_source::{Capture, Format, PacketFeed};
+use cap_print::{Form, TimeForm};
+use cap_source::{Capture, PacketFeed};
 use cap_talks::{file_lines_and_cuts, report_and_count};
 use std::alloc::Global;
 use std::process::Abort;
@@ -70,7 +72,7 @@ fn join<R: Source, W: Sink>(
 ) -> Result<DroppedInfo, Fault> {
     holds!(rt; !sources.is_empty());
     holds!(rt; sources.len() <= 32);
-    let format = Format::Pcapng;
+    let format = OutputFormat::Pcapng;
     join_and_count(alloc, sources, tail, Order::Little, format, true, writer)
 }
 
@@ -138,16 +140,16 @@ fn always_memory_files_are_joined_with_a_count(rt: HostRuntime) {
 
 // A file, the format that it is written in, how many of its blocks are skipped, how many of these have secrets and how
 // many names, how many of its interfaces have a name, and how many comments it has.
-const CONVERTED: [(File, Format, [u128; 5]); 5] = [
-    (OPTIONS_PCAPNG, Format::Pcapng, [1, 0, 0, 1, 0]),
-    (OPTIONS_PCAPNG, Format::Pcap, [1, 0, 0, 1, 0]),
-    (SKIPPED_PCAPNG, Format::Pcapng, [5, 2, 1, 0, 0]),
-    (COMMENTS_PCAPNG, Format::Pcapng, [0, 0, 0, 0, 4]),
-    (RUNS_BACK, Format::Pcapng, [0, 0, 0, 0, 0]),
+const CONVERTED: [(File, OutputFormat, [u128; 5]); 5] = [
+    (OPTIONS_PCAPNG, OutputFormat::Pcapng, [1, 0, 0, 1, 0]),
+    (OPTIONS_PCAPNG, OutputFormat::Pcap(None), [1, 0, 0, 1, 0]),
+    (SKIPPED_PCAPNG, OutputFormat::Pcapng, [5, 2, 1, 0, 0]),
+    (COMMENTS_PCAPNG, OutputFormat::Pcapng, [0, 0, 0, 0, 4]),
+    (RUNS_BACK, OutputFormat::Pcapng, [0, 0, 0, 0, 0]),
 ];
 
 // What is left of a file that is converted.
-fn converts(rt: &impl Abort, alloc: Global, file: File, format: Format, counts: [u128; 5]) {
+fn converts(rt: &impl Abort, alloc: Global, file: File, format: OutputFormat, counts: [u128; 5]) {
     let mut writer = room_of(rt, alloc, 512);
     let source = reader_of(rt, alloc, file, 4096);
     let order = Order::Little;
@@ -230,9 +232,25 @@ fn prints<R: Source, W: Sink>(
     holds!(rt; !sources.is_empty());
     holds!(rt; sources.len() <= 32);
     if reports {
-        Ok(report_and_count(alloc, sources, Tail::Accept, Form::Text, false, writer)?.cuts)
+        Ok(
+            report_and_count(
+                alloc,
+                sources,
+                Tail::Accept,
+                Form::Text(TimeForm::Exact),
+                false,
+                writer,
+            )?
+            .cuts,
+        )
     } else {
-        file_lines_and_cuts(alloc, sources, Tail::Accept, Form::Text, writer)
+        file_lines_and_cuts(
+            alloc,
+            sources,
+            Tail::Accept,
+            Form::Text(TimeForm::Exact),
+            writer,
+        )
     }
 }
 
@@ -266,7 +284,7 @@ fn always_memory_rests_of_joined_files_are_left(rt: HostRuntime) {
 fn always_memory_the_rest_of_a_converted_file_is_left(rt: HostRuntime) {
     let mut writer = room_of(&rt, rt.alloc(), 512);
     let source = reader_of(&rt, rt.alloc(), CUT_PCAP, 4096);
-    let (order, format) = (Order::Little, Format::Pcap);
+    let (order, format) = (Order::Little, OutputFormat::Pcap(None));
     let answer = convert_and_count(
         rt.alloc(),
         source,

@@ -5,9 +5,8 @@ use crate::files::{room_of, sources_of};
 use crate::hex_vectors::{FIRST, FRAGMENT_FRAMES, File, LAST, RAW, RUNS_BACK, TAGGED_FRAMES};
 use cap_bytes::{Fault, Order, Sink, Source, Tail};
 use cap_class::{Class, ClassCounts, NO_PACKETS, class_of, with_frames, with_group};
-use cap_commands::{DroppedInfo, join_and_count};
+use cap_commands::{DroppedInfo, OutputFormat, join_and_count};
 use cap_ip::Transport;
-use cap_source::Format;
 use cap_write::{LeftOut, NO_PACKETS_LEFT_OUT};
 use std::alloc::Global;
 use std::process::Abort;
@@ -83,7 +82,7 @@ fn join<R: Source, W: Sink>(
     rt: &impl Abort,
     alloc: Global,
     sources: Vec<R>,
-    format: Format,
+    format: OutputFormat,
     counts: bool,
     writer: &mut W,
 ) -> Result<DroppedInfo, Fault> {
@@ -101,7 +100,7 @@ fn join<R: Source, W: Sink>(
 }
 
 // What is left out of files that are joined in a format.
-fn joins(rt: &impl Abort, alloc: Global, row: &Row, format: Format, counts: bool) {
+fn joins(rt: &impl Abort, alloc: Global, row: &Row, format: OutputFormat, counts: bool) {
     let (files, numbers, truncated) = *row;
     let mut writer = room_of(rt, alloc, 512);
     let answer = join(
@@ -123,11 +122,11 @@ fn joins(rt: &impl Abort, alloc: Global, row: &Row, format: Format, counts: bool
 #[test]
 fn always_memory_joined_files_leave_packets_out(rt: HostRuntime) {
     for row in &JOINED {
-        joins(&rt, rt.alloc(), row, Format::Pcapng, true);
-        joins(&rt, rt.alloc(), row, Format::Pcapng, false);
+        joins(&rt, rt.alloc(), row, OutputFormat::Pcapng, true);
+        joins(&rt, rt.alloc(), row, OutputFormat::Pcapng, false);
     }
     // a pcap file without a datagram has no interface
-    joins(&rt, rt.alloc(), &JOINED[0], Format::Pcap, true);
+    joins(&rt, rt.alloc(), &JOINED[0], OutputFormat::Pcap(None), true);
 }
 
 #[test]

@@ -17,6 +17,8 @@ mod files;
 #[cfg(test)]
 mod hex_vectors;
 #[cfg(test)]
+mod ipv6;
+#[cfg(test)]
 mod jobs;
 #[cfg(test)]
 mod json_lines;
@@ -30,6 +32,8 @@ mod merge;
 mod networks;
 #[cfg(test)]
 mod report;
+#[cfg(test)]
+mod skipping;
 #[cfg(test)]
 mod steps;
 #[cfg(test)]

@@ -4,7 +4,7 @@ use crate::checks::{holds, same};
 use crate::files::{room_of, sources_of};
 use crate::hex_vectors::{File, RAW};
 use cap_bytes::{Fault, Tail};
-use cap_print::Form;
+use cap_print::{Form, TimeForm};
 use cap_talks::{NO_OTHERS, OtherCounts, ReportLeft, other_networks_law, report_and_count};
 use std::alloc::Global;
 use std::process::Abort;
@@ -37,7 +37,7 @@ fn reports(rt: &impl Abort, alloc: Global, counts: bool) -> Result<ReportLeft, F
         alloc,
         sources,
         Tail::Refuse,
-        Form::Text,
+        Form::Text(TimeForm::Exact),
         counts,
         &mut writer,
     )

@@ -4,7 +4,7 @@ use crate::checks::{holds, same};
 use crate::files::{room_of, sources_of};
 use crate::hex_vectors::{File, RAW};
 use cap_bytes::{Fault, Tail};
-use cap_print::Form;
+use cap_print::{Form, TimeForm};
 use cap_talks::{ReportOptions, report_with, top_rows_law};
 use std::alloc::Global;
 use std::process::Abort;
@@ -47,9 +47,10 @@ fn reports(rt: &impl Abort, alloc: Global, most: u32, wanted: &str) {
     holds!(rt; !sources.is_empty());
     holds!(rt; sources.len() <= 32);
     let options = ReportOptions {
-        form: Form::Text,
+        form: Form::Text(TimeForm::Exact),
         top: Some(most),
         counts: false,
+        ipv6: false,
     };
     let answer: Result<_, Fault> = report_with(alloc, sources, Tail::Refuse, options, &mut writer);
     same!(rt; (answer.and(Ok(())), writer.bytes()), (Ok(()), wanted.as_bytes()));

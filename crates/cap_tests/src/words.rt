@@ -3,6 +3,7 @@ use crate::checks::{holds, same};
 use cap_bytes::Order;
 use cap_line::{Ignored, Job, LineFault, Task, USAGE, message, parse};
 use cap_source::Format;
+use cap_time::Unit;
 use std::process::Abort;
 
 // The job is a conversion of a cut file to big-endian pcap.
@@ -40,6 +41,45 @@ fn always_memory_conversations_are_asked_for(rt: HostRuntime) {
     let none = ["capt", "report", "--top=0", "a.pcap"];
     same!(&rt; parse(rt.alloc(), none.as_slice()).err(), Some(LineFault::Line));
     holds!(&rt; message(rt.alloc(), none.as_slice()).is_some());
+}
+
+// What is read of a line that asks to leave out captures that are refused, the same job over other files, and what
+// isn't a job of it.
+#[test]
+fn always_memory_captures_are_left_out(rt: HostRuntime) {
+    let words = ["capt", "info", "--skip-refused", "a.pcap", "b.pcap"];
+    match parse(rt.alloc(), words.as_slice()) {
+        Ok(job) => {
+            same!(&rt; (job.task, job.skips), (Task::Info, true));
+            let other = job.over(Vec::new(rt.alloc()));
+            same!(&rt; (other.task, other.skips, other.files.len()), (Task::Info, false, 0));
+        }
+        Err(fault) => panic!(&rt; "{fault}"),
+    }
+    let standard = ["capt", "report", "--skip-refused", "-", "a.pcap"];
+    same!(&rt; parse(rt.alloc(), standard.as_slice()).err(), Some(LineFault::Input));
+}
+
+// What is read of a line that asks for a unit, and what isn't a job of it.
+#[test]
+fn always_memory_a_unit_is_asked_for(rt: HostRuntime) {
+    let words = [
+        "capt",
+        "merge",
+        "--to=pcap",
+        "--unit",
+        "nano",
+        "-o",
+        "b",
+        "a",
+    ];
+    match parse(rt.alloc(), words.as_slice()) {
+        Ok(job) => same!(&rt; (job.to, job.unit), (Some(Format::Pcap), Some(Unit::Nano))),
+        Err(fault) => panic!(&rt; "{fault}"),
+    }
+    let pcapng = ["capt", "merge", "--unit=nano", "-o", "b", "a"];
+    same!(&rt; parse(rt.alloc(), pcapng.as_slice()).err(), Some(LineFault::Line));
+    holds!(&rt; message(rt.alloc(), pcapng.as_slice()).is_some());
 }
 
 // Two captures are compared, in the order in which they are named, and no other number of them.

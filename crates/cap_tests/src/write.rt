@@ -8,6 +8,7 @@ use crate::hex_vectors::{
 };
 use cap_bytes::{Fault, Order, Rule, Sink, Source, Tail};
 use cap_source::Capture;
+use cap_time::Unit;
 use cap_write::{
     to_pcap, to_pcapng, write_joined, write_joined_pcap, write_merged, write_merged_pcap,
     write_merged_sharing,
@@ -26,7 +27,7 @@ const INTERFACE_ALONE: File = &[SECTION, INTERFACE];
 #[derive(Clone, Copy, Debug, PartialEq, Eq)]
 enum Call {
     Pcapng,
-    Pcap,
+    Pcap(Option<Unit>),
     Merged,
 }
 
@@ -39,7 +40,7 @@ fn write<R: Source, W: Sink>(
 ) -> Result<(), Fault> {
     match call {
         Call::Pcapng => to_pcapng(alloc, capture, Order::Little, writer),
-        Call::Pcap => to_pcap(capture, Order::Little, writer),
+        Call::Pcap(unit) => to_pcap(capture, Order::Little, unit, writer),
         Call::Merged => write_merged(alloc, capture, Order::Little, writer),
     }
 }
@@ -47,13 +48,23 @@ fn write<R: Source, W: Sink>(
 // A call, its file, and what is written.
 type Written = (Call, File, File);
 
-const WRITTEN: [Written; 6] = [
+// The same in nanoseconds, and what else is in nanoseconds.
+const IN_NANO: &str = "4d3cb2a10200040000000000000000000000040001000000";
+
+const CARRIED_NANO: File = &[IN_NANO, "020000000065cd1d0400000004000000", "01020304"];
+
+const HEADER_NANO: File = &[IN_NANO];
+
+const WRITTEN: [Written; 9] = [
+    (Call::Pcap(Some(Unit::Nano)), CARRY_PCAPNG, CARRIED_NANO),
+    (Call::Pcap(Some(Unit::Micro)), CARRIED_NANO, CARRIED_PCAP),
+    (Call::Pcap(Some(Unit::Nano)), INTERFACE_ALONE, HEADER_NANO),
     (Call::Pcapng, CARRY_PCAP, CARRY_PCAPNG),
-    (Call::Pcap, CARRY_PCAPNG, CARRIED_PCAP),
+    (Call::Pcap(None), CARRY_PCAPNG, CARRIED_PCAP),
     (Call::Merged, CARRY_PCAPNG, CARRY_PCAPNG),
     (Call::Merged, CARRY_PCAP, CARRY_PCAPNG),
     (Call::Pcapng, HEADER_ONLY, INTERFACE_ALONE),
-    (Call::Pcap, INTERFACE_ALONE, HEADER_ONLY),
+    (Call::Pcap(None), INTERFACE_ALONE, HEADER_ONLY),
 ];
 
 // What a call writes of a file that is read one byte at a time.
@@ -216,12 +227,14 @@ const MERGED_AS_PCAP: [Row; 5] = [
     ),
 ];
 
-// What a merge of files writes as pcap, and answers.
-fn merges_as_pcap(rt: &impl Abort, alloc: Global, row: &Row) {
+const MERGED_IN_NANO: Row = (&[CARRY_PCAPNG], CARRIED_NANO, Ok(()));
+
+// What a merge of files writes as pcap in a unit, and answers.
+fn merges_as_pcap(rt: &impl Abort, alloc: Global, row: &Row, unit: Option<Unit>) {
     let (input, output, ending) = *row;
     let mut merged = merged_of(rt, alloc, sources_of(rt, alloc, input, 1));
     let mut writer = room_of(rt, alloc, 512);
-    let answer = write_merged_pcap(&mut merged, Order::Little, &mut writer);
+    let answer = write_merged_pcap(&mut merged, Order::Little, unit, &mut writer);
     let found = (answer, writer.bytes());
     ask_written(rt, alloc, found, answer_of_files(ending), output);
 }
@@ -229,8 +242,9 @@ fn merges_as_pcap(rt: &impl Abort, alloc: Global, row: &Row) {
 #[test]
 fn always_memory_files_are_merged_as_pcap(rt: HostRuntime) {
     for row in &MERGED_AS_PCAP {
-        merges_as_pcap(&rt, rt.alloc(), row);
+        merges_as_pcap(&rt, rt.alloc(), row, None);
     }
+    merges_as_pcap(&rt, rt.alloc(), &MERGED_IN_NANO, Some(Unit::Nano));
 }
 
 // The datagram that FRAGMENT_FRAMES make, as a file.
@@ -319,12 +333,24 @@ const DATAGRAMS_AS_PCAP: [Row; 4] = [
     (&[CUT_FRAGMENTS], NOTHING, Err((1, 156, Rule::Cut))),
 ];
 
-// What is joined of files as pcap, and what is answered.
-fn joins_as_pcap(rt: &impl Abort, alloc: Global, row: &Row) {
+// The datagram in nanoseconds.
+const JOINED_IN_NANO: Row = (
+    &[FRAGMENT_FRAMES],
+    &[
+        "4d3cb2a10200040000000000000000000000000065000000",
+        "04000000000000002c0000002c000000",
+        "4500002c00070000401166b80a0000010a000002",
+        "03e907d100180000a0a1a2a3a4a5a6a7b0b1b2b3b4b5b6b7",
+    ],
+    Ok(()),
+);
+
+// What is joined of files as pcap in a unit, and what is answered.
+fn joins_as_pcap(rt: &impl Abort, alloc: Global, row: &Row, unit: Option<Unit>) {
     let (input, output, ending) = *row;
     let mut merged = merged_of(rt, alloc, sources_of(rt, alloc, input, 1));
     let mut writer = room_of(rt, alloc, 512);
-    let answer = write_joined_pcap(alloc, &mut merged, Order::Little, &mut writer);
+    let answer = write_joined_pcap(alloc, &mut merged, Order::Little, unit, &mut writer);
     let found = (answer, writer.bytes());
     ask_written(rt, alloc, found, answer_of_files(ending), output);
 }
@@ -332,6 +358,7 @@ fn joins_as_pcap(rt: &impl Abort, alloc: Global, row: &Row) {
 #[test]
 fn always_memory_datagrams_are_joined_as_pcap(rt: HostRuntime) {
     for row in &DATAGRAMS_AS_PCAP {
-        joins_as_pcap(&rt, rt.alloc(), row);
+        joins_as_pcap(&rt, rt.alloc(), row, None);
     }
+    joins_as_pcap(&rt, rt.alloc(), &JOINED_IN_NANO, Some(Unit::Nano));
 }

@@ -8,3 +8,4 @@ pub mod LineParts
 mod LinesRead
 mod Judging
 mod Running
+mod FoundRefusals

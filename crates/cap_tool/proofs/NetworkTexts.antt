@@ -2,6 +2,7 @@
 use Rattle.std.proofs.Common.{◌≡◌, ℕ, ◌+◌, List, [], ◌++◌, ap, ◌∙◌, append_assoc}
 use Rattle.std.specs.Prelude.{codes}
 use Rattle.cap_print.specs.declared.forms.Form.TheVariants.{Text}
+use Rattle.cap_print.specs.declared.forms.TimeForm.TheVariants.{Exact}
 use Rattle.cap_talks.specs.declared.table.others.OtherCounts.{OtherCounts}
 use Rattle.cap_tool.specs.LeftOutLine.{class_text}
 use Rattle.cap_tool.specs.NetworkLine.{networks_in, networks_text}
@@ -27,7 +28,7 @@ networks-put n ipv6 arp t t1 t2 t3 iv ia e1 e2 e3 =
 
 -- the whole line in text
 pub line-put : (n : OtherCounts) (t t1 t2 t3 : List ℕ) → t ≡ [] → t1 ≡ codes "\n" ++ t → t2 ≡ networks_text n ++ t1
-    → t3 ≡ codes "not-ipv4" ++ t2 → t3 ≡ networks_in Text n
+    → t3 ≡ codes "not-ipv4" ++ t2 → t3 ≡ networks_in (Text Exact) n
 line-put n t t1 t2 t3 none e1 e2 e3 =
     e3 ∙ (ap (λ m. codes "not-ipv4" ++ m)
     (e2 ∙ ap (λ m. networks_text n ++ m) (e1 ∙ ap (λ m. codes "\n" ++ m) none))

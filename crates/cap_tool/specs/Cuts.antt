@@ -23,8 +23,8 @@ cut_fields file rest =
 
 -- the line in a form, in JSON with the word that named the file
 abbrev pub cut_line : Form → List (List ℕ) → ℕ → CutRest → List ℕ
-cut_line Text paths file rest = cut_text file rest
-cut_line Json paths file rest = object_json (cut_fields file rest) (path_of paths file)
+cut_line (Text times) paths file rest = cut_text file rest
+cut_line (Json times) paths file rest = object_json (cut_fields file rest) (path_of paths file)
 
 -- the line of a file that was cut, and none of any other
 abbrev pub cut_line_if : Form → List (List ℕ) → ℕ → Option CutRest → List ℕ

@@ -7,6 +7,6 @@ use Rattle.cap_tool.specs.Objects.{path_json}
 
 -- the field of a name: in JSON it is in every line, in text only if that is asked for, as a terminal shows it
 abbrev pub name_field : Form → Bool → List ℕ → List ℕ
-name_field Text false name = []
-name_field Text true name = codes " name " ++ shown_text false name
-name_field Json is_shown name = path_json (Some name)
+name_field (Text times) false name = []
+name_field (Text times) true name = codes " name " ++ shown_text false name
+name_field (Json times) is_shown name = path_json (Some name)

@@ -17,8 +17,8 @@ networks_text n =
 
 -- the line in a form: in JSON an object of all three counts (RFC 8259, 4)
 abbrev pub networks_in : Form → OtherCounts → List ℕ
-networks_in Text n = codes "not-ipv4" ++ networks_text n ++ codes "\n"
-networks_in Json n =
+networks_in (Text times) n = codes "not-ipv4" ++ networks_text n ++ codes "\n"
+networks_in (Json times) n =
     codes "{\"type\":\"not_ipv4\",\"ipv6\":" ++ decimal n.ipv6 ++ codes ",\"arp\":" ++ decimal n.arp
     ++ codes ",\"other\":" ++ decimal n.other ++ codes "}\n"
 
@@ -31,11 +31,11 @@ abbrev pub networks_line_if : Form → Option OtherCounts → List ℕ
 networks_line_if form None = []
 networks_line_if form (Some n) = networks_line form n
 
--- and if all was done
+-- and if all was done, or all except for files that were left out
 abbrev pub networks_told : Form → Outcome → DroppedInfo → List ℕ
 networks_told form outcomes.Done left = networks_line_if form left.not_ipv4
 networks_told form outcomes.Differ left = []
-networks_told form outcomes.NotWhole left = []
+networks_told form outcomes.NotWhole left = networks_line_if form left.not_ipv4
 networks_told form (outcomes.Line fault) left = []
 networks_told form (outcomes.Fault fault) left = []
 networks_told form (outcomes.Open file) left = []

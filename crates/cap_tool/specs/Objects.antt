@@ -88,8 +88,8 @@ told_json said outcomes.Create paths = outcome_json outcomes.Create paths
 
 -- what is printed of an outcome in a form
 abbrev pub told_in : Form → List ℕ → Outcome → List (List ℕ) → List ℕ
-told_in Text said outcome paths = told_text said outcome
-told_in Json said outcome paths = told_json said outcome paths
+told_in (Text times) said outcome paths = told_text said outcome
+told_in (Json times) said outcome paths = told_json said outcome paths
 
 -- what explains how a run ended, as an object
 abbrev pub hint_json : List ℕ → List ℕ

@@ -1,24 +1,29 @@
 -- A run of the program: a job, over what a system opens and creates, and how it ends.
-use Rattle.std.specs.Prelude.{◌≡◌, ◌⊎◌, ℕ, List, [], length, map, Bool, true, false, Option, Some}
+use Rattle.std.specs.Prelude.{◌≡◌, ◌⊎◌, ℕ, List, [], ◌∷◌, ◌++◌, length, map, Bool, true, false, Option, Some}
 use Rattle.std.specs.Prelude.{Result, Ok, Err, IfOk, IsTrue, None, option_map}
 use Rattle.std.specs.List.{list_all}
 use Rattle.cap_bytes.specs.declared.faults.Fault.{Fault}
 use Rattle.cap_bytes.specs.declared.faults.Fault.TheVariants as faults
+use Rattle.cap_bytes.specs.declared.faults.Refusal.{Refusal}
+use Rattle.cap_bytes.specs.Printing.{PrintsFront}
 use Rattle.cap_check.specs.Checking.{Opened}
-use Rattle.cap_line.specs.Jobs.{is_surveying}
+use Rattle.cap_line.specs.Jobs.{is_skipping, is_surveying}
 use Rattle.cap_line.specs.declared.jobs.Job.{Job}
 use Rattle.cap_tool.specs.CheckedNames.{AreGiven, ChecksNames}
 use Rattle.cap_tool.specs.ListedNames.{ReadsList, StopsAtList, StopsReading, listed_fault, listed_names}
 use Rattle.cap_commands.specs.Jobs.{Does, Finds, form_by, found_in, line_by, tail_of}
 use Rattle.cap_commands.specs.Left.{done_of}
+use Rattle.cap_commands.specs.Skipping.{kept_of, left_out_lines}
 use Rattle.cap_tool.specs.Outcomes.{ends_by}
 use Rattle.cap_tool.specs.Outlets.{Outgoing}
 use Rattle.cap_tool.specs.Streams.{StopsAtDash, StopsOpening}
 use Rattle.cap_tool.specs.DigestLines.{Entry, IsFirstOther, entries_in}
 use Rattle.cap_tool.specs.Verdicts.{Verifies}
+use Rattle.cap_tool.specs.Skipped.{FindsRefusals, StopsFinding, ended_skipping, outcome_on_line}
 use Rattle.cap_line.specs.declared.faults.LineFault.{LineFault}
 use Rattle.cap_line.specs.declared.jobs.Task.{Task}
 use Rattle.cap_commands.specs.declared.jobs.Finding.{Finding}
+use Rattle.cap_commands.specs.declared.jobs.Finding.TheVariants.{NotWhole}
 use Rattle.cap_commands.specs.declared.left.DroppedInfo.{DroppedInfo}
 use Rattle.cap_tool.specs.declared.outcomes.Outcome.{Outcome}
 use Rattle.cap_tool.specs.declared.outcomes.Outcome.TheVariants as outcomes
@@ -99,9 +104,72 @@ pub record RunsChecks {R W N : Type 0} (gives : List ℕ → Option R → Type 0
   pub ended : Result DroppedInfo RunStop
   pub made : makes [] (Ok (writer, name))
   pub checks : IsTrue (sent writer).told
-      → ChecksNames gives known (line_by job.task job.digests) (form_by job.json) (tail_of job.allow_cut) job.names
-      names (sent writer).held answer (sent written).held
+      → ChecksNames gives known (line_by job.task job.digests) (form_by job.json job.time) (tail_of job.allow_cut)
+      job.names names (sent writer).held answer (sent written).held
   pub ends : IsTrue (sent writer).told → EndsBy answer (sent written).waiting ended
+  pub committed : commits name ended result
+
+-- The rest of a job was done after the lines of the files that are left out, over the files that are kept, with those
+-- bytes, and by whether a read of each can fail: over none, nothing more was written.
+pub record RunsKept (job : Job) (refusals : List (Option Refusal)) (fails : List Bool) (files : List (List ℕ))
+    (old : List ℕ) (ended : Result DroppedInfo RunStop) (new waiting : List ℕ) : Type 0 where
+  pub done : Result DroppedInfo RunStop
+  pub runs : RunsJob job fails files old done new waiting
+  pub ends : ended_as ended ≡ ended_skipping refusals (ended_as done)
+
+abbrev pub RunsRest : Job → List (Option Refusal) → List Bool → List (List ℕ) → List ℕ → Result DroppedInfo RunStop
+    → List ℕ → List ℕ → Type 0
+RunsRest job refusals fails [] old ended new waiting = (new ≡ old) × EndsBy (Ok NotWhole) waiting ended
+RunsRest job refusals fails (bytes ∷ files) old ended new waiting =
+    RunsKept job refusals fails (bytes ∷ files) old ended new waiting
+
+-- A job was done that leaves out the files that are refused, by the refusals of all files: the lines of these were
+-- written, and then what the job writes over the others; or a write of the lines failed.
+abbrev pub SkipsJob : Job → List (Option Refusal) → List Bool → List (List ℕ) → List ℕ → Result DroppedInfo RunStop
+    → List ℕ → List ℕ → Type 0
+SkipsJob job refusals fails files old ended new waiting =
+    (PrintsFront (left_out_lines (form_by job.json job.time) refusals) old new
+    × (ended_as ended ≡ Err (outcomes.Fault faults.Write)))
+    ⊎ RunsRest job refusals fails files (old ++ left_out_lines (form_by job.json job.time) refusals) ended new waiting
+
+-- A job stopped that leaves out the files that are refused, and wrote nothing: the refusal of a file wasn't found, or
+-- one that is kept can't be opened once more.
+abbrev pub StopsSkipping : {R : Type 0} → (List ℕ → Option R → Type 0) → (R → Opened) → Job → Result DroppedInfo RunStop
+    → Type 0
+StopsSkipping gives known job (Ok done) = ⊥
+StopsSkipping gives known job (Err stop) =
+    StopsFinding gives known (names_of job) stop.outcome ⊎ (stop.outcome ≡ outcomes.Fault faults.Memory)
+    ⊎ ((refusals : List (Option Refusal)) × (outcome : Outcome)
+    × FindsRefusals gives known (tail_of job.allow_cut) (names_of job) refusals
+    × StopsOpening gives (kept_of refusals (names_of job)) outcome
+    × (stop.outcome ≡ outcome_on_line refusals outcome))
+
+-- A job was done that leaves out the files that are refused: the refusals of all files were found, and the others were
+-- opened once more, each as its opener gives it; if these tell their bytes, the job was done over them.
+pub record SkipsFiles {R : Type 0} (gives : List ℕ → Option R → Type 0) (known : R → Opened) (job : Job)
+    (old : Outgoing) (ended : Result DroppedInfo RunStop) (new : Outgoing) : Type 0 where
+  pub refusals : List (Option Refusal)
+  pub readers : List R
+  pub found : FindsRefusals gives known (tail_of job.allow_cut) (names_of job) refusals
+  pub opened : AreGiven gives (kept_of refusals (names_of job)) (map Some readers)
+  pub all : length readers ≡ length (kept_of refusals (names_of job))
+  pub runs : IsTrue (list_all (λ r. (known r).told) readers) → IsTrue old.told
+      → SkipsJob job refusals (map (λ r. (known r).can_fail) readers) (map (λ r. (known r).bytes) readers) old.held
+      ended new.held new.waiting
+
+-- A job that leaves out the files that are refused was run: its output was created; it stopped, and nothing was written
+-- there, or it was done; and the output was committed by how that ended.
+pub record RunsSkipping {R W N : Type 0} (gives : List ℕ → Option R → Type 0) (known : R → Opened)
+    (makes : List (Option FileId) → Result (W × N) RunStop → Type 0) (sent : W → Outgoing)
+    (commits : N → Result DroppedInfo RunStop → Result DroppedInfo RunStop → Type 0) (job : Job)
+    (result : Result DroppedInfo RunStop) : Type 0 where
+  pub writer : W
+  pub name : N
+  pub written : W
+  pub ended : Result DroppedInfo RunStop
+  pub made : makes [] (Ok (writer, name))
+  pub skips : ((written ≡ writer) × StopsSkipping gives known job ended)
+      ⊎ SkipsFiles gives known job (sent writer) ended (sent written)
   pub committed : commits name ended result
 
 -- the output of a run that reads no regular file that is known yet could not be created
@@ -109,8 +177,19 @@ abbrev pub StopsMaking : {M : Type 0} → (List (Option FileId) → Result M Run
     → Type 0
 StopsMaking makes result = (stop : RunStop) × (result ≡ Err stop) × makes [] (Err stop)
 
--- A job was run, by whether its files are opened one after another: its output could not be created, or it was done; a
--- job whose files are all opened before may also stop at one of them.
+-- A job was run whose files aren't opened one after another, by whether it leaves out those that are refused: then its
+-- output could not be created, or it was run; else it stopped before its output was created, or it was done.
+abbrev pub RunsEither : {R W N : Type 0} → Bool → (List ℕ → Option R → Type 0) → (R → Opened)
+    → (List (Option FileId) → Result (W × N) RunStop → Type 0) → (W → Outgoing)
+    → (N → Result DroppedInfo RunStop → Result DroppedInfo RunStop → Type 0) → Bool → Job → Result DroppedInfo RunStop
+    → Type 0
+RunsEither true gives known makes sent commits lacks_input job result =
+    StopsMaking makes result ⊎ RunsSkipping gives known makes sent commits job result
+RunsEither false gives known makes sent commits lacks_input job result =
+    StopsFirst gives makes lacks_input job result ⊎ RunsFiles gives known makes sent commits job result
+
+-- A job was run, by whether its files are opened one after another, as of `digest` and `check`: its output could not be
+-- created, or it was done.
 abbrev pub RunsWhich : {R W N : Type 0} → Bool → (List ℕ → Option R → Type 0) → (R → Opened)
     → (List (Option FileId) → Result (W × N) RunStop → Type 0) → (W → Outgoing)
     → (N → Result DroppedInfo RunStop → Result DroppedInfo RunStop → Type 0) → Bool → Job → Result DroppedInfo RunStop
@@ -118,7 +197,7 @@ abbrev pub RunsWhich : {R W N : Type 0} → Bool → (List ℕ → Option R → 
 RunsWhich true gives known makes sent commits lacks_input job result =
     StopsMaking makes result ⊎ RunsChecks gives known makes sent commits job (names_of job) result
 RunsWhich false gives known makes sent commits lacks_input job result =
-    StopsFirst gives makes lacks_input job result ⊎ RunsFiles gives known makes sent commits job result
+    RunsEither (is_skipping job.task job.skips) gives known makes sent commits lacks_input job result
 
 -- a job was run over its files
 abbrev pub Runs : {R W N : Type 0} → (List ℕ → Option R → Type 0) → (R → Opened)
@@ -165,7 +244,8 @@ pub record RunsVerify {R W N : Type 0} (gives : List ℕ → Option R → Type 0
   pub ended : Result DroppedInfo RunStop
   pub made : makes [] (Ok (writer, name))
   pub verifies : IsTrue (sent writer).told
-      → Verifies gives (option_map known) (tail_of job.allow_cut) (form_by job.json) entries (sent writer).held answer
+      → Verifies gives (option_map known) (tail_of job.allow_cut) (form_by job.json job.time) entries
+      (sent writer).held answer
       (sent written).held
   pub ends : IsTrue (sent writer).told → EndsBy answer (sent written).waiting ended
   pub committed : commits name ended result

@@ -16,6 +16,7 @@ use Rattle.cap_commands.specs.declared.jobs.Finding.TheVariants.{Difference, Not
 use Rattle.cap_print.specs.Facts.{Field, begin_in, end_in, fields_in, number, one, word}
 use Rattle.cap_print.specs.declared.forms.Form.{Form}
 use Rattle.cap_print.specs.declared.forms.Form.TheVariants.{Text}
+use Rattle.cap_print.specs.declared.forms.TimeForm.TheVariants.{Exact}
 use Rattle.cap_tool.specs.CheckedNames.{AreGiven}
 use Rattle.cap_tool.specs.DigestLines.{Entry}
 use Rattle.cap_tool.specs.NameFields.{name_field}
@@ -24,7 +25,7 @@ use Rattle.cap_tool.specs.declared.verify.Verdict.TheVariants.{Same, Differs, Mi
 
 -- the line that `digest --names` prints of a file of that number and name that was checked
 abbrev pub digest_line : ℕ → List ℕ → Check → List ℕ
-digest_line file name check = check_line_in lines.Digest Text file (name_field Text true name) check
+digest_line file name check = check_line_in lines.Digest (Text Exact) file (name_field (Text Exact) true name) check
 
 -- What is said of a line: its file is missing if it can't be opened; it is the same if `digest --names` prints that
 -- very line of it, with the number and the name that the line has; or it differs.

@@ -65,8 +65,8 @@ fn check_next<O: Opener, W: Sink>(
       told = O.Reader.tells_coming s;
       bytes = O.Reader.coming s;
       can_fail = O.Reader.can_fail s;
-    }) (line_by job.now.task job.now.digests) (form_by job.now.json) (tail_of job.now.allow_cut) job.now.names
-        (map (λ n. n.now) names.now)
+    }) (line_by job.now.task job.now.digests) (form_by job.now.json job.now.time) (tail_of job.now.allow_cut)
+        job.now.names (map (λ n. n.now) names.now)
         place (W.held writer.old) result (W.held writer.new) }
     ensures writer { WriterKeeps (writer_of W.Sink writer.old) (is_write result) (writer_of W.Sink writer.new) }
 {
@@ -75,7 +75,7 @@ fn check_next<O: Opener, W: Sink>(
     tell_opened(opener, job, name, &opened);
     let reader = reader_of(opened);
     let tail = tail_of(job.allow_cut);
-    let form = form_of(job.json);
+    let form = form_of(job.json, job.time);
     let which = line_of(job.task, job.digests);
     let named = name_field(alloc, form, job.names, name)?;
     let file = place as u32 + 1;
@@ -102,8 +102,8 @@ pub fn check_named<O: Opener, W: Sink>(
       told = O.Reader.tells_coming s;
       bytes = O.Reader.coming s;
       can_fail = O.Reader.can_fail s;
-    }) (line_by job.now.task job.now.digests) (form_by job.now.json) (tail_of job.now.allow_cut) job.now.names
-        (map (λ n. n.now) names.now)
+    }) (line_by job.now.task job.now.digests) (form_by job.now.json job.now.time) (tail_of job.now.allow_cut)
+        job.now.names (map (λ n. n.now) names.now)
         (W.held writer.old) result (W.held writer.new) }
     ensures writer { WriterKeeps (writer_of W.Sink writer.old) (is_write result) (writer_of W.Sink writer.new) }
 {

@@ -57,8 +57,8 @@ pub(crate) fn put_rest<W: Sink>(
     ensures fault { IsOkUnless result Fault.Write }
 {
     match form {
-        Form::Text => put_all(writer, cut_text(file, rest).as_slice()),
-        Form::Json => {
+        Form::Text(_) => put_all(writer, cut_text(file, rest).as_slice()),
+        Form::Json(_) => {
             let fields = cut_fields(file, rest);
             put_object(fields.as_slice(), path_of(paths, file), writer)
         }

@@ -25,7 +25,7 @@ use crate::whole::AtomicOutput;
 use cap_bytes::{CutRest, Tracked, put_all};
 use cap_commands::{DroppedInfo, form_of};
 use cap_line::{Job, LineFault};
-use cap_print::Form;
+use cap_print::{Form, TimeForm};
 use std::alloc::Global;
 use std::env;
 use std::fs::File;
@@ -122,7 +122,7 @@ impl<'a, R: Files<File = File> + Clock + AllocGlobal> Opener for Host<'a, R> {
         self.progress.wipe();
         let mut faults = Tracked::new(self.streams.faults);
         // a standard error that fails doesn't change how the run ends
-        let _ = put_rest(file, rest, form_of(job.json), names, &mut faults);
+        let _ = put_rest(file, rest, form_of(job.json, job.time), names, &mut faults);
     }
 }
 
@@ -139,7 +139,14 @@ fn tell_job(
     match job {
         Some(job) if job.json => {
             let paths = job.files.as_slice();
-            tell_in(outcome, said, Form::Json, paths, output, faults)
+            tell_in(
+                outcome,
+                said,
+                Form::Json(TimeForm::Exact),
+                paths,
+                output,
+                faults,
+            )
         }
         _ => tell(outcome, said, output, faults),
     }
@@ -173,13 +180,14 @@ fn tell_networks(
     faults: &mut Tracked<Stderr>,
 ) {
     if let Some(job) = job {
-        let line = network_line(form_of(job.json), outcome, left);
+        let line = network_line(form_of(job.json, job.time), outcome, left);
         // a standard error that fails doesn't change how the run ends
         let _ = put_all(faults, line.as_slice());
     }
 }
 
-// Tells which rests of a job's files were cut and dropped, after a run that is done, or that found a difference.
+// Tells which rests of a job's files were cut and dropped, after a run that is done, that left files out, or that found
+// a difference.
 fn tell_cuts(
     job: Option<&Job<'_>>,
     outcome: &Outcome,
@@ -187,8 +195,8 @@ fn tell_cuts(
     faults: &mut Tracked<Stderr>,
 ) {
     match job {
-        Some(job) if matches!(outcome, Outcome::Done | Outcome::Differ) => {
-            let form = form_of(job.json);
+        Some(job) if matches!(outcome, Outcome::Done | Outcome::Differ | Outcome::NotWhole) => {
+            let form = form_of(job.json, job.time);
             // a standard error that fails doesn't change how the run ends
             let _ = put_cuts(&left.cuts, form, job.files.as_slice(), faults);
         }

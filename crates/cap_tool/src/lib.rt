@@ -27,6 +27,7 @@ mod regular;
 mod reserved_stdio;
 mod runs;
 mod shared;
+mod skipping;
 mod streams;
 mod systems;
 mod verify;
@@ -56,6 +57,7 @@ pub use crate::regular::{FileId, FileType, Regular};
 pub use crate::reserved_stdio::{ReservedStdio, check_input};
 pub use crate::runs::{do_job, run_job, run_words, tell_unread};
 pub use crate::shared::{OutputHandle, SharedOutput};
+pub use crate::skipping::find_refusals;
 pub use crate::streams::{
     Input, Inputs, Output, check_output, check_terminal, create_output, open_all,
 };
@@ -63,8 +65,9 @@ pub use crate::systems::System;
 pub use crate::verify::{Verdict, verify_lines};
 pub use crate::whole::{AtomicOutput, create_beside};
 pub use cap_commands::{
-    DEFAULT_OPTIONS, DiffOptions, Differences, Done, DroppedInfo, Finding, RunForm, blocks_json_to,
-    blocks_to, convert_and_count, convert_to, diff_in, diff_to, fault_line, job_to, join_and_count,
-    join_to, join_to_pcap, list_json_to, list_to, merge_and_count, merge_to, merge_to_pcap,
+    DEFAULT_OPTIONS, DiffOptions, Differences, Done, DroppedInfo, Finding, OutputFormat, RunForm,
+    blocks_json_to, blocks_to, convert_and_count, convert_to, diff_in, diff_to, fault_line, job_to,
+    join_and_count, join_to, join_to_pcap, list_json_to, list_to, merge_and_count, merge_to,
+    merge_to_pcap, output_format,
 };
 pub use cap_line::{Job, LineFault, parse};

@@ -53,8 +53,8 @@ pub(crate) fn name_field(
     ensures { IfOk result (λ field. field.items ≡ name_field form is_shown name.now) }
 {
     match form {
-        Form::Json => path_field(alloc, name),
-        Form::Text => {
+        Form::Json(_) => path_field(alloc, name),
+        Form::Text(_) => {
             if is_shown {
                 shown_field(alloc, name)
             } else {

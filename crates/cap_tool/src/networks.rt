@@ -2,6 +2,7 @@
 ghost use Rattle.std.specs.Prelude.{◌≡◌, ◌+◌, ◌*◌, ◌^◌, ◌≤◌, ◌++◌};
 ghost use Rattle.cap_print.specs.Lines.{room_in, text_in};
 ghost use Rattle.cap_print.specs.declared.forms.Form.{Form};
+ghost use Rattle.cap_print.specs.declared.forms.TimeForm.{TimeForm};
 ghost use Rattle.cap_talks.specs.table.OtherNetworks.{sum_of_networks};
 ghost use Rattle.cap_tool.specs.NetworkLine.{networks_in, networks_line, networks_line_if, networks_text};
 ghost use Rattle.cap_tool.specs.NetworkLine.{networks_told};
@@ -27,7 +28,7 @@ fn prepend_networks(line: &mut Line, counts: &OtherCounts)
 
 // `not-ipv4: ipv6 24745, arp 12, other 3`
 fn networks_text(counts: OtherCounts) -> Line
-    ensures { text_in result ≡ networks_in Form.Text counts }
+    ensures { text_in result ≡ networks_in (Form.Text TimeForm.Exact) counts }
 {
     let mut line = Line::new();
     line.prepend_text(b"\n");
@@ -38,7 +39,7 @@ fn networks_text(counts: OtherCounts) -> Line
 
 // `{"type":"not_ipv4","ipv6":24745,"arp":12,"other":3}`
 fn networks_object(counts: OtherCounts) -> Line
-    ensures { text_in result ≡ networks_in Form.Json counts }
+    ensures { text_in result ≡ networks_in (Form.Json TimeForm.Exact) counts }
 {
     let mut line = Line::new();
     line.prepend_text(b"}\n");
@@ -63,8 +64,8 @@ fn networks_line(form: Form, counts: OtherCounts) -> Line
         return Line::new();
     }
     match form {
-        Form::Text => networks_text(counts),
-        Form::Json => networks_object(counts),
+        Form::Text(_) => networks_text(counts),
+        Form::Json(_) => networks_object(counts),
     }
 }
 
@@ -81,14 +82,13 @@ fn counted_line(form: Form, counts: Option<OtherCounts>) -> Line
 /// The line that tells after a run that is done of which networks the packets are that `report` counts as `not-ipv4`:
 /// in text `not-ipv4: ipv6 24745, arp 12, other 3`, without the networks that no packet is of, and in JSON an object of
 /// all three (RFC 8259), `{"type":"not_ipv4","ipv6":24745,"arp":12,"other":3}`. There is no line if there is no such
-/// packet, nor after any other run.
+/// packet, nor after any other run than one that is done, with or without files that were left out.
 pub fn network_line(form: Form, outcome: &Outcome, left: &DroppedInfo) -> Line
     ensures { text_in result ≡ networks_told form outcome.now left.now }
 {
     match outcome {
-        Outcome::Done => counted_line(form, left.not_ipv4),
+        Outcome::Done | Outcome::NotWhole => counted_line(form, left.not_ipv4),
         Outcome::Differ
-        | Outcome::NotWhole
         | Outcome::Line(_)
         | Outcome::Fault(_)
         | Outcome::Open(_)

@@ -267,7 +267,7 @@ pub fn tell_in<O: Sink, E: Sink>(
         → E.held faults.new ≡ E.held faults.old ++ told_in form said.now result (map (λ p. p.now) paths.now) }
 {
     match form {
-        Form::Text => tell(outcome, said, output, faults),
-        Form::Json => tell_object(outcome, said, paths, output, faults),
+        Form::Text(_) => tell(outcome, said, output, faults),
+        Form::Json(_) => tell_object(outcome, said, paths, output, faults),
     }
 }

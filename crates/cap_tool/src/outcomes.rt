@@ -21,7 +21,8 @@ pub enum Outcome {
     Done,
     /// All was done, and captures that were compared or verified differ.
     Differ,
-    /// All was done, and a file that was checked isn't whole, or one that was verified is missing.
+    /// All was done, and a file that was checked isn't whole, one that was verified is missing, or one that is refused
+    /// was left out.
     NotWhole,
     /// The command line was not run.
     Line(LineFault),
@@ -44,7 +45,7 @@ pub struct RunStop {
     pub outcome: Outcome,
     /// Why it ended so.
     pub cause: Cause,
-    /// What it left out, if it found a difference.
+    /// What it left out, if it found a difference, or left files out.
     pub left: DroppedInfo,
 }
 

@@ -3,7 +3,7 @@ ghost use Rattle.std.specs.Prelude.{◌≡◌, ◌⊎◌, IfErr, IfOk, IsFalse, 
 ghost use Rattle.std.specs.Prelude.{◌≤◌, ◌-◌, length, option_map, take, vec_len};
 ghost use Rattle.std.specs.List.{list_all};
 ghost use Rattle.cap_line.specs.CommandLine.{Parses};
-ghost use Rattle.cap_line.specs.Jobs.{IsWholeJob};
+ghost use Rattle.cap_line.specs.Jobs.{IsWholeJob, is_skipping};
 ghost use Rattle.cap_line.specs.declared.faults.LineFault.{LineFault};
 ghost use Rattle.cap_line.specs.declared.jobs.Job.{Job};
 ghost use Rattle.cap_tool.specs.CheckedNames.{AreGiven};
@@ -13,7 +13,8 @@ ghost use Rattle.cap_commands.specs.JobLeft.{JobLeaves};
 ghost use Rattle.cap_commands.specs.Jobs.{finding_in};
 ghost use Rattle.cap_tool.specs.DigestLines.{entry_of};
 ghost use Rattle.cap_tool.specs.Outcomes.{is_help};
-ghost use Rattle.cap_tool.specs.Runs.{EndsBy, Runs, RunsAll, RunsBy, RunsChecks, RunsFiles, RunsJob, RunsVerified};
+ghost use Rattle.cap_tool.specs.Runs.{EndsBy, Runs, RunsAll, RunsBy, RunsChecks, RunsEither, RunsFiles, RunsJob};
+ghost use Rattle.cap_tool.specs.Runs.{RunsVerified};
 ghost use Rattle.cap_tool.specs.Runs.{RunsVerify};
 ghost use Rattle.cap_tool.specs.Runs.{StopsFirst, StopsMaking, ended_as, names_of, outcome_after};
 ghost use Rattle.cap_tool.specs.declared.outcomes.RunStop.{RunStop};
@@ -26,17 +27,18 @@ use crate::listed::{check_listed, names_and_list, read_list, texts_of};
 use crate::outcomes::{Outcome, RunStop, end_of};
 use crate::outlets::Outlet;
 use crate::reserved_stdio::check_input;
+use crate::skipping::run_skipping;
 use crate::streams::{Inputs, open_all};
 use crate::systems::System;
 use crate::verify::verify_lines;
 use cap_bytes::{Fault, Source};
 use cap_commands::{Done, DroppedInfo, Finding, NOTHING_LEFT, job_to};
-use cap_line::{Job, LineFault, NOT_UTF_8, USAGE, is_surveying, message, parse};
+use cap_line::{Job, LineFault, NOT_UTF_8, USAGE, is_skipping, is_surveying, message, parse};
 use std::alloc::Global;
 use std::convert::AsStr;
 
-// How a command ends that returned that and left that out, once what waits in its writer's buffer is written.
-fn end_in<W: Outlet>(
+/// How a command ends that returned that and left that out, once what waits in its writer's buffer is written.
+pub(crate) fn end_in<W: Outlet>(
     answer: Result<Finding, Fault>,
     left: DroppedInfo,
     writer: &mut W,
@@ -123,8 +125,8 @@ fn is_folder(folders: &[bool], file: u32) -> bool {
     }
 }
 
-// How a run ended, with the cause of a read that failed: the file is a folder.
-fn with_read_cause(
+/// How a run ended, with the cause of a read that failed: the file is a folder.
+pub(crate) fn with_read_cause(
     ended: Result<DroppedInfo, RunStop>,
     folders: &[bool],
 ) -> Result<DroppedInfo, RunStop>
@@ -199,6 +201,33 @@ fn run_checks<'n, S: System>(
     system.commit(name, ended)
 }
 
+// Does a job over a system whose files aren't opened one after another: over those that aren't refused, if it leaves
+// out the others, or over all.
+fn run_either<S: System>(
+    system: &S,
+    alloc: Global,
+    job: &Job<'_>,
+    counts: bool,
+) -> Result<DroppedInfo, RunStop>
+    requires { IsWholeJob job.now }
+    ensures runs { RunsEither (is_skipping job.now.task job.now.skips) (S.gives system.now) (λ s. record {
+      told = S.Reader.tells_coming s;
+      bytes = S.Reader.coming s;
+      can_fail = S.Reader.can_fail s;
+    }) (S.makes system.now job.now) (λ w. record {
+      told = S.Writer.tells_held w;
+      held = S.Writer.held w;
+      waiting = S.Writer.waiting w;
+    }) (S.commits system.now) (S.lacks_input system.now) job.now result }
+    ensures help { IsFalse (is_help (outcome_after result)) }
+{
+    if is_skipping(job.task, job.skips) {
+        run_skipping(system, alloc, job, counts)
+    } else {
+        run_files(system, alloc, job, counts)
+    }
+}
+
 // Does a job over a system: `digest` and `check` open their files one after another, any other job all of them before
 // it begins.
 fn run_task<S: System>(
@@ -223,7 +252,7 @@ fn run_task<S: System>(
         let names = job.files.as_slice();
         run_checks(system, alloc, job, names, names)
     } else {
-        run_files(system, alloc, job, counts)
+        run_either(system, alloc, job, counts)
     }
 }
 

@@ -19,7 +19,7 @@ use cap_bytes::{Fault, Sink, Source, Tail, put_all};
 use cap_check::{CheckLine, check_to};
 use cap_commands::{Finding, form_of, tail_of};
 use cap_line::Job;
-use cap_print::{Form, Line};
+use cap_print::{Form, Line, TimeForm};
 use std::alloc::{AllocError, Global};
 
 /// What is said of a line that `capt digest --names` printed.
@@ -60,7 +60,7 @@ fn verdict_of<R: Source>(
     }))) }
     ensures fault { IsOkUnless result Fault.Memory }
 {
-    let name = name_field(alloc, Form::Text, true, line.name.as_str())?;
+    let name = name_field(alloc, Form::Text(TimeForm::Exact), true, line.name.as_str())?;
     let mut now = Growing::new(alloc);
     let written = check_to(
         alloc,
@@ -68,7 +68,7 @@ fn verdict_of<R: Source>(
         line.number,
         tail,
         CheckLine::Digest,
-        Form::Text,
+        Form::Text(TimeForm::Exact),
         name.as_slice(),
         &mut now,
     );
@@ -145,7 +145,7 @@ fn verify_next<O: Opener, W: Sink>(
       told = O.Reader.tells_coming s;
       bytes = O.Reader.coming s;
       can_fail = O.Reader.can_fail s;
-    })) (tail_of job.now.allow_cut) (form_by job.now.json) (entry_of line.now) (W.held writer.old) result
+    })) (tail_of job.now.allow_cut) (form_by job.now.json job.now.time) (entry_of line.now) (W.held writer.old) result
         (W.held writer.new) }
     ensures writer { WriterKeeps (writer_of W.Sink writer.old) (is_write result) (writer_of W.Sink writer.new) }
 {
@@ -153,7 +153,7 @@ fn verify_next<O: Opener, W: Sink>(
     let opened = opener.open(name);
     tell_opened(opener, job, name, &opened);
     let verdict = judge(alloc, reader_of(opened), tail_of(job.allow_cut), line)?;
-    let text = verdict_line(alloc, form_of(job.json), line, verdict)?;
+    let text = verdict_line(alloc, form_of(job.json, job.time), line, verdict)?;
     put_all(writer, text.as_slice())?;
     Ok(verdict)
 }
@@ -188,8 +188,8 @@ pub fn verify_lines<O: Opener, W: Sink>(
       told = O.Reader.tells_coming s;
       bytes = O.Reader.coming s;
       can_fail = O.Reader.can_fail s;
-    })) (tail_of job.now.allow_cut) (form_by job.now.json) (map entry_of lines.now) (W.held writer.old) result
-        (W.held writer.new) }
+    })) (tail_of job.now.allow_cut) (form_by job.now.json job.now.time) (map entry_of lines.now)
+        (W.held writer.old) result (W.held writer.new) }
     ensures writer { WriterKeeps (writer_of W.Sink writer.old) (is_write result) (writer_of W.Sink writer.new) }
 {
     let mut found = Finding::Nothing;

@@ -2,7 +2,7 @@
 
 use crate::rooms::room_of;
 use cap_bytes::CutRest;
-use cap_print::Form;
+use cap_print::{Form, TimeForm};
 use cap_tool::put_cuts;
 use std::alloc::Global;
 use std::process::Abort;
@@ -39,7 +39,7 @@ fn rests_are_told(rt: HostRuntime) {
     tells(
         &rt,
         rt.alloc(),
-        Form::Text,
+        Form::Text(TimeForm::Exact),
         "cut: file 1 offset 404865, 1057 bytes dropped\n\
             cut: file 2 offset 24, 1 byte dropped\n\
             cut: file 32 offset 0, 1099511627775 bytes dropped\n",
@@ -51,7 +51,7 @@ fn rests_are_objects(rt: HostRuntime) {
     tells(
         &rt,
         rt.alloc(),
-        Form::Json,
+        Form::Json(TimeForm::Exact),
         "{\"type\":\"cut\",\"file\":1,\"offset\":404865,\"bytes\":1057,\"path\":\"a.pcap\"}\n\
             {\"type\":\"cut\",\"file\":2,\"offset\":24,\"bytes\":1,\"path\":\"b\\\"c\"}\n\
             {\"type\":\"cut\",\"file\":32,\"offset\":0,\"bytes\":1099511627775}\n",
@@ -61,6 +61,11 @@ fn rests_are_objects(rt: HostRuntime) {
 #[test]
 fn nothing_is_told_of_whole_files(rt: HostRuntime) {
     let mut writer = room_of(&rt, rt.alloc(), 8);
-    let answer = put_cuts(&[None; 32], Form::Text, PATHS.as_slice(), &mut writer);
+    let answer = put_cuts(
+        &[None; 32],
+        Form::Text(TimeForm::Exact),
+        PATHS.as_slice(),
+        &mut writer,
+    );
     assert_eq!(&rt; (answer, writer.bytes()), (Ok(()), b"".as_slice()));
 }

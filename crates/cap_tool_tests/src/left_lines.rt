@@ -3,7 +3,7 @@ use cap_bytes::{Fault, Refusal, Rule};
 use cap_class::ClassCounts;
 use cap_commands::NOTHING_LEFT;
 use cap_line::LineFault;
-use cap_print::Form;
+use cap_print::{Form, TimeForm};
 use cap_talks::OtherCounts;
 use cap_tool::{DroppedInfo, Outcome, left_lines, left_out_line, network_line};
 use cap_write::LeftOut;
@@ -211,7 +211,7 @@ fn packets_that_are_left_out_are_told(rt: HostRuntime) {
 
 // How a run ended, how many packets there are of IPv6, of ARP and of other networks, and what is printed of these, in
 // text and in JSON.
-const TOLD_OF_NETWORKS: [(Outcome, [u64; 3], [&str; 2]); 5] = [
+const TOLD_OF_NETWORKS: [(Outcome, [u64; 3], [&str; 2]); 6] = [
     (Outcome::Done, [0, 0, 0], ["", ""]),
     (
         Outcome::Done,
@@ -237,6 +237,14 @@ const TOLD_OF_NETWORKS: [(Outcome, [u64; 3], [&str; 2]); 5] = [
             "{\"type\":\"not_ipv4\",\"ipv6\":2,\"arp\":0,\"other\":7}\n",
         ],
     ),
+    (
+        Outcome::NotWhole,
+        [0, 0, 5],
+        [
+            "not-ipv4: other 5\n",
+            "{\"type\":\"not_ipv4\",\"ipv6\":0,\"arp\":0,\"other\":5}\n",
+        ],
+    ),
     (Outcome::Fault(CUT), [1, 1, 1], ["", ""]),
 ];
 
@@ -252,7 +260,7 @@ fn tells_networks(rt: &impl Abort, form: Form, outcome: &Outcome, numbers: [u64;
 #[test]
 fn networks_other_than_ipv4_are_told(rt: HostRuntime) {
     for (outcome, numbers, [text, object]) in &TOLD_OF_NETWORKS {
-        tells_networks(&rt, Form::Text, outcome, *numbers, *text);
-        tells_networks(&rt, Form::Json, outcome, *numbers, *object);
+        tells_networks(&rt, Form::Text(TimeForm::Exact), outcome, *numbers, *text);
+        tells_networks(&rt, Form::Json(TimeForm::Exact), outcome, *numbers, *object);
     }
 }

@@ -3,7 +3,7 @@
 use crate::rooms::room_of;
 use cap_bytes::{Fault, Refusal, Rule};
 use cap_line::LineFault;
-use cap_print::Form;
+use cap_print::{Form, TimeForm};
 use cap_tool::{Outcome, hint_object, outcome_object, tell_in};
 use std::alloc::Global;
 use std::process::Abort;
@@ -88,13 +88,28 @@ type Told = (Outcome, Form, &'static [u8], &'static [u8]);
 const TOLD: [Told; 4] = [
     (
         Outcome::Open(1),
-        Form::Json,
+        Form::Json(TimeForm::Exact),
         b"",
         b"{\"type\":\"fault\",\"fault\":\"open\",\"file\":1,\"path\":\"a.pcap\"}\n",
     ),
-    (Outcome::Open(1), Form::Text, b"", b"fault: open file 1\n"),
-    (Outcome::Line(LineFault::Help), Form::Json, b"said\n", b""),
-    (Outcome::Line(LineFault::Line), Form::Json, b"", b"said\n"),
+    (
+        Outcome::Open(1),
+        Form::Text(TimeForm::Exact),
+        b"",
+        b"fault: open file 1\n",
+    ),
+    (
+        Outcome::Line(LineFault::Help),
+        Form::Json(TimeForm::Exact),
+        b"said\n",
+        b"",
+    ),
+    (
+        Outcome::Line(LineFault::Line),
+        Form::Json(TimeForm::Exact),
+        b"",
+        b"said\n",
+    ),
 ];
 
 // What goes to each of two writers.

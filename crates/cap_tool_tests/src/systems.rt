@@ -1,11 +1,11 @@
 //! Runs over a system in memory: files by their names, and an output.
 ghost use Rattle.std.specs.Prelude.{if◌then◌else◌, Some, None, option_map};
 
-use cap_bytes::{CutRest, Fault, Refusal, Rule, Tracked};
+use cap_bytes::{CutRest, Fault, Refusal, Rule, Tail, Tracked};
 use cap_line::{Job, LineFault};
 use cap_tool::{
     Buffered, Cause, DroppedInfo, FileId, FileType, Opener, Outcome, RunStop, System, Told,
-    run_words,
+    find_refusals, run_words,
 };
 use std::alloc::Global;
 use std::cell::RefCell;
@@ -210,7 +210,7 @@ fn runs_over(
 }
 
 // The words, how their run ends, and what it writes.
-const RUNS: [(&[&str], Outcome, &str); 13] = [
+const RUNS: [(&[&str], Outcome, &str); 20] = [
     (&["capt", "list", "one"], Outcome::Done, LINE),
     (&["capt", "list", "two"], Outcome::Open(1), ""),
     (
@@ -256,7 +256,48 @@ const RUNS: [(&[&str], Outcome, &str); 13] = [
         "",
     ),
     (&["capt", "diff", "one"], Outcome::Line(LineFault::Line), ""),
+    (&["capt", "info", "one"], Outcome::Done, INFO),
+    (
+        &["capt", "info", "--skip-refused", "one"],
+        Outcome::Done,
+        INFO,
+    ),
+    (
+        &["capt", "info", "--skip-refused", "list", "one"],
+        Outcome::NotWhole,
+        SKIPPED,
+    ),
+    (
+        &["capt", "info", "--json", "--skip-refused", "list"],
+        Outcome::NotWhole,
+        SKIPPED_OBJECT,
+    ),
+    (
+        &["capt", "info", "--skip-refused", "list", "two"],
+        Outcome::Open(2),
+        "",
+    ),
+    (
+        &["capt", "info", "--skip-refused", "-"],
+        Outcome::Line(LineFault::Input),
+        "",
+    ),
+    (
+        &["capt", "list", "--skip-refused", "one"],
+        Outcome::Line(LineFault::Line),
+        "",
+    ),
 ];
+
+// What `info` prints of that file, and with `--skip-refused` behind one that is none.
+const INFO: &str = "files 1\n\
+    file 1 pcap packets 1 bytes 4 truncated 0 skipped 0 first 2+500000/1000000 last 2+500000/1000000\n";
+
+const SKIPPED: &str = "left out 1 offset 0 rule 1 magic\nfiles 1\n\
+    file 1 pcap packets 1 bytes 4 truncated 0 skipped 0 first 2+500000/1000000 last 2+500000/1000000\n";
+
+const SKIPPED_OBJECT: &str =
+    "{\"type\":\"left out\",\"file\":1,\"offset\":0,\"rule\":1,\"name\":\"magic\"}\n";
 
 // A pcap file is no pcapng file.
 const NO_BLOCKS: Refusal = Refusal {
@@ -271,6 +312,32 @@ fn always_memory_words_are_run(rt: HostRuntime) {
         runs(&rt, rt.alloc(), *words, *ending, *text);
     }
 }
+
+// The refusals of files by their names, found one after another.
+#[test]
+fn always_memory_refusals_are_found_by_names(rt: HostRuntime) {
+    let alloc = rt.alloc();
+    let one = hex::decode(alloc, ONE).expect(&rt, "bytes in hex");
+    let shelf = Shelf {
+        one: one.as_slice(),
+        list: LIST,
+    };
+    match find_refusals(&shelf, alloc, &["one", "list"], Tail::Refuse) {
+        Ok(found) => assert_eq!(&rt; found.as_slice(), [None, Some(NO_CAPTURE)].as_slice()),
+        Err(_) => panic!(&rt; "they are found"),
+    }
+    match find_refusals(&shelf, alloc, &["one", "two"], Tail::Refuse) {
+        Ok(_) => panic!(&rt; "it can't be opened"),
+        Err(stop) => assert_eq!(&rt; stop.outcome, Outcome::Open(2)),
+    }
+}
+
+// A list of names is no capture.
+const NO_CAPTURE: Refusal = Refusal {
+    file: 2,
+    offset: 0,
+    rule: Rule::Magic,
+};
 
 // The lines of `digest`, and of `check --digest`.
 const DIGESTS: &str = "digest 1 sha256 \

@@ -18,16 +18,19 @@ use Rattle.cap_source.specs.inner.Growing.{IfMemory}
 use Rattle.cap_source.specs.inner.Walk.{GivesPacket, ShowsItem, Walks}
 use Rattle.cap_source.specs.declared.packets.Meta.{Meta}
 use Rattle.cap_time.specs.declared.resolutions.Interface.{Interface}
+use Rattle.cap_time.specs.declared.stamps.Unit.{Unit as Fraction}
 use Rattle.cap_write.proofs.Feeding as feeding
 use Rattle.cap_write.proofs.Numbers.{write_fault-untimed}
 use Rattle.cap_write.proofs.Records as records
+use Rattle.cap_write.proofs.Units.{text-none, text-some}
 use Rattle.cap_write.specs.inner.Forms.{FormState, numbered, headed, form_text, form_refusal, form_stop, form_after}
 use Rattle.cap_write.specs.inner.Forms.{form_behind, EndsForm}
 use Rattle.cap_write.specs.inner.Interfaces.{HasUnits}
 use Rattle.cap_write.specs.Numbering.{Origins, count_of, refusal_at, refusal_by, refusal_in, with_origin, write_fault}
 use Rattle.cap_write.specs.Numbering.{numbered_of}
 use Rattle.cap_write.specs.Numbering.{numbered as numbered_in}
-use Rattle.cap_write.specs.Pcap.{header_of, packet_record, written_record_fault, records_bytes, records_refusal}
+use Rattle.cap_write.specs.Pcap.{header_of, in_unit, packet_record, records_bytes}
+use Rattle.cap_write.specs.Pcap.{records_refusal, written_record_fault}
 use Rattle.cap_write.specs.PcapRun.{run_bytes, run_refusal}
 use Rattle.cap_write.specs.Texts.{numbered_bytes, one_bytes, packets_bytes, text_behind, text_or}
 
@@ -68,19 +71,20 @@ pub OnOk-map : {E A : Type 0} (result : Result A E) (P Q : Type 0) → (P → Q)
 OnOk-map result P Q f h = grind arith
 
 -- what is written of a run that begins with a packet
-abbrev leading_text : Order → Meta → Option ℕ → List Item → List ℕ
-leading_text order meta None items = []
-leading_text order meta (Some units) items = header_bytes (header_of order meta.interface)
-    ++ records_bytes order meta.interface items
+abbrev leading_text : Option Fraction → Order → Meta → Option ℕ → List Item → List ℕ
+leading_text unit order meta None items = []
+leading_text unit order meta (Some units) items = header_bytes (header_of order (in_unit unit meta.interface))
+    ++ records_bytes order (in_unit unit meta.interface) items
 
-run-leading : (order : Order) (meta : Meta) (frame : List ℕ) (items : List Item)
-    → run_bytes order (packet meta frame ∷ items) ≡ leading_text order meta meta.units (packet meta frame ∷ items)
-run-leading order meta frame items = by meta.units refl
+run-leading : (unit : Option Fraction) (order : Order) (meta : Meta) (frame : List ℕ) (items : List Item)
+    → run_bytes unit order (packet meta frame ∷ items)
+    ≡ leading_text unit order meta meta.units (packet meta frame ∷ items)
+run-leading unit order meta frame items = by meta.units refl
   where
-    by : (units : Option ℕ) → meta.units ≡ units → run_bytes order (packet meta frame ∷ items)
-        ≡ leading_text order meta meta.units (packet meta frame ∷ items)
-    by (Some units) is = rw is refl
-    by None is = rw is refl
+    by : (units : Option ℕ) → meta.units ≡ units → run_bytes unit order (packet meta frame ∷ items)
+        ≡ leading_text unit order meta meta.units (packet meta frame ∷ items)
+    by (Some units) is = rw is (text-some unit order meta.interface _)
+    by None is = rw is (text-none unit order _)
 
 -- A packet is written, and the others after it.
 pub record Steps (order : Order) (form : FormState) (meta : Meta) (frame : List ℕ) : Type 0 where
@@ -109,10 +113,10 @@ numbered-steps order origins meta frame none =
       stop = goes.refusal;
     }
 
-headed-steps : (order : Order) (first : Interface) (meta : Meta) (frame : List ℕ)
+headed-steps : (unit : Option Fraction) (order : Order) (first : Interface) (meta : Meta) (frame : List ℕ)
     → written_record_fault first meta ≡ None
-    → Steps order (headed (Some first)) meta frame
-headed-steps order first meta frame none =
+    → Steps order (headed unit (Some first)) meta frame
+headed-steps unit order first meta frame none =
     let goes = records.plan_of-next order first meta frame none in
     record {
       text = text-step (records.plan_of order first) (records.plan_of order first) meta frame _ goes
@@ -121,17 +125,18 @@ headed-steps order first meta frame none =
       stop = goes.refusal;
     }
 
-leading-steps : (order : Order) (meta : Meta) (frame : List ℕ) → written_record_fault meta.interface meta ≡ None
-    → Steps order (headed None) meta frame
-leading-steps order meta frame none =
-    let first = meta.interface in
-    let s = headed-steps order first meta frame none in
+leading-steps : (unit : Option Fraction) (order : Order) (meta : Meta) (frame : List ℕ)
+    → written_record_fault (in_unit unit meta.interface) meta ≡ None
+    → Steps order (headed unit None) meta frame
+leading-steps unit order meta frame none =
+    let first = in_unit unit meta.interface in
+    let s = headed-steps unit order first meta frame none in
     let header = header_bytes (header_of order first) in
     let is = (timed first meta none).1 in
-    let whole : (items : List Item) → run_bytes order (packet meta frame ∷ items) ≡ header
+    let whole : (items : List Item) → run_bytes unit order (packet meta frame ∷ items) ≡ header
     ++ records_bytes order first (packet meta frame ∷ items) =
-    λ items. run-leading order meta frame items ∙ ap
-    (λ units. leading_text order meta units (packet meta frame ∷ items)) is in
+    λ items. run-leading unit order meta frame items ∙ ap
+    (λ units. leading_text unit order meta units (packet meta frame ∷ items)) is in
     let one = records_bytes order first (packet meta frame ∷ []) in
     record {
       text = λ items.
@@ -147,10 +152,10 @@ pub steps : (order : Order) (form : FormState) (meta : Meta) (frame : List ℕ)
     → form_stop form (packet meta frame ∷ []) ≡ None → Steps order form meta frame
 steps order (numbered origins) meta frame none =
     numbered-steps order origins meta frame (fault-none meta _ (sym (refusal-one origins meta frame) ∙ none))
-steps order (headed None) meta frame none = leading-steps order meta frame
-    (fault-none meta _ (sym (records-one meta.interface meta frame) ∙ none))
-steps order (headed (Some first)) meta frame none =
-    headed-steps order first meta frame (fault-none meta _ (sym (records-one first meta frame) ∙ none))
+steps order (headed unit None) meta frame none = leading-steps unit order meta frame
+    (fault-none meta _ (sym (records-one (in_unit unit meta.interface) meta frame) ∙ none))
+steps order (headed unit (Some first)) meta frame none =
+    headed-steps unit order first meta frame (fault-none meta _ (sym (records-one first meta frame) ∙ none))
 
 -- A packet is refused.
 pub record Stops (order : Order) (form : FormState) (meta : Meta) (frame : List ℕ) (r : Refusal) : Type 0 where
@@ -166,42 +171,43 @@ numbered-stops order origins meta frame rule is =
     let gives = feeding.plan_of-refused order origins meta frame rule is in
     record { text = λ items. gives.text items ∙ sym (gives.text []); refusal = gives.refusal; stop = gives.refusal }
 
-headed-stops : (order : Order) (first : Interface) (meta : Meta) (frame : List ℕ) (rule : Rule)
-    → written_record_fault first meta ≡ Some rule
-    → Stops order (headed (Some first)) meta frame (refusal_at meta rule)
-headed-stops order first meta frame rule is =
+headed-stops : (unit : Option Fraction) (order : Order) (first : Interface) (meta : Meta) (frame : List ℕ)
+    (rule : Rule) → written_record_fault first meta ≡ Some rule
+    → Stops order (headed unit (Some first)) meta frame (refusal_at meta rule)
+headed-stops unit order first meta frame rule is =
     let gives = records.plan_of-refused order first meta frame rule is in
     record { text = λ items. gives.text items ∙ sym (gives.text []); refusal = gives.refusal; stop = gives.refusal }
 
-leading-stops : (order : Order) (meta : Meta) (frame : List ℕ) (rule : Rule)
-    → written_record_fault meta.interface meta ≡ Some rule
-    → Stops order (headed None) meta frame (refusal_at meta rule)
-leading-stops order meta frame rule is =
-    let s = headed-stops order meta.interface meta frame rule is in
+leading-stops : (unit : Option Fraction) (order : Order) (meta : Meta) (frame : List ℕ) (rule : Rule)
+    → written_record_fault (in_unit unit meta.interface) meta ≡ Some rule
+    → Stops order (headed unit None) meta frame (refusal_at meta rule)
+leading-stops unit order meta frame rule is =
+    let s = headed-stops unit order (in_unit unit meta.interface) meta frame rule is in
     record {
-      text = λ items. run-leading order meta frame items
-          ∙ (same meta.units items ∙ sym (run-leading order meta frame []));
+      text = λ items. run-leading unit order meta frame items
+          ∙ (same meta.units items ∙ sym (run-leading unit order meta frame []));
       refusal = s.refusal;
       stop = s.refusal;
     }
   where
-    same : (units : Option ℕ) (items : List Item) → leading_text order meta units (packet meta frame ∷ items)
-        ≡ leading_text order meta units (packet meta frame ∷ [])
+    same : (units : Option ℕ) (items : List Item) → leading_text unit order meta units (packet meta frame ∷ items)
+        ≡ leading_text unit order meta units (packet meta frame ∷ [])
     same None items = refl
-    same (Some units) items = ap (λ t. header_bytes (header_of order meta.interface) ++ t)
-        ((headed-stops order meta.interface meta frame rule is).text items)
+    same (Some units) items = ap (λ t. header_bytes (header_of order (in_unit unit meta.interface)) ++ t)
+        ((headed-stops unit order (in_unit unit meta.interface) meta frame rule is).text items)
 
 pub stops : (order : Order) (form : FormState) (meta : Meta) (frame : List ℕ) (r : Refusal)
     → form_stop form (packet meta frame ∷ []) ≡ Some r → Stops order form meta frame r
 stops order (numbered origins) meta frame r is =
     let fault = fault-some meta _ r (sym (refusal-one origins meta frame) ∙ is) in
     subst (Stops order (numbered origins) meta frame) fault.2 (numbered-stops order origins meta frame fault.0 fault.1)
-stops order (headed None) meta frame r is =
-    let fault = fault-some meta _ r (sym (records-one meta.interface meta frame) ∙ is) in
-    subst (Stops order (headed None) meta frame) fault.2 (leading-stops order meta frame fault.0 fault.1)
-stops order (headed (Some first)) meta frame r is =
+stops order (headed unit None) meta frame r is =
+    let fault = fault-some meta _ r (sym (records-one (in_unit unit meta.interface) meta frame) ∙ is) in
+    subst (Stops order (headed unit None) meta frame) fault.2 (leading-stops unit order meta frame fault.0 fault.1)
+stops order (headed unit (Some first)) meta frame r is =
     let fault = fault-some meta _ r (sym (records-one first meta frame) ∙ is) in
-    subst (Stops order (headed (Some first)) meta frame) fault.2 (headed-stops order first meta frame fault.0 fault.1)
+    subst (Stops order (headed unit (Some first)) meta frame) fault.2
+    (headed-stops unit order first meta frame fault.0 fault.1)
 
 -- a packet without a time
 record_fault-untimed : (first : Interface) (meta : Meta) → meta.units ≡ None
@@ -219,13 +225,14 @@ untimed : (order : Order) (form : FormState) (meta : Meta) (frame : List ℕ) (i
 untimed order (numbered origins) meta frame items none =
     let gives = feeding.plan_of-refused order origins meta frame NoTime (write_fault-untimed origins meta none) in
     (gives.text items, gives.refusal items)
-untimed order (headed None) meta frame items none =
-    let gives = records.plan_of-refused order meta.interface meta frame NoTime
-    (record_fault-untimed meta.interface meta none) in (
-      run-leading order meta frame items ∙ ap (λ units. leading_text order meta units (packet meta frame ∷ items)) none,
+untimed order (headed unit None) meta frame items none =
+    let first = in_unit unit meta.interface in
+    let gives = records.plan_of-refused order first meta frame NoTime (record_fault-untimed first meta none) in (
+      run-leading unit order meta frame items
+          ∙ ap (λ units. leading_text unit order meta units (packet meta frame ∷ items)) none,
       gives.refusal items,
     )
-untimed order (headed (Some first)) meta frame items none =
+untimed order (headed unit (Some first)) meta frame items none =
     let gives = records.plan_of-refused order first meta frame NoTime (record_fault-untimed first meta none) in
     (gives.text items, gives.refusal items)
 
@@ -238,13 +245,13 @@ Prints-untimed order form meta frame items held fault h =
     let stop = untimed order form meta frame items none.0 in
     rw none.1 ((stop.1, sym (append-nil held) ∙ ap (λ t. held ++ t) (sym stop.0)))
 
-pub Prints-run-untimed : (order : Order) (meta : Meta) (frame : List ℕ) (items rest : List Item) (held : List ℕ)
-    (fault : Fault) → items ≡ packet meta frame ∷ rest
-    → HasUnits meta (Err fault) → Prints {A = Unit {0}} (run_bytes order items) (run_refusal items) held
+pub Prints-run-untimed : (unit : Option Fraction) (order : Order) (meta : Meta) (frame : List ℕ)
+    (items rest : List Item) (held : List ℕ) (fault : Fault) → items ≡ packet meta frame ∷ rest
+    → HasUnits meta (Err fault) → Prints {A = Unit {0}} (run_bytes unit order items) (run_refusal unit items) held
     (Err fault) held
-Prints-run-untimed order meta frame items rest held fault is h =
-    subst (λ all. Prints {A = Unit {0}} (run_bytes order all) (run_refusal all) held (Err fault) held) (sym is)
-    (Prints-untimed order (headed None) meta frame rest held fault h)
+Prints-run-untimed unit order meta frame items rest held fault is h =
+    subst (λ all. Prints {A = Unit {0}} (run_bytes unit order all) (run_refusal unit all) held (Err fault) held)
+    (sym is) (Prints-untimed order (headed unit None) meta frame rest held fault h)
 
 -- a packet alone
 text-one : (order : Order) (origins : Origins) (meta : Meta) (frame : List ℕ)
@@ -277,13 +284,13 @@ pub Prints-numbered : (order : Order) (form : FormState) (origins : Origins) (me
 Prints-numbered order form origins meta frame held new result is h =
     rw (is, text-one order origins meta frame, refusal-one origins meta frame) h
 
-pub Prints-headed : (order : Order) (form : FormState) (first : Interface) (meta : Meta) (frame held new : List ℕ)
-    (result : Result (Unit {0}) Fault) → form ≡ headed (Some first)
+pub Prints-headed : (unit : Option Fraction) (order : Order) (form : FormState) (first : Interface) (meta : Meta)
+    (frame held new : List ℕ) (result : Result (Unit {0}) Fault) → form ≡ headed unit (Some first)
     → Prints {A = Unit {0}} (text_or (written_record_fault first meta) (packet_record order first meta frame))
     (refusal_by meta (written_record_fault first meta)) held result new
     → Prints {A = Unit {0}} (form_text order form (packet meta frame ∷ []))
     (form_stop form (packet meta frame ∷ [])) held result new
-Prints-headed order form first meta frame held new result is h =
+Prints-headed unit order form first meta frame held new result is h =
     rw (is, record-one order first meta frame, records-one first meta frame) h
 
 pub after-numbered : (form : FormState) (origins origins_new : Origins) (meta : Meta) (frame : List ℕ)
@@ -293,42 +300,45 @@ pub after-numbered : (form : FormState) (origins origins_new : Origins) (meta : 
 after-numbered form origins origins_new meta frame is h =
     rw is ((ap numbered h.0, refusal-one origins meta frame ∙ ap (refusal_by meta) h.1))
 
-pub after-headed : (form : FormState) (first : Interface) (meta : Meta) (frame : List ℕ) → form ≡ headed (Some first)
+pub after-headed : (unit : Option Fraction) (form : FormState) (first : Interface) (meta : Meta) (frame : List ℕ)
+    → form ≡ headed unit (Some first)
     → written_record_fault first meta ≡ None
     → (form ≡ form_after form meta) × (form_stop form (packet meta frame ∷ []) ≡ None)
-after-headed form first meta frame is none = rw is ((refl, records-one first meta frame ∙ ap (refusal_by meta) none))
+after-headed unit form first meta frame is none =
+    rw is ((refl, records-one first meta frame ∙ ap (refusal_by meta) none))
 
-pub after-leading : (meta : Meta) (frame : List ℕ) → written_record_fault meta.interface meta ≡ None
-    → run_refusal (packet meta frame ∷ []) ≡ None
-after-leading meta frame none = records-one meta.interface meta frame ∙ ap (refusal_by meta) none
+pub after-leading : (unit : Option Fraction) (meta : Meta) (frame : List ℕ)
+    → written_record_fault (in_unit unit meta.interface) meta ≡ None → run_refusal unit (packet meta frame ∷ []) ≡ None
+after-leading unit meta frame none = records-one (in_unit unit meta.interface) meta frame ∙ ap (refusal_by meta) none
 
-run-timed : (order : Order) (meta : Meta) (frame : List ℕ) (units : ℕ) → meta.units ≡ Some units
-    → run_bytes order (packet meta frame ∷ []) ≡ header_bytes (header_of order meta.interface)
-    ++ records_bytes order meta.interface (packet meta frame ∷ [])
-run-timed order meta frame units is = run-leading order meta frame []
-    ∙ ap (λ u. leading_text order meta u (packet meta frame ∷ [])) is
+run-timed : (unit : Option Fraction) (order : Order) (meta : Meta) (frame : List ℕ) (units : ℕ)
+    → meta.units ≡ Some units
+    → run_bytes unit order (packet meta frame ∷ []) ≡ header_bytes (header_of order (in_unit unit meta.interface))
+    ++ records_bytes order (in_unit unit meta.interface) (packet meta frame ∷ [])
+run-timed unit order meta frame units is = run-leading unit order meta frame []
+    ∙ ap (λ u. leading_text unit order meta u (packet meta frame ∷ [])) is
 
-pub Prints-leading : (order : Order) (meta : Meta) (frame : List ℕ) (units : ℕ) (held new : List ℕ)
-    (result : Result (Unit {0}) Fault) → meta.units ≡ Some units
-    → Prints {A = Unit {0}} (header_bytes (header_of order meta.interface)
-    ++ records_bytes order meta.interface (packet meta frame ∷ []))
-    (run_refusal (packet meta frame ∷ [])) held result new
-    → Prints {A = Unit {0}} (run_bytes order (packet meta frame ∷ []))
-    (run_refusal (packet meta frame ∷ [])) held result new
-Prints-leading order meta frame units held new result is h =
-    subst (λ text. Prints {A = Unit {0}} text (run_refusal (packet meta frame ∷ [])) held result new)
-    (sym (run-timed order meta frame units is)) h
+pub Prints-leading : (unit : Option Fraction) (order : Order) (meta : Meta) (frame : List ℕ) (units : ℕ)
+    (held new : List ℕ) (result : Result (Unit {0}) Fault) → meta.units ≡ Some units
+    → Prints {A = Unit {0}} (header_bytes (header_of order (in_unit unit meta.interface))
+    ++ records_bytes order (in_unit unit meta.interface) (packet meta frame ∷ []))
+    (run_refusal unit (packet meta frame ∷ [])) held result new
+    → Prints {A = Unit {0}} (run_bytes unit order (packet meta frame ∷ []))
+    (run_refusal unit (packet meta frame ∷ [])) held result new
+Prints-leading unit order meta frame units held new result is h =
+    subst (λ text. Prints {A = Unit {0}} text (run_refusal unit (packet meta frame ∷ [])) held result new)
+    (sym (run-timed unit order meta frame units is)) h
 
 -- nothing
 pub text-nothing : (order : Order) (form : FormState) → form_text order form [] ≡ []
 text-nothing order (numbered origins) = (feeding.plan_of-is order origins).text_none
-text-nothing order (headed None) = refl
-text-nothing order (headed (Some first)) = (records.plan_of-is order first).text_none
+text-nothing order (headed unit None) = text-none unit order []
+text-nothing order (headed unit (Some first)) = (records.plan_of-is order first).text_none
 
 pub stop-nothing : (order : Order) (form : FormState) → form_stop form [] ≡ None
 stop-nothing order (numbered origins) = (feeding.plan_of-is order origins).refusal_none
-stop-nothing order (headed None) = refl
-stop-nothing order (headed (Some first)) = (records.plan_of-is order first).refusal_none
+stop-nothing order (headed unit None) = refl
+stop-nothing order (headed unit (Some first)) = (records.plan_of-is order first).refusal_none
 
 -- a refusal
 pub record First (order : Order) (form : FormState) (r : Refusal) (items : List Item) : Type 0 where
@@ -339,8 +349,13 @@ pub record First (order : Order) (form : FormState) (r : Refusal) (items : List 
 pub first : (order : Order) (form : FormState) (r : Refusal) (items : List Item) → First order form r items
 unfolding numbered_in packets_bytes refusal_in records_bytes records_refusal
 first order (numbered origins) r items = record { text = refl; refusal = refl; stop = refl }
-first order (headed None) r items = record { text = refl; refusal = refl; stop = refl }
-first order (headed (Some header)) r items = record { text = refl; refusal = refl; stop = refl }
+first order (headed unit None) r items =
+    record {
+      text = text-none unit order (refused r ∷ items);
+      refusal = refl;
+      stop = refl;
+    }
+first order (headed unit (Some header)) r items = record { text = refl; refusal = refl; stop = refl }
 
 -- what is written of some items and of others after them, if none of the first is refused
 pub behind : (order : Order) (form : FormState) (items rest : List Item) → form_stop form items ≡ None
@@ -455,31 +470,32 @@ Prints-ended order form result text refusal from to items ends none p t same =
     by : (form : FormState) → EndsForm form result → refusal ≡ form_refusal form [] → to.held ≡ from.held ++ text
         → Prints {A = Unit {0}} text refusal from.held result to.held
     by (numbered origins) ends is wrote = rw ends ((is ∙ (feeding.plan_of-is order origins).refusal_none, wrote))
-    by (headed None) ends is wrote = rw ends ((is, wrote))
-    by (headed (Some header)) ends is wrote = rw ends ((is ∙ (records.plan_of-is order header).refusal_none, wrote))
+    by (headed unit None) ends is wrote = rw ends ((is, wrote))
+    by (headed unit (Some header)) ends is wrote =
+        rw ends ((is ∙ (records.plan_of-is order header).refusal_none, wrote))
 
 pub Walks-ended : (form : FormState) (result : Result (Unit {0}) Fault) (old mid new : Feed) → EndsForm form result
     → Went old mid → GivesPacket mid (Ok None) new
     → Walks {A = Unit {0}} old result new
 Walks-ended (numbered origins) result old mid new ends w p = rw ends ((p.known, Goes-behind old mid new w.lasts p.goes))
-Walks-ended (headed None) result old mid new ends w p = rw ends (Goes-behind old mid new w.lasts p.goes)
-Walks-ended (headed (Some header)) result old mid new ends w p =
+Walks-ended (headed unit None) result old mid new ends w p = rw ends (Goes-behind old mid new w.lasts p.goes)
+Walks-ended (headed unit (Some header)) result old mid new ends w p =
     rw ends ((p.known, Goes-behind old mid new w.lasts p.goes))
 
 pub OnOk-ended : (form : FormState) (result : Result (Unit {0}) Fault) (P : Type 0) → EndsForm form result → P
     → OnOk result P
 OnOk-ended (numbered origins) result P ends p = rw ends p
-OnOk-ended (headed None) result P ends p = rw ends tt
-OnOk-ended (headed (Some header)) result P ends p = rw ends p
+OnOk-ended (headed unit None) result P ends p = rw ends tt
+OnOk-ended (headed unit (Some header)) result P ends p = rw ends p
 
 pub memory-ended : (form : FormState) (result : Result (Unit {0}) Fault) (P : Type 0) → EndsForm form result
     → IfMemory result P
 memory-ended (numbered origins) result P ends = rw ends tt
-memory-ended (headed None) result P ends = rw ends tt
-memory-ended (headed (Some header)) result P ends = rw ends tt
+memory-ended (headed unit None) result P ends = rw ends tt
+memory-ended (headed unit (Some header)) result P ends = rw ends tt
 
 pub unwritten-ended : (form : FormState) (result : Result (Unit {0}) Fault) → EndsForm form result
     → is_write result ≡ false
 unwritten-ended (numbered origins) result ends = ap is_write ends
-unwritten-ended (headed None) result ends = ap is_write ends
-unwritten-ended (headed (Some header)) result ends = ap is_write ends
+unwritten-ended (headed unit None) result ends = ap is_write ends
+unwritten-ended (headed unit (Some header)) result ends = ap is_write ends

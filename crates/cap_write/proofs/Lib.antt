@@ -11,5 +11,6 @@ pub mod Peeking
 pub mod Places
 pub mod Records
 pub mod Starting
+pub mod Units
 mod Writing
 pub mod Written

@@ -4,4 +4,5 @@ pub mod Numbering
 pub mod Pcap
 pub mod PcapRun
 pub mod Texts
+pub mod Units
 pub mod inner

@@ -1,6 +1,6 @@
 -- What is written of one file as pcap (draft-ietf-opsawg-pcap, 4 and 5; rules 17 to 21).
 use Rattle.std.specs.Prelude.{◌==◌, ◌%◌, ◌^◌, not, ◌&&◌, ℕ, ℤ, pos, nat_abs, int_le, int_lt, if◌then◌else◌, Bool, List}
-use Rattle.std.specs.Prelude.{[], ◌∷◌, ◌++◌, Option, Some, None, is_none}
+use Rattle.std.specs.Prelude.{[], ◌∷◌, ◌++◌, Option, Some, None, is_none, option_map}
 use Rattle.cap_bytes.specs.declared.faults.Refusal.{Refusal}
 use Rattle.cap_bytes.specs.declared.faults.Rule.{Rule}
 use Rattle.cap_bytes.specs.declared.faults.Rule.TheVariants.{NoTime, LinkMixed, Inexact, TimeRange, NoInterface}
@@ -8,6 +8,7 @@ use Rattle.cap_bytes.specs.declared.numbers.Order.{Order}
 use Rattle.cap_pcap.specs.Grammar.{header_bytes, record_bytes}
 use Rattle.cap_pcap.specs.declared.headers.PcapHeader.{PcapHeader}
 use Rattle.cap_source.specs.Feed.{Item, packet, refused}
+use Rattle.cap_source.specs.Items.{resolution_of_unit}
 use Rattle.cap_source.specs.declared.packets.Meta.{Meta}
 use Rattle.cap_time.specs.Resolution.{units_of}
 use Rattle.cap_time.specs.Stamp.{stamp_in, whole_of}
@@ -17,6 +18,17 @@ use Rattle.cap_time.specs.declared.stamps.Unit.{Unit as Fraction}
 use Rattle.cap_time.specs.declared.stamps.Unit.TheVariants.{Micro, Nano}
 use Rattle.cap_write.specs.Numbering.{refusal_or}
 use Rattle.cap_write.specs.Texts.{text_or}
+
+-- An interface whose times count in the unit that is asked for, if one is, in place of its own. With it as the first
+-- interface a header has that unit, and times are written in it.
+abbrev pub in_unit : Option Fraction → Interface → Interface
+in_unit None first = first
+in_unit (Some unit) first = record first { resolution = resolution_of_unit unit }
+
+-- the same of a first interface, if there is one
+abbrev pub first_in_unit : Option Fraction → Option Interface → Option Interface
+first_in_unit None first = first
+first_in_unit (Some unit) first = option_map (in_unit (Some unit)) first
 
 -- The fraction of a second in which times are written: microseconds if each unit of the first
 -- interface is a whole number of them, else nanoseconds.

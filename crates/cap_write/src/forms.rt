@@ -8,23 +8,25 @@ ghost use Rattle.cap_write.specs.PcapRun.{run_bytes, run_refusal};
 
 use crate::interfaces::{Origins, units_of};
 use crate::packets::put_one;
-use crate::pcap::{header_of, no_interface, put_after_header};
+use crate::pcap::{header_of, in_unit, no_interface, put_after_header};
 use cap_bytes::{Fault, Order, Sink};
 use cap_pcap::put_header;
 use cap_source::Meta;
-use cap_time::Interface;
+use cap_time::{Interface, Unit};
 
 /// A file that is being written.
 #[derive(Drop)]
 pub(crate) enum WrittenForm {
     /// A pcapng file, with the origins of the interfaces that it has described.
     Pcapng(Origins),
-    /// A pcap file, with the interface of its header, once that is written.
-    Pcap(Option<Interface>),
+    /// A pcap file, with the unit that is asked for, and the interface of its header, once that is written.
+    Pcap(Option<Unit>, Option<Interface>),
 }
 
-// Writes the first packet of a pcap file, after the header of its interface, or returns why it isn't written.
+// Writes the first packet of a pcap file, after the header of its interface in the unit that is asked for, or returns
+// why it isn't written.
 fn put_leading<W: Sink>(
+    unit: Option<Unit>,
     order: Order,
     meta: &Meta,
     frame: &[u8],
@@ -32,19 +34,22 @@ fn put_leading<W: Sink>(
 ) -> Result<(), Fault>
     requires captured { length frame.now ≤ 262144 }
     ensures text { IsTrue (W.tells_held writer.old)
-        → Prints (run_bytes order (packet meta.now frame.now ∷ [])) (run_refusal (packet meta.now frame.now ∷ []))
+        → Prints (run_bytes unit order (packet meta.now frame.now ∷ []))
+        (run_refusal unit (packet meta.now frame.now ∷ []))
         (W.held writer.old) result (W.held writer.new) }
-    ensures whole { OnOk result (run_refusal (packet meta.now frame.now ∷ []) ≡ None) }
+    ensures whole { OnOk result (run_refusal unit (packet meta.now frame.now ∷ []) ≡ None) }
     ensures writer { WriterKeeps (writer_of W.Sink writer.old) (is_write result) (writer_of W.Sink writer.new) }
     ensures read { IsReadFault result → ⊥ }
 {
     units_of(meta)?;
-    put_header(writer, &header_of(order, &meta.interface))?;
-    put_after_header(&meta.interface, order, meta, frame, writer)
+    let first = in_unit(unit, meta.interface);
+    put_header(writer, &header_of(order, &first))?;
+    put_after_header(&first, order, meta, frame, writer)
 }
 
 // Writes a packet of a pcap file, which has that header if it has one, or returns why it isn't written.
 fn put_headed<W: Sink>(
+    unit: Option<Unit>,
     first: &mut Option<Interface>,
     order: Order,
     meta: &Meta,
@@ -53,19 +58,19 @@ fn put_headed<W: Sink>(
 ) -> Result<(), Fault>
     requires captured { length frame.now ≤ 262144 }
     ensures text { IsTrue (W.tells_held writer.old)
-        → Prints (form_text order (headed first.old) (packet meta.now frame.now ∷ []))
-        (form_stop (headed first.old) (packet meta.now frame.now ∷ []))
+        → Prints (form_text order (headed unit first.old) (packet meta.now frame.now ∷ []))
+        (form_stop (headed unit first.old) (packet meta.now frame.now ∷ []))
         (W.held writer.old) result (W.held writer.new) }
-    ensures form { OnOk result ((headed first.new ≡ form_after (headed first.old) meta.now)
-        × (form_stop (headed first.old) (packet meta.now frame.now ∷ []) ≡ None)) }
+    ensures form { OnOk result ((headed unit first.new ≡ form_after (headed unit first.old) meta.now)
+        × (form_stop (headed unit first.old) (packet meta.now frame.now ∷ []) ≡ None)) }
     ensures writer { WriterKeeps (writer_of W.Sink writer.old) (is_write result) (writer_of W.Sink writer.new) }
     ensures read { IsReadFault result → ⊥ }
 {
     if let Some(header) = *first {
         return put_after_header(&header, order, meta, frame, writer);
     }
-    put_leading(order, meta, frame, writer)?;
-    *first = Some(meta.interface);
+    put_leading(unit, order, meta, frame, writer)?;
+    *first = Some(in_unit(unit, meta.interface));
     Ok(())
 }
 
@@ -91,7 +96,7 @@ pub(crate) fn put_in<W: Sink>(
 {
     match form {
         WrittenForm::Pcapng(origins) => put_one(origins, order, meta, frame, writer),
-        WrittenForm::Pcap(first) => put_headed(first, order, meta, frame, writer),
+        WrittenForm::Pcap(unit, first) => put_headed(*unit, first, order, meta, frame, writer),
     }
 }
 
@@ -101,7 +106,7 @@ pub(crate) fn end_of(form: &WrittenForm) -> Result<(), Fault>
 {
     match form {
         WrittenForm::Pcapng(_) => Ok(()),
-        WrittenForm::Pcap(Some(_)) => Ok(()),
-        WrittenForm::Pcap(None) => Err(no_interface(1)),
+        WrittenForm::Pcap(_, Some(_)) => Ok(()),
+        WrittenForm::Pcap(_, None) => Err(no_interface(1)),
     }
 }

@@ -49,6 +49,7 @@ impl Origins {
     }
 
     /// How many they are.
+    #[inline(always)]
     pub(crate) fn count(&self) -> usize
         ensures { result ≡ count_of (origins_of self.now) }
     {
@@ -113,6 +114,7 @@ fn is_full<K: Eq + Hash>(used: &IndexSet<K>, key: &K) -> bool
 
 // Whether a packet's interface is the first that was used. Of a file with one interface all are, and this costs less
 // than to look it up.
+#[inline(always)]
 fn is_first<K: Eq + Hash>(used: &IndexSet<K>, key: &K) -> bool
     ensures { result ≡ is_leading K.eq used.now.keys key.now }
 {
@@ -123,6 +125,7 @@ fn is_first<K: Eq + Hash>(used: &IndexSet<K>, key: &K) -> bool
 }
 
 // The number of a packet's interface, which `key` tells from the others: it is the next one if it wasn't used before.
+#[inline(always)]
 fn number_in<K: Eq + Hash + Copy>(used: &mut IndexSet<K>, key: K, meta: &Meta) -> Result<u32, Fault>
     requires limit { length used.old.keys ≤ 1024 }
     ensures answer { NumbersKey K.eq key meta.now used.old.keys result used.new.keys }
@@ -142,6 +145,7 @@ fn number_in<K: Eq + Hash + Copy>(used: &mut IndexSet<K>, key: K, meta: &Meta) -
 
 /// The number of a packet's interface, which is the next one if it wasn't used before. `Refused`
 /// comes if it would be the 1,025th, `Memory` if a growth was refused.
+#[inline(always)]
 pub(crate) fn number_of(origins: &mut Origins, meta: &Meta) -> Result<u32, Fault>
     requires time { IsSome meta.now.units }
     requires limit { count_of (origins_of origins.old) ≤ 1024 }

@@ -30,7 +30,7 @@ use cap_bytes::{Fault, Order, Sink};
 use cap_join::Joiner;
 use cap_merge::{Merged, RunPacket};
 use cap_source::{Meta, PacketFeed};
-use cap_time::Interface;
+use cap_time::{Interface, Unit};
 use std::alloc::Global;
 
 // LINKTYPE_RAW: no link header, an IPv4 or IPv6 packet.
@@ -209,13 +209,14 @@ pub fn write_joined_pcap_and_count<F: PacketFeed, W: Sink>(
     alloc: Global,
     merged: &mut Merged<F>,
     order: Order,
+    unit: Option<Unit>,
     left: &mut Option<LeftOut>,
     writer: &mut W,
 ) -> Result<(), Fault>
     requires none { CountsLeftOut left.old [] }
     ensures text { IsTrue (merged_feed (parts_of merged.old)).told → IsTrue (W.tells_held writer.old)
-        → Prints (joined_pcap_bytes order (run_of (parts_of merged.old)))
-        (joined_pcap_refusal (run_of (parts_of merged.old)))
+        → Prints (joined_pcap_bytes unit order (run_of (parts_of merged.old)))
+        (joined_pcap_refusal unit (run_of (parts_of merged.old)))
         (W.held writer.old) result (W.held writer.new) }
     ensures writer { WriterKeeps (writer_of W.Sink writer.old) (is_write result) (writer_of W.Sink writer.new) }
     ensures walks { Walks (merged_feed (parts_of merged.old)) result (merged_feed (parts_of merged.new)) }
@@ -227,13 +228,13 @@ pub fn write_joined_pcap_and_count<F: PacketFeed, W: Sink>(
     ensures memory { IfMemory result (IsAtPacket (merged_feed (parts_of merged.new)).known) }
     ensures keeps { FeedKeeps (merged_feed (parts_of merged.old)) (merged_feed (parts_of merged.new)) }
 {
-    let mut headed = WrittenForm::Pcap(None);
+    let mut headed = WrittenForm::Pcap(unit, None);
     put_joined(alloc, merged, order, &mut headed, left, writer)
 }
 
 /// Writes the datagrams of a run of packets as a pcap file (draft-ietf-opsawg-pcap, 4 and 5) in that byte order: the
-/// datagrams that `write_joined` writes, with link 101 and no snaplen, in microseconds if each unit of the first
-/// datagram's interface is a whole number of them, else in nanoseconds.
+/// datagrams that `write_joined` writes, with link 101 and no snaplen, in the unit that is asked for, else in
+/// microseconds if each unit of the first datagram's interface is a whole number of them, else in nanoseconds.
 ///
 /// Returns `Refused` at a packet that has no time (rule 17, no-time), whatever it holds, at one that completes a
 /// datagram and has a time that isn't whole in that fraction (19, inexact) or one whose seconds are below 0 or above
@@ -245,11 +246,12 @@ pub fn write_joined_pcap<F: PacketFeed, W: Sink>(
     alloc: Global,
     merged: &mut Merged<F>,
     order: Order,
+    unit: Option<Unit>,
     writer: &mut W,
 ) -> Result<(), Fault>
     ensures text { IsTrue (merged_feed (parts_of merged.old)).told → IsTrue (W.tells_held writer.old)
-        → Prints (joined_pcap_bytes order (run_of (parts_of merged.old)))
-        (joined_pcap_refusal (run_of (parts_of merged.old)))
+        → Prints (joined_pcap_bytes unit order (run_of (parts_of merged.old)))
+        (joined_pcap_refusal unit (run_of (parts_of merged.old)))
         (W.held writer.old) result (W.held writer.new) }
     ensures writer { WriterKeeps (writer_of W.Sink writer.old) (is_write result) (writer_of W.Sink writer.new) }
     ensures walks { Walks (merged_feed (parts_of merged.old)) result (merged_feed (parts_of merged.new)) }
@@ -259,5 +261,5 @@ pub fn write_joined_pcap<F: PacketFeed, W: Sink>(
     ensures keeps { FeedKeeps (merged_feed (parts_of merged.old)) (merged_feed (parts_of merged.new)) }
 {
     let mut left = None;
-    write_joined_pcap_and_count(alloc, merged, order, &mut left, writer)
+    write_joined_pcap_and_count(alloc, merged, order, unit, &mut left, writer)
 }

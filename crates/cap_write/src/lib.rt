@@ -18,6 +18,6 @@ pub use crate::files::{to_pcap, to_pcapng};
 pub use crate::joined::{
     write_joined, write_joined_and_count, write_joined_pcap, write_joined_pcap_and_count,
 };
-pub use crate::laws::left_out_law;
+pub use crate::laws::{asked_unit, left_out_law};
 pub use crate::left_out::{LeftOut, NO_PACKETS_LEFT_OUT};
 pub use crate::merged::{write_merged, write_merged_pcap, write_merged_sharing};

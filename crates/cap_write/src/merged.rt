@@ -12,10 +12,11 @@ ghost use Rattle.cap_write.specs.inner.Interfaces.{origins_of};
 
 use crate::interfaces::{Origins, units_of};
 use crate::packets::put_packets;
-use crate::pcap::{no_interface, put_file};
+use crate::pcap::{in_unit, no_interface, put_file};
 use cap_blocks::put_section;
 use cap_bytes::{Fault, Order, Sink};
 use cap_source::{PacketFeed, next_packet};
+use cap_time::Unit;
 use std::alloc::Global;
 
 // Writes a section header, and the packets of a feed after it, whose interfaces are told apart by `origins`.
@@ -87,20 +88,21 @@ pub fn write_merged_sharing<F: PacketFeed, W: Sink>(
 }
 
 /// Writes the packets of a feed as a pcap file (draft-ietf-opsawg-pcap, 4 and 5) in that byte order, with the link and
-/// the snaplen of the first packet's interface, in microseconds if each unit of that interface is a whole number of
-/// them, else in nanoseconds. Returns `Refused`, in this order, at a packet that has no time (rule 17, no-time), has
-/// another link (18, link-mixed), has a time that isn't whole in that fraction (19, inexact) or one whose seconds are
-/// below 0 or above 4,294,967,295 (20, time-range), and if the feed's packets end in a refusal: what is written is the
-/// text of the packets before it. Nothing is written if the first packet has no time, or if no packet comes: then rule
-/// 21, no-interface, is returned of file 1, unless the feed ends in a refusal. After `Read`, `Write` or `Memory` a
-/// prefix of the text is written.
+/// the snaplen of the first packet's interface, in the unit that is asked for, else in microseconds if each unit of
+/// that interface is a whole number of them, else in nanoseconds. Returns `Refused`, in this order, at a packet that
+/// has no time (rule 17, no-time), has another link (18, link-mixed), has a time that isn't whole in that fraction (19,
+/// inexact) or one whose seconds are below 0 or above 4,294,967,295 (20, time-range), and if the feed's packets end in
+/// a refusal: what is written is the text of the packets before it. Nothing is written if the first packet has no time,
+/// or if no packet comes: then rule 21, no-interface, is returned of file 1, unless the feed ends in a refusal. After
+/// `Read`, `Write` or `Memory` a prefix of the text is written.
 pub fn write_merged_pcap<F: PacketFeed, W: Sink>(
     feed: &mut F,
     order: Order,
+    unit: Option<Unit>,
     writer: &mut W,
 ) -> Result<(), Fault>
     ensures text { IsTrue (F.feed feed.old).told → IsTrue (W.tells_held writer.old)
-        → Prints (run_bytes order (F.feed feed.old).items) (run_refusal (F.feed feed.old).items)
+        → Prints (run_bytes unit order (F.feed feed.old).items) (run_refusal unit (F.feed feed.old).items)
         (W.held writer.old) result (W.held writer.new) }
     ensures writer { WriterKeeps (writer_of W.Sink writer.old) (is_write result) (writer_of W.Sink writer.new) }
     ensures walks { Walks (F.feed feed.old) result (F.feed feed.new) }
@@ -111,7 +113,7 @@ pub fn write_merged_pcap<F: PacketFeed, W: Sink>(
     match next_packet(feed)? {
         Some(meta) => {
             units_of(&meta)?;
-            put_file(feed, order, &meta.interface, writer)
+            put_file(feed, order, &in_unit(unit, meta.interface), writer)
         }
         None => Err(no_interface(1)),
     }

@@ -5,7 +5,9 @@ ghost use Rattle.cap_bytes.specs.Printing.{Prints, IsReadFault, is_write};
 ghost use Rattle.cap_source.specs.Feed.{FeedKeeps};
 ghost use Rattle.cap_source.specs.inner.Walk.{Walks, SameEndings};
 ghost use Rattle.cap_source.specs.inner.Growing.{IfMemory};
-ghost use Rattle.cap_write.specs.Pcap.{fraction_of, header_of, packet_record, written_record_fault, records_bytes};
+ghost use Rattle.cap_source.specs.Items.{resolution_of_unit};
+ghost use Rattle.cap_write.specs.Pcap.{first_in_unit, fraction_of, header_of, in_unit, packet_record, records_bytes};
+ghost use Rattle.cap_write.specs.Pcap.{written_record_fault};
 ghost use Rattle.cap_write.specs.Pcap.{records_refusal, pcap_bytes, pcap_refusal, bare_refusal};
 ghost use Rattle.cap_write.specs.inner.Times.{HasTime, HasRecord, IsBare};
 ghost use Rattle.cap_write.specs.Texts.{text_or};
@@ -15,10 +17,45 @@ use crate::interfaces::{FileStart, refused, units_of};
 use cap_bytes::{Fault, Order, Refusal, Rule, Sink};
 use cap_pcap::{PcapHeader, RecordTime, put_header, put_record};
 use cap_source::{Head, Meta, PacketFeed, next_packet};
-use cap_time::{Interface, Stamp, Unit};
+use cap_time::{Interface, Resolution, Stamp, Unit};
 
 // How many microseconds there are in a second.
 const MICROSECONDS: u64 = 1_000_000;
+
+// The resolution of times that count in a unit.
+#[tactic(auto, using(cap_source::proofs::Resolutions::same_of_unit))]
+fn resolution_of(unit: Unit) -> Resolution
+    ensures { result ≡ resolution_of_unit unit }
+{
+    match unit {
+        Unit::Micro => Resolution::from_code(6).unwrap(),
+        Unit::Nano => Resolution::from_code(9).unwrap(),
+    }
+}
+
+/// An interface whose times count in the unit that is asked for, if one is, in place of its own.
+pub(crate) fn in_unit(unit: Option<Unit>, first: Interface) -> Interface
+    ensures { result ≡ in_unit unit first }
+{
+    match unit {
+        Some(unit) => {
+            let mut in_unit = first;
+            in_unit.resolution = resolution_of(unit);
+            in_unit
+        }
+        None => first,
+    }
+}
+
+// The same of a first interface, if there is one.
+fn first_in_unit(unit: Option<Unit>, first: Option<Interface>) -> Option<Interface>
+    ensures { result ≡ first_in_unit unit first }
+{
+    match first {
+        Some(first) => Some(in_unit(unit, first)),
+        None => None,
+    }
+}
 
 // The fraction of a second in which times are written.
 fn fraction_of(first: &Interface) -> Unit
@@ -164,22 +201,23 @@ fn refuse_bare<F: PacketFeed>(feed: &mut F, file: u32) -> Result<(), Fault>
 }
 
 /// Writes the packets of a feed as the pcap file (draft-ietf-opsawg-pcap, 4 and 5), in that byte order, of a file of
-/// that number with that first interface: with its link and its snaplen, in microseconds if each of its units is a
-/// whole number of them, else in nanoseconds. Returns `Refused`, in this order, at a packet that has no time (rule 17,
-/// no-time), has another link (18, link-mixed), has a time that isn't whole in that fraction (19, inexact) or one whose
-/// seconds are below 0 or above 4,294,967,295 (20, time-range), and if the feed's items end in a refusal: what is
-/// written is the text of the packets before it. If there is no first interface, the feed's own refusal, or rule 21,
-/// no-interface, is returned, and nothing is written. After `Read`, `Write` or `Memory` a prefix of the text is
-/// written.
+/// that number with that first interface: with its link and its snaplen, in the unit that is asked for, else in
+/// microseconds if each of its units is a whole number of them, else in nanoseconds. Returns `Refused`, in this order,
+/// at a packet that has no time (rule 17, no-time), has another link (18, link-mixed), has a time that isn't whole in
+/// that fraction (19, inexact) or one whose seconds are below 0 or above 4,294,967,295 (20, time-range), and if the
+/// feed's items end in a refusal: what is written is the text of the packets before it. If there is no first interface,
+/// the feed's own refusal, or rule 21, no-interface, is returned, and nothing is written. After `Read`, `Write` or
+/// `Memory` a prefix of the text is written.
 pub(crate) fn put_pcap<F: PacketFeed, W: Sink>(
     feed: &mut F,
     start: FileStart,
     order: Order,
+    unit: Option<Unit>,
     writer: &mut W,
 ) -> Result<(), Fault>
     ensures text { IsTrue (F.feed feed.old).told → IsTrue (W.tells_held writer.old)
-        → Prints (pcap_bytes order start.first (F.feed feed.old).items)
-        (pcap_refusal start.file start.first (F.feed feed.old).items)
+        → Prints (pcap_bytes order (first_in_unit unit start.first) (F.feed feed.old).items)
+        (pcap_refusal start.file (first_in_unit unit start.first) (F.feed feed.old).items)
         (W.held writer.old) result (W.held writer.new) }
     ensures writer { WriterKeeps (writer_of W.Sink writer.old) (is_write result) (writer_of W.Sink writer.new) }
     ensures walks { Walks (F.feed feed.old) result (F.feed feed.new) }
@@ -187,7 +225,7 @@ pub(crate) fn put_pcap<F: PacketFeed, W: Sink>(
     ensures memory { IfMemory result ((F.feed feed.new).known ≡ None) }
     ensures keeps { FeedKeeps (F.feed feed.old) (F.feed feed.new) }
 {
-    match start.first {
+    match first_in_unit(unit, start.first) {
         Some(first) => put_file(feed, order, &first, writer),
         None => refuse_bare(feed, start.file),
     }

@@ -13,6 +13,7 @@ use Rattle.cap_commands.specs.Converted.{convert_refusal, convert_text}
 use Rattle.cap_commands.specs.JoinText.{join_refusal, join_text}
 use Rattle.cap_commands.specs.ListText.{list_refusal, list_text}
 use Rattle.cap_commands.specs.MergeText.{merge_refusal, merge_text}
+use Rattle.cap_commands.specs.RunText.{output_format}
 use Rattle.capt_c.specs.Answers.{nowhere, place_of_result, status_of_result, status_of_unit}
 use Rattle.capt_c.specs.declared.answers.CPlace.{CPlace}
 use Rattle.capt_c.specs.declared.handles.HandleValue.{HandleValue}
@@ -80,7 +81,8 @@ abbrev pub Makes : TextTask → Tail → List ℕ → Result Unit Fault → List
 Makes (tasks.List bytes) tail = Prints (list_text tail bytes.now) (list_refusal tail bytes.now)
 Makes (tasks.Blocks bytes) tail = Prints (block_list tail bytes.now) (block_refusal tail bytes.now)
 Makes (tasks.Convert bytes order format) tail =
-    Prints (convert_text format order tail bytes.now) (convert_refusal format tail bytes.now)
+    Prints (convert_text (output_format format None) order tail bytes.now)
+    (convert_refusal (output_format format None) tail bytes.now)
 Makes (tasks.Info files) tail =
     Tells (info_text tail (map file_bytes files.now)) (first_refusal tail 1 (map file_bytes files.now))
 Makes (tasks.Report files) tail =

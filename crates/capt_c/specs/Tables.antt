@@ -7,7 +7,9 @@ use Rattle.cap_merge.specs.inner.Readers.{IsUnreadRun, ReaderFacts}
 use Rattle.cap_talks.specs.inner.table.Stepping.{TableSteps, StepKeeps, TableState, TableStands, endings_so_far}
 use Rattle.cap_talks.specs.inner.table.TableView.{table_of}
 use Rattle.cap_class.specs.Taken.{Taken}
-use Rattle.cap_talks.specs.table.TakenText.{text_of}
+use Rattle.cap_print.specs.declared.forms.Form.TheVariants as forms
+use Rattle.cap_print.specs.declared.forms.TimeForm.TheVariants.{Exact}
+use Rattle.cap_talks.specs.table.TakenText.{text_for}
 use Rattle.cap_talks.specs.declared.table.tables.Step.{Step}
 use Rattle.cap_talks.specs.declared.table.tables.Step.TheVariants.{Took, Done}
 use Rattle.capt_c.specs.Answers.{status_of_result, place_of_result}
@@ -23,7 +25,7 @@ use Rattle.capt_c.specs.declared.jobs.Text.{Text}
 abbrev pub reader_of_file : Bytes → ReaderFacts
 reader_of_file file = record { told = true; can_fail = false; bytes = file_bytes file }
 
--- A table of those files is open, of which no packet was taken; or no memory was found.
+-- A table of those files is open: it has taken no packet, and doesn't read IPv6 packets. Or no memory was found.
 abbrev pub OpensTable : Tail → List Bytes → ℕ → Option HandleValue → Type 0
 OpensTable tail files status None = status ≡ 5
 OpensTable tail files status (Some (helds.Capture c)) = ⊥
@@ -32,6 +34,7 @@ OpensTable tail files status (Some (helds.Text text)) = ⊥
 OpensTable tail files status (Some (helds.Table t)) =
     (status ≡ 0) × IsUnreadRun tail (map reader_of_file files) (table_of t.value).parts
     × TableStands (table_of t.value) [] × ((table_of t.value).done ≡ false)
+    × ((table_of t.value).tally.reads ≡ false)
 
 -- That is true of the table that is held.
 abbrev pub LeavesTable : Option HandleValue → (TableState → Type 0) → Type 0
@@ -70,5 +73,6 @@ WritesTable (Some (helds.Fed f)) was from status text place = ShowsNothing statu
 WritesTable (Some (helds.Text t)) was from status text place = ShowsNothing status was from text place
 WritesTable (Some (helds.Table t)) was from status text place =
     (xs : List Taken) → TableStands (table_of t.value) xs
-    → JobEnds (Prints (text_of (length (table_of t.value).totals.files) (endings_so_far (table_of t.value)) xs) None)
-    status place text
+    → JobEnds (Prints (text_for (table_of t.value).tally.reads (forms.Text Exact)
+    (length (table_of t.value).totals.files)
+    (endings_so_far (table_of t.value)) xs) None) status place text

@@ -12,7 +12,7 @@ use crate::handles::{Handle, HandleValue};
 use crate::sinks::VecSink;
 use crate::sources::Slice;
 use cap_bytes::{Fault, Order, Sink, Tail};
-use cap_commands::{blocks_to, convert_to, join_to, list_to, merge_to};
+use cap_commands::{blocks_to, convert_to, join_to, list_to, merge_to, output_format};
 use cap_source::Format;
 use cap_talks::{file_lines, report};
 use std::alloc::Global;
@@ -143,6 +143,7 @@ fn make(alloc: Global, task: TextTask<'_>, tail: Tail, sink: &mut VecSink) -> Re
         TextTask::Blocks(bytes) => blocks_to(alloc, Slice::new(bytes), tail, sink),
         TextTask::Convert(bytes, order, format) => {
             let source = Slice::new(bytes);
+            let format = output_format(format, None);
             convert_to(alloc, source, tail, order, format, sink)
         }
         TextTask::Info(files) => file_lines(alloc, slices(alloc, files)?, tail, sink),

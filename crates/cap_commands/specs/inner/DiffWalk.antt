@@ -1,6 +1,6 @@
 -- How two feeds are compared, packet by packet.
 use Rattle.std.specs.Prelude.{◌≡◌, ℕ, ◌+◌, List, Bool, false, not, IsNone, IsSome, IsTrue, Option, Some, None, Result}
-use Rattle.std.specs.Prelude.{Ok, Err, is_some}
+use Rattle.std.specs.Prelude.{Ok, Err}
 use Rattle.std.specs.Prelude.{⊤}
 use Rattle.std.specs.Prelude.{◌⊎◌}
 use Rattle.cap_bytes.specs.declared.faults.Fault.{Fault}

@@ -18,11 +18,14 @@ use Rattle.cap_source.specs.Items.{after, file_first, file_items, first_in}
 use Rattle.cap_source.specs.declared.contents.BlockContent.TheVariants as contents
 use Rattle.cap_source.specs.declared.packets.Meta.{Meta}
 use Rattle.cap_time.specs.declared.resolutions.Interface.{Interface}
+use Rattle.cap_time.specs.declared.stamps.Unit.{Unit as Fraction}
 use Rattle.cap_write.proofs.Records.{fault_by}
+use Rattle.cap_write.proofs.Units.{first-none, first-some, text-none, text-some}
 use Rattle.cap_write.specs.Numbering.{Numbered, Origin, Origins, own, numbered, numbered_of, numbered_or, refusal_in}
 use Rattle.cap_write.specs.Numbering.{refusal_or, with_origin, write_fault}
-use Rattle.cap_write.specs.Pcap.{bare_refusal, fraction_of, header_of, packet_record, pcap_bytes, pcap_refusal}
-use Rattle.cap_write.specs.Pcap.{written_record_fault, records_bytes, records_refusal, time_bytes, whole_time_in}
+use Rattle.cap_write.specs.Pcap.{bare_refusal, first_in_unit, fraction_of, header_of, in_unit, packet_record}
+use Rattle.cap_write.specs.Pcap.{pcap_bytes, pcap_refusal, records_bytes, records_refusal, time_bytes}
+use Rattle.cap_write.specs.Pcap.{whole_time_in, written_record_fault}
 use Rattle.cap_write.specs.PcapRun.{leading, run_bytes, run_refusal}
 use Rattle.cap_write.specs.Texts.{merged_bytes, packet_part, packets_bytes, text_or}
 use Rattle.cap_laws.proofs.again.Again.{first_in-interface, first_in-packet, packets_bytes-new, reached}
@@ -174,44 +177,55 @@ none-left (packet meta frame ∷ items) none is =
     cons-none : {A : Type 0} {x : A} {xs : List A} → x ∷ xs ≡ [] → ⊥
     cons-none e = cc
 
-abbrev Same : Order → ℕ → Option Interface → List Item → List Item → Type 0
-Same back file first items again =
-    (pcap_bytes back first again ≡ run_bytes back items)
-    × (rule_of (pcap_refusal file first again) ≡ rule_of (run_refusal items))
+abbrev Same : Option Fraction → Order → ℕ → Option Interface → List Item → List Item → Type 0
+Same unit back file first items again =
+    (pcap_bytes back (first_in_unit unit first) again ≡ run_bytes unit back items)
+    × (rule_of (pcap_refusal file (first_in_unit unit first) again) ≡ rule_of (run_refusal unit items))
 
-same-first : (back : Order) (file : ℕ) (meta : Meta) (frame : List ℕ) (items again : List Item)
+same-first : (unit : Option Fraction) (back : Order) (file : ℕ) (meta : Meta) (frame : List ℕ) (items again : List Item)
     → refusal_in (own []) (packet meta frame ∷ items) ≡ None
     → refusal_in (own []) again ≡ None → numbered (own []) again ≡ numbered (own []) (packet meta frame ∷ items)
-    → Same back file (Some meta.interface) (packet meta frame ∷ items) again
-same-first back file meta frame items again none none_again same =
-    let i = meta.interface in
+    → Same unit back file (Some meta.interface) (packet meta frame ∷ items) again
+same-first unit back file meta frame items again none none_again same =
+    let i = in_unit unit meta.interface in
     let all = packet meta frame ∷ items in
     let g = goes (own []) meta frame items none in
     let header = header_bytes (header_of back i) in
     let records = records-text back i (own []) again none_again
     ∙ (ap (numbered_text back i) same ∙ sym (records-text back i (own []) all none)) in (
-      ap (λ t. header ++ t) records ∙ sym (ap (λ first. pcap_bytes back first all) (led g.timed)),
-      records-rule i (own []) again none_again ∙ (ap (numbered_rule i) same ∙ sym (records-rule i (own []) all none)),
+      text-some unit back meta.interface again
+          ∙ (ap (λ t. header ++ t) records
+          ∙ sym (ap (λ first. pcap_bytes back (first_in_unit unit first) all) (led g.timed)
+          ∙ text-some unit back meta.interface all)),
+      ap (λ first. rule_of (pcap_refusal file first again)) (first-some unit meta.interface)
+          ∙ (records-rule i (own []) again none_again
+          ∙ (ap (numbered_rule i) same ∙ sym (records-rule i (own []) all none))),
     )
   where
     led : meta.units ≡ Some (unwrap_or meta.units 0) → leading (packet meta frame ∷ items) ≡ Some meta.interface
     led timed = grind (arith, timed)
 
-same-none : (back : Order) (file : ℕ) (again : List Item) → again ≡ [] → Same back file None [] again
-same-none back file again is = (refl, ap (λ l. rule_of (Some (bare_refusal file l))) is)
+same-none : (unit : Option Fraction) (back : Order) (file : ℕ) (again : List Item) → again ≡ []
+    → Same unit back file None [] again
+same-none unit back file again is = (
+  text-none unit back again ∙ sym (text-none unit back []),
+  ap (λ first. rule_of (pcap_refusal file first again)) (first-none unit)
+      ∙ ap (λ l. rule_of (Some (bare_refusal file l))) is,
+)
 
-same-by : (order back : Order) (tail : Tail) (file : ℕ) (given : Origin → Interface) (items again : List Item)
+same-by : (unit : Option Fraction) (order back : Order) (tail : Tail) (file : ℕ) (given : Origin → Interface)
+    (items again : List Item)
     → AllHave given items
     → length (merged_bytes order items) ≤ 2 ^ 40 → refusal_in (own []) items ≡ None
     → refusal_in (own []) again ≡ None → numbered (own []) again ≡ numbered (own []) items
-    → Same back file (file_first tail file (merged_bytes order items)) items again
+    → Same unit back file (file_first tail file (merged_bytes order items)) items again
 unfolding numbered packets_bytes
-same-by order back tail file given [] again have limit none none_again same =
-    subst (λ first. Same back file first [] again) (sym (first-section order tail file))
-    (same-none back file again (none-left again none_again same))
-same-by order back tail file given (refused refusal ∷ items) again have limit none none_again same =
+same-by unit order back tail file given [] again have limit none none_again same =
+    subst (λ first. Same unit back file first [] again) (sym (first-section order tail file))
+    (same-none unit back file again (none-left again none_again same))
+same-by unit order back tail file given (refused refusal ∷ items) again have limit none none_again same =
     never (own []) refusal items none
-same-by order back tail file given (packet meta frame ∷ items) again have limit none none_again same =
+same-by unit order back tail file given (packet meta frame ∷ items) again have limit none none_again same =
     let g = goes (own []) meta frame items none in
     let all = packet meta frame ∷ items in
     let more = numbered-more (own []) meta frame items g.unrefused in
@@ -221,12 +235,12 @@ same-by order back tail file given (packet meta frame ∷ items) again have limi
     ap (λ l. section_bytes order ++ packets_bytes order 0 l) more in
     let first = ap (file_first tail file) text ∙ first-merged order tail file n ns refl have.0.fits
     (subst (λ t. length t ≤ 2 ^ 40) text limit) in
-    subst (λ f. Same back file f all again) (sym first)
-    (same-first back file meta frame items again none none_again same)
+    subst (λ f. Same unit back file f all again) (sym first)
+    (same-first unit back file meta frame items again none none_again same)
 
 pub merged-pcap : MergedPcap
-merged-pcap order back tail tail_again file_again files are limit none =
+merged-pcap order back unit tail tail_again file_again files are limit none =
     let items = run_of_files tail files in
     let law = merge-law order tail tail_again file_again files are limit in
-    same-by order back tail_again file_again (given_from tail 1 files) items
+    same-by unit order back tail_again file_again (given_from tail 1 files) items
     (file_items tail_again file_again (merged_bytes order items)) (run-has tail files are) limit none law.1 law.0

@@ -32,10 +32,11 @@ use Rattle.cap_time.specs.declared.resolutions.Interface.{Interface}
 use Rattle.cap_time.specs.declared.stamps.Stamp.{Stamp}
 use Rattle.cap_time.specs.declared.stamps.Unit.{Unit as Fraction}
 use Rattle.cap_write.proofs.Records.{fault_by}
+use Rattle.cap_write.proofs.Units.{made-of}
 use Rattle.cap_write.specs.Pcap.{fraction_of, header_of, whole_time, time_fault, written_record_fault, whole_time_in}
 use Rattle.cap_write.specs.Pcap.{written_time}
 use Rattle.cap_write.specs.Pcap.{time_bytes, packet_record, records_bytes, records_refusal, bare_refusal, pcap_bytes}
-use Rattle.cap_write.specs.Pcap.{pcap_refusal}
+use Rattle.cap_write.specs.Pcap.{first_in_unit, pcap_refusal}
 use Rattle.cap_write.specs.Texts.{text_or}
 use Rattle.cap_laws.proofs.again.FirstInterface.{first-of}
 use Rattle.cap_laws.proofs.again.RoundTrip.{first-header, items-written}
@@ -230,9 +231,10 @@ unfolding first_from records.pcap_header_fault
 no_bytes tail file = refl
 
 pub pcap_again-law : PcapAgain
-pcap_again-law order tail tail_again file file_again bytes are = by (file_first tail file bytes) refl
+pcap_again-law order unit tail tail_again file file_again bytes are =
+    by (first_in_unit unit (file_first tail file bytes)) refl
   where
-    by : (first : Option Interface) → file_first tail file bytes ≡ first
+    by : (first : Option Interface) → first_in_unit unit (file_first tail file bytes) ≡ first
         → (let items = file_items tail file bytes in
         let text = pcap_bytes order first items in
         (file_first tail_again file_again text ≡ option_map written_first first)
@@ -247,14 +249,17 @@ pcap_again-law order tail tail_again file file_again bytes are = by (file_first 
         let items = file_items tail file bytes in
         let h = header_of order first in
         let ps = forms_of first items in
-        let fits = (first-of tail file bytes first are is).fits in
+        let made = made-of unit (file_first tail file bytes) first is in
+        let fits = (first-of tail file bytes made.0 are made.1).fits in
+        let snaplen = subst (λ (n : ℕ). n < 2 ^ 32) made.2.snaplen fits.snaplen in
+        let link = subst (λ (n : ℕ). n < 2 ^ 16) made.2.link fits.link in
         let fit = fields_fit-law tail file bytes are in (
-          first-header tail_again file_again h (records_bytes order first items) fits.snaplen fits.link,
+          first-header tail_again file_again h (records_bytes order first items) snaplen link,
           λ none limit.
               let text : pcap_bytes order (Some first) items ≡ header_bytes h
               ++ records_form order (fraction_of first) ps =
               ap (λ l. header_bytes h ++ l) (records-are order first items none) in
-              let read = items-written tail_again file_again h ps fits.snaplen fits.link
+              let read = items-written tail_again file_again h ps snaplen link
               (all-written first items fit none)
               (subst (λ l. length l ≤ 2 ^ 40) text limit) in
               subst (λ (l : List Item). AllZip SamePackets items l)

@@ -21,7 +21,7 @@ use Rattle.cap_time.specs.Stamp.{seconds_of, stamp_in}
 use Rattle.cap_time.specs.Unit.{in_second}
 use Rattle.cap_time.specs.declared.stamps.Unit.{Unit as Fraction}
 use Rattle.cap_write.specs.Numbering.{Origin, own, origin_of, Numbered, numbered_of, numbered, refusal_in, refusal_at}
-use Rattle.cap_write.specs.Pcap.{fraction_of, pcap_bytes, pcap_refusal}
+use Rattle.cap_write.specs.Pcap.{first_in_unit, fraction_of, pcap_bytes, pcap_refusal}
 use Rattle.cap_time.specs.Clock.{clock_cmp}
 use Rattle.cap_source.specs.Times.{meta_time}
 use Rattle.cap_write.specs.Texts.{interface_part, packet_part, count_after, first_origins, pcapng_bytes, pcapng_refusal}
@@ -266,13 +266,14 @@ written_first first =
       offset = pos 0;
     }
 
--- What is written of any file as pcap has that interface, or none if the file has none. If nothing is refused and it is
--- at most 2^40 bytes long, it has the file's packets, in order.
+-- What is written of any file as pcap, in whatever unit, has that interface, or none if the file has none. If nothing
+-- is refused and it is at most 2^40 bytes long, it has the file's packets, in order.
 abbrev pub PcapAgain : Type 0
 PcapAgain =
-    (order : Order) (tail tail_again : Tail) (file file_again : ℕ) (bytes : List ℕ) → AreBytes bytes
+    (order : Order) (unit : Option Fraction) (tail tail_again : Tail) (file file_again : ℕ) (bytes : List ℕ)
+    → AreBytes bytes
     → (let items = file_items tail file bytes in
-    let first = file_first tail file bytes in
+    let first = first_in_unit unit (file_first tail file bytes) in
     let text = pcap_bytes order first items in
     (file_first tail_again file_again text ≡ option_map written_first first)
     × (pcap_refusal file first items ≡ None → length text ≤ 2 ^ 40

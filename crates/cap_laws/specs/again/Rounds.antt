@@ -15,7 +15,8 @@ use Rattle.cap_bytes.specs.declared.formats.Format.TheVariants.{Pcapng}
 use Rattle.cap_source.specs.declared.packets.Meta.{Meta}
 use Rattle.cap_time.specs.Clock.{clock_cmp, greatest}
 use Rattle.cap_write.specs.Numbering.{Numbered, own, shared, numbered, refusal_in}
-use Rattle.cap_write.specs.Pcap.{pcap_bytes, pcap_refusal}
+use Rattle.cap_time.specs.declared.stamps.Unit.{Unit as Fraction}
+use Rattle.cap_write.specs.Pcap.{first_in_unit, pcap_bytes, pcap_refusal}
 use Rattle.cap_write.specs.PcapRun.{run_bytes, run_refusal}
 use Rattle.cap_write.specs.Texts.{merged_bytes, merged_refusal, sharing_bytes}
 use Rattle.cap_merge.specs.Files.{run_of_files, run_of_lists}
@@ -61,20 +62,20 @@ SharingLaw =
 abbrev pub rule_of : Option Refusal → Option Rule
 rule_of refusal = option_map (λ r. r.rule) refusal
 
--- What is written of the run of any files as one pcap file is what is written as pcap of the pcapng file that is
--- written of the run, if nothing is refused there and that is at most 2^40 bytes long; one of the two is refused if the
--- other is, by the same rule.
+-- What is written of the run of any files as one pcap file, in whatever unit, is what is written as pcap in that unit
+-- of the pcapng file that is written of the run, if nothing is refused there and that is at most 2^40 bytes long; one
+-- of the two is refused if the other is, by the same rule.
 abbrev pub MergedPcap : Type 0
 MergedPcap =
-    (order back : Order) (tail tail_again : Tail) (file_again : ℕ) (files : List (List ℕ))
+    (order back : Order) (unit : Option Fraction) (tail tail_again : Tail) (file_again : ℕ) (files : List (List ℕ))
     → AllByRecursion AreBytes files
     → (let items = run_of_files tail files in
     let text = merged_bytes order items in
-    let first = file_first tail_again file_again text in
+    let first = first_in_unit unit (file_first tail_again file_again text) in
     let again = file_items tail_again file_again text in
     length text ≤ 2 ^ 40 → merged_refusal items ≡ None
-    → (pcap_bytes back first again ≡ run_bytes back items)
-    × (rule_of (pcap_refusal file_again first again) ≡ rule_of (run_refusal items)))
+    → (pcap_bytes back first again ≡ run_bytes unit back items)
+    × (rule_of (pcap_refusal file_again first again) ≡ rule_of (run_refusal unit items)))
 
 -- ---- the clock law
 

@@ -1,6 +1,8 @@
 pub mod Adding
 pub mod Holding
+pub mod Ipv6Law
 pub mod Keys
+pub mod Knowing
 pub mod Laws
 pub mod Looking
 pub mod Others

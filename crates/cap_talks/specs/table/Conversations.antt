@@ -1,14 +1,15 @@
 -- The conversations of some counted units, which are listed by the places of the frames that completed them (RFC 791,
--- 3.1; RFC 768; RFC 9293, 3.1).
+-- 3.1; RFC 8200, 3; RFC 768; RFC 9293, 3.1).
 use Rattle.std.specs.Prelude.{ℕ, List, [], ◌∷◌, Bool, ◌+◌, ◌==◌, ◌&&◌, not, nat_eq, filter, map, Option, Some, None}
 use Rattle.std.specs.Prelude.{if◌then◌else◌}
 use Rattle.std.specs.Ordering.{nat_cmp, ordering_then, is_lt, is_gt}
 use Rattle.std.specs.Option.{option_eq}
 use Rattle.std.specs.declared.cmp.Ordering.{Ordering}
 use Rattle.cap_time.specs.Stamp.{stamp_cmp}
-use Rattle.cap_talks.specs.table.Units.{end_cmp}
+use Rattle.cap_talks.specs.table.Units.{end_cmp, number_of, version_of}
 use Rattle.cap_talks.specs.declared.table.rows.TalkKey.{TalkKey}
 use Rattle.cap_talks.specs.declared.table.rows.TalkRow.{TalkRow}
+use Rattle.cap_talks.specs.declared.table.units.Address.{Address}
 use Rattle.cap_talks.specs.declared.table.units.CountedUnit.{CountedUnit}
 use Rattle.cap_talks.specs.declared.table.units.Endpoint.{Endpoint}
 use Rattle.cap_talks.specs.declared.table.units.TimedFrame.{TimedFrame}
@@ -94,8 +95,11 @@ row_of units =
     }
 
 -- two keys name the same conversation
+abbrev pub same_address : Address → Address → Bool
+same_address a b = (version_of a == version_of b) && (number_of a == number_of b)
+
 abbrev pub same_end : Endpoint → Endpoint → Bool
-same_end a b = (a.address == b.address) && (option_eq nat_eq a.port b.port)
+same_end a b = same_address a.address b.address && (option_eq nat_eq a.port b.port)
 
 abbrev pub same_talk : TalkKey → TalkKey → Bool
 same_talk a b = (a.protocol == b.protocol) && (same_end a.lesser b.lesser && same_end a.greater b.greater)

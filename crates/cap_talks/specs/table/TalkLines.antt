@@ -5,10 +5,14 @@ use Rattle.std.specs.Option.{option_map_or}
 use Rattle.cap_print.specs.Facts.{Facts, Fact, Field, one, group, number, coded, word, moment, named, line_in}
 use Rattle.cap_print.specs.declared.forms.Form.{Form}
 use Rattle.cap_print.specs.declared.forms.Form.TheVariants.{Text}
+use Rattle.cap_print.specs.declared.forms.TimeForm.TheVariants.{Exact}
 use Rattle.cap_time.specs.Stamp.{printed_of}
 use Rattle.cap_talks.specs.table.Conversations.{Conversation}
 use Rattle.cap_talks.specs.declared.table.rows.TalkKey.{TalkKey}
 use Rattle.cap_talks.specs.declared.table.rows.TalkRow.{TalkRow}
+use Rattle.cap_print.specs.Addresses.{ipv6_text}
+use Rattle.cap_talks.specs.declared.table.units.Address.{Address}
+use Rattle.cap_talks.specs.declared.table.units.Address.TheVariants.{Ipv4, Ipv6}
 use Rattle.cap_talks.specs.declared.table.units.Endpoint.{Endpoint}
 
 -- a protocol by its number (IANA)
@@ -18,23 +22,43 @@ protocol_text protocol =
     else (if protocol == 6 then codes "tcp"
     else codes "p" ++ decimal protocol)
 
--- an address as its four bytes, the highest first
-abbrev pub address_text : ℕ → List ℕ
-address_text address =
+-- an IPv4 address as its four bytes, the highest first
+abbrev pub ipv4_text : ℕ → List ℕ
+ipv4_text address =
     decimal (address / 2 ^ 24) ++ codes "." ++ decimal (address / 2 ^ 16 % 256) ++ codes "."
     ++ decimal (address / 2 ^ 8 % 256)
     ++ codes "." ++ decimal (address % 256)
 
--- a port after a colon, if there is one
-abbrev pub port_facts : Option ℕ → List Fact
-port_facts None = []
-port_facts (Some port) = record { label = codes ":"; key = codes "port"; value = number port } ∷ []
+-- an address of either network (RFC 5952, 4)
+abbrev pub address_text : Address → List ℕ
+address_text (Ipv4 address) = ipv4_text address
+address_text (Ipv6 address) = ipv6_text address
 
--- an end as `a.b.c.d:port` or `a.b.c.d`, with its name in JSON
+-- what stands in text before an address, and between it and its port: an IPv6 address that has a port stands in
+-- brackets (RFC 5952, 6)
+abbrev pub label_before : Address → Option ℕ → List ℕ
+label_before (Ipv6 address) (Some port) = codes " ["
+label_before _ _ = codes " "
+
+abbrev pub address_label : Endpoint → List ℕ
+address_label at = label_before at.address at.port
+
+abbrev pub port_label : Address → List ℕ
+port_label (Ipv4 address) = codes ":"
+port_label (Ipv6 address) = codes "]:"
+
+-- a port after a colon, if there is one
+abbrev pub port_facts : Address → Option ℕ → List Fact
+port_facts address None = []
+port_facts address (Some port) =
+    record { label = port_label address; key = codes "port"; value = number port } ∷ []
+
+-- an end as `a.b.c.d:port` or `a.b.c.d`, or of IPv6 as `[a::b]:port` or `a::b`, with its name in JSON
 abbrev pub end_field : List ℕ → Endpoint → Field
 end_field key at =
-    group key (record { label = codes " "; key = codes "address"; value = word (Some (address_text at.address)) })
-    (port_facts at.port)
+    group key
+    (record { label = address_label at; key = codes "address"; value = word (Some (address_text at.address)) })
+    (port_facts at.address at.port)
 
 -- what went one way: packets and bytes, with what stands before it in text, and its name in JSON
 abbrev pub traffic_field : List ℕ → List ℕ → ℕ → ℕ → Field
@@ -73,7 +97,7 @@ talk_texts_in form (talk ∷ talks) = line_in form (talk_facts talk.0 talk.1) ++
 
 -- the same in text
 abbrev pub talk_texts : List Conversation → List ℕ
-talk_texts talks = talk_texts_in Text talks
+talk_texts talks = talk_texts_in (Text Exact) talks
 
 -- the line of that at a place, in a form
 abbrev pub line_at_in : Form → List Conversation → ℕ → List ℕ
@@ -89,4 +113,4 @@ talks_facts count =
 
 -- the same in text
 abbrev pub talks_text : ℕ → List ℕ
-talks_text count = line_in Text (talks_facts count)
+talks_text count = line_in (Text Exact) (talks_facts count)

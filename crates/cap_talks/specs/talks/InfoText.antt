@@ -5,6 +5,7 @@ use Rattle.cap_bytes.specs.declared.faults.Tail.{Tail}
 use Rattle.cap_print.specs.Facts.{line_in}
 use Rattle.cap_print.specs.declared.forms.Form.{Form}
 use Rattle.cap_print.specs.declared.forms.Form.TheVariants.{Text}
+use Rattle.cap_print.specs.declared.forms.TimeForm.TheVariants.{Exact}
 use Rattle.cap_talks.specs.counts.Counting.{packets_of, counted}
 use Rattle.cap_talks.specs.counts.FileLines.{file_facts, files_facts}
 use Rattle.cap_source.specs.Feed.{refusal_of}
@@ -24,7 +25,7 @@ info_text_in form tail files = line_in form (files_facts (length files)) ++ file
 
 -- the same in text
 abbrev pub info_text : Tail → List (List ℕ) → List ℕ
-info_text tail files = info_text_in Text tail files
+info_text tail files = info_text_in (Text Exact) tail files
 
 -- a file's refusal, or else that of a later one
 abbrev pub or_else : Option Refusal → Option Refusal → Option Refusal

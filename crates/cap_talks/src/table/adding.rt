@@ -4,13 +4,15 @@ ghost use Rattle.cap_ip.specs.Transport.{transport_of};
 ghost use Rattle.cap_talks.specs.table.Rows.{TalksStandFor, IsUnitInOrder, frames_in, bytes_in};
 ghost use Rattle.cap_talks.specs.table.Conversations.{frames_of, units_bytes};
 ghost use Rattle.cap_talks.specs.declared.table.units.CountedUnit.{CountedUnit};
+ghost use Rattle.cap_ipv6.specs.Seen.{packet_seen};
 ghost use Rattle.cap_talks.specs.inner.table.Adding.{datagram_unit, is_over};
 ghost use Rattle.cap_talks.specs.inner.table.Tallies.{LimitBy};
-ghost use Rattle.cap_talks.specs.table.CountedUnits.{listed, timed_frame, whole_unit};
+ghost use Rattle.cap_talks.specs.table.CountedUnits.{ipv6_unit, listed, timed_frame, whole_unit};
 
 use crate::table::conversations::{Conversations, ConversationsFault};
-use crate::table::units::{CountedUnit, TimedFrame, ends_of};
+use crate::table::units::{Address, CountedUnit, TimedFrame, ends_of};
 use cap_ip::{Header, Transport, transport};
+use cap_ipv6::Ipv6Packet;
 use cap_join::{Datagram, Stamped};
 
 // A frame, if it has a time.
@@ -36,7 +38,11 @@ pub(crate) fn whole_unit(
     ensures { result ≡ whole_unit header.now captured.now stamped }
 {
     let key = header.key();
-    let (source, destination) = ends_of(key.source, key.destination, seen)?;
+    let (source, destination) = ends_of(
+        Address::Ipv4(key.source),
+        Address::Ipv4(key.destination),
+        seen,
+    )?;
     Some(CountedUnit {
         protocol: key.protocol,
         source,
@@ -57,7 +63,11 @@ pub(crate) fn joined_unit(datagram: &Datagram) -> Option<CountedUnit>
     let key = datagram.header.key();
     let bytes = datagram.payload.as_slice();
     let seen = transport(key.protocol, bytes, bytes.len() as u32);
-    let (source, destination) = ends_of(key.source, key.destination, seen)?;
+    let (source, destination) = ends_of(
+        Address::Ipv4(key.source),
+        Address::Ipv4(key.destination),
+        seen,
+    )?;
     Some(CountedUnit {
         protocol: key.protocol,
         source,
@@ -66,6 +76,30 @@ pub(crate) fn joined_unit(datagram: &Datagram) -> Option<CountedUnit>
         bytes: datagram.bytes,
         first: timed_frame(datagram.first),
         last: timed_frame(datagram.last),
+    })
+}
+
+/// The unit that an IPv6 packet is, if it is a whole datagram.
+pub(crate) fn ipv6_unit(read: &Ipv6Packet<'_>, stamped: Stamped) -> Option<CountedUnit>
+    ensures { result ≡ ipv6_unit (packet_seen read.now) stamped }
+{
+    let Ipv6Packet::Datagram(header, captured) = read else {
+        return None;
+    };
+    let seen = transport(header.protocol, captured, header.data_length);
+    let (source, destination) = ends_of(
+        Address::Ipv6(header.source),
+        Address::Ipv6(header.destination),
+        seen,
+    )?;
+    Some(CountedUnit {
+        protocol: header.protocol,
+        source,
+        destination,
+        frames: 1,
+        bytes: u128::from(stamped.original),
+        first: timed_frame(Some(stamped)),
+        last: timed_frame(Some(stamped)),
     })
 }
 

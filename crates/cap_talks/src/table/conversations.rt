@@ -1,19 +1,22 @@
 //! The table of conversations.
 ghost use Rattle.std.specs.Prelude.{◌≡◌, ◌+◌, ◌≤◌, ◌<◌, ◌^◌, ◌++◌, List, [], ◌∷◌, length, slice_get, true, nat_lt, not};
-ghost use Rattle.std.specs.Prelude.{OnOk, OnErr};
+ghost use Rattle.std.specs.Prelude.{Err, IfErr, IfOk, OnOk, OnErr, false};
+ghost use Rattle.std.specs.List.{list_any};
 ghost use Rattle.indexmap.specs.IndexMap.{insert_entry};
 ghost use Rattle.indexmap.specs.Layout.{set_value_at};
-ghost use Rattle.cap_talks.specs.inner.table.Packed.{unpacked, IsNarrow, unpacked_talks, are_packed};
-ghost use Rattle.cap_talks.specs.table.Conversations.{talk_key, row_of, same_talk};
+ghost use Rattle.cap_talks.specs.inner.table.Knowing.{GrowsBy, IsKeyOf};
+ghost use Rattle.cap_talks.specs.inner.table.Packed.{are_known, are_packed, is_ipv4_key, same_packed, same_wide};
+ghost use Rattle.cap_talks.specs.inner.table.Packed.{unpacked_talks, widened};
+ghost use Rattle.cap_talks.specs.table.Conversations.{talk_key, row_of};
 ghost use Rattle.cap_talks.specs.table.Rows.{TalksStandFor, is_refused, is_limit, talk_limit, frames_in, bytes_in};
 ghost use Rattle.cap_talks.specs.table.Rows.{frames_of_row, bytes_of_row, row_in, with_delta, with_talk, IsUnitInOrder};
 ghost use Rattle.cap_talks.specs.table.Rows.{is_in_order, are_all_in_order};
 ghost use Rattle.cap_talks.specs.declared.table.units.CountedUnit.{CountedUnit};
 
-use crate::table::keys::PackedKey;
+use crate::table::keys::{PackedKey, WideKey};
 use crate::table::rows::{RowDelta, TalkKey, TalkRow};
 use crate::table::units::CountedUnit;
-use indexmap::IndexMap;
+use indexmap::{IndexMap, IndexSet};
 use std::alloc::Global;
 use std::marker::Model;
 
@@ -36,6 +39,8 @@ pub enum ConversationsFault {
 #[derive(Drop)]
 pub struct Conversations {
     rows: IndexMap<PackedKey, TalkRow>,
+    // the keys with an end of IPv6, each by its place
+    known: IndexSet<WideKey>,
 }
 
 impl Model for Conversations {
@@ -58,6 +63,7 @@ impl Conversations {
     {
         Conversations {
             rows: IndexMap::new(alloc),
+            known: IndexSet::new(alloc),
         }
     }
 
@@ -79,7 +85,7 @@ impl Conversations {
         ensures limit { is_limit result ≡ is_refused talk_limit self.old.rows (talk_key unit.now) }
         ensures err { OnErr result (self.new ≡ self.old) }
     {
-        add_unit(&mut self.rows, unit)
+        add_unit(&mut self.rows, &mut self.known, unit)
     }
 
     /// How many conversations there are: at most 1,048,576.
@@ -97,7 +103,7 @@ impl Conversations {
     {
         match self.rows.get_index(place) {
             None => None,
-            Some((key, row)) => Some((key.unpacked(), *row)),
+            Some((key, row)) => Some((key.unpacked(&self.known), *row)),
         }
     }
 }
@@ -126,14 +132,11 @@ fn add_row(
     key: PackedKey,
     delta: RowDelta,
 ) -> Result<(), ConversationsFault>
-    requires key { IsNarrow (unpacked key) }
-    requires keys { are_packed rows.old.entries ≡ true }
     requires frames { delta.frames < 2 ^ 64 }
     requires bytes { delta.bytes < 2 ^ 128 }
     requires one { delta.frames ≡ 1 → delta.first ≡ delta.last }
-    ensures entries { OnOk result (unpacked_talks rows.new.entries
-        ≡ insert_entry same_talk (unpacked_talks rows.old.entries) (unpacked key) (with_delta (row_of []) delta)) }
-    ensures keys { are_packed rows.new.entries ≡ true }
+    ensures entries { OnOk result (rows.new.entries
+        ≡ insert_entry same_packed rows.old.entries key (with_delta (row_of []) delta)) }
     ensures limit { is_limit result ≡ not (nat_lt (length rows.old.entries) talk_limit) }
     ensures err { OnErr result (rows.new.entries ≡ rows.old.entries) }
 {
@@ -148,24 +151,79 @@ fn add_row(
     }
 }
 
+// The key of the conversation that a unit with an end of IPv6 belongs to, and whether it goes from the lesser of its
+// ends. It is known from then on: if it is new, and there are that many conversations, one more must be allowed.
+#[inline(never)]
+fn known_key(
+    known: &mut IndexSet<WideKey>,
+    talks: usize,
+    unit: &CountedUnit,
+) -> Result<(PackedKey, bool), ConversationsFault>
+    requires known { are_known known.old.keys ≡ true }
+    requires wide { is_ipv4_key (talk_key unit.now) ≡ false }
+    ensures key { IfOk result (IsKeyOf known.new.keys unit.now) }
+    ensures known { are_known known.new.keys ≡ true }
+    ensures grows { GrowsBy known.old.keys known.new.keys (widened (talk_key unit.now)) }
+    ensures unknown { OnErr result (list_any (same_wide (widened (talk_key unit.now))) known.old.keys ≡ false) }
+    ensures limit { IfErr result (λ e. is_limit (Err e) ≡ not (nat_lt talks talk_limit)) }
+{
+    let (key, forward) = WideKey::of(unit);
+    if let Some(place) = known.get_index_of(&key) {
+        return Ok((PackedKey::at(place), forward));
+    }
+    if talks >= TALK_LIMIT {
+        return Err(ConversationsFault::Limit);
+    }
+    match known.insert_full(key) {
+        Ok((place, _)) => Ok((PackedKey::at(place), forward)),
+        Err(_) => Err(ConversationsFault::Memory),
+    }
+}
+
+// The key of the conversation that a unit belongs to, and whether it goes from the lesser of its ends.
+#[inline(always)]
+fn key_of(
+    known: &mut IndexSet<WideKey>,
+    talks: usize,
+    unit: &CountedUnit,
+) -> Result<(PackedKey, bool), ConversationsFault>
+    requires known { are_known known.old.keys ≡ true }
+    ensures key { IfOk result (IsKeyOf known.new.keys unit.now) }
+    ensures known { are_known known.new.keys ≡ true }
+    ensures grows { GrowsBy known.old.keys known.new.keys (widened (talk_key unit.now)) }
+    ensures wide { OnErr result (is_ipv4_key (talk_key unit.now) ≡ false) }
+    ensures unknown { OnErr result (list_any (same_wide (widened (talk_key unit.now))) known.old.keys ≡ false) }
+    ensures limit { IfErr result (λ e. is_limit (Err e) ≡ not (nat_lt talks talk_limit)) }
+{
+    match PackedKey::of(unit) {
+        Some(key) => Ok(key),
+        None => known_key(known, talks, unit),
+    }
+}
+
 // Counts one unit more in the rows.
 #[inline(always)]
 fn add_unit(
     rows: &mut IndexMap<PackedKey, TalkRow>,
+    known: &mut IndexSet<WideKey>,
     unit: &CountedUnit,
 ) -> Result<(), ConversationsFault>
-    requires keys { are_packed rows.old.entries ≡ true }
-    requires frames { frames_in (unpacked_talks rows.old.entries) + unit.now.frames < 2 ^ 64 }
-    requires bytes { bytes_in (unpacked_talks rows.old.entries) + unit.now.bytes < 2 ^ 128 }
-    requires order { are_all_in_order (unpacked_talks rows.old.entries) ≡ true }
+    requires known { are_known known.old.keys ≡ true }
+    requires keys { are_packed known.old.keys rows.old.entries ≡ true }
+    requires frames { frames_in (unpacked_talks known.old.keys rows.old.entries) + unit.now.frames < 2 ^ 64 }
+    requires bytes { bytes_in (unpacked_talks known.old.keys rows.old.entries) + unit.now.bytes < 2 ^ 128 }
+    requires order { are_all_in_order (unpacked_talks known.old.keys rows.old.entries) ≡ true }
     requires one { unit.now.frames ≡ 1 → unit.now.first ≡ unit.now.last }
-    ensures entries { OnOk result (unpacked_talks rows.new.entries
-        ≡ with_talk (unpacked_talks rows.old.entries) unit.now) }
-    ensures keys { are_packed rows.new.entries ≡ true }
-    ensures limit { is_limit result ≡ is_refused talk_limit (unpacked_talks rows.old.entries) (talk_key unit.now) }
-    ensures err { OnErr result (unpacked_talks rows.new.entries ≡ unpacked_talks rows.old.entries) }
+    ensures entries { OnOk result (unpacked_talks known.new.keys rows.new.entries
+        ≡ with_talk (unpacked_talks known.old.keys rows.old.entries) unit.now) }
+    ensures known { are_known known.new.keys ≡ true }
+    ensures keys { are_packed known.new.keys rows.new.entries ≡ true }
+    ensures limit { is_limit result
+        ≡ is_refused talk_limit (unpacked_talks known.old.keys rows.old.entries) (talk_key unit.now) }
+    ensures err { OnErr result (unpacked_talks known.new.keys rows.new.entries
+        ≡ unpacked_talks known.old.keys rows.old.entries) }
 {
-    let (key, forward) = PackedKey::of(unit);
+    let (key, forward) = key_of(known, rows.len(), unit)?;
     match rows.get_index_of(&key) {
         Some(place) => {
             add_at(rows, place, RowDelta::of(unit, forward));

@@ -5,15 +5,21 @@ ghost use Rattle.cap_ip.specs.Reasons.{header_reason};
 ghost use Rattle.cap_print.specs.Facts.{fields_in};
 ghost use Rattle.cap_print.specs.Lines.{room_in, text_in};
 ghost use Rattle.cap_class.specs.Classes.{lone_class};
-ghost use Rattle.cap_talks.specs.table.Descriptions.{class_field, describe_datagram, describe_endless, describe_of};
+ghost use Rattle.cap_class.specs.Ipv6.{lone_class_for};
+ghost use Rattle.cap_ipv6.specs.Seen.{packet_seen};
+ghost use Rattle.cap_talks.specs.table.Descriptions.{class_field, describe_between, describe_datagram};
+ghost use Rattle.cap_talks.specs.table.Descriptions.{describe_endless};
+ghost use Rattle.cap_talks.specs.table.Descriptions.{describe_for, describe_ipv6, describe_of, describe_unread};
 ghost use Rattle.cap_talks.specs.table.Descriptions.{describe_read, described_class, description_fields, reason_field};
 ghost use Rattle.cap_talks.specs.table.Descriptions.{talk_between};
 ghost use Rattle.cap_talks.specs.declared.table.descriptions.Description.TheVariants as described;
 
 use crate::table::rows::TalkKey;
 use crate::table::talk_lines::put_key;
-use crate::table::units::{Endpoint, ends_of};
+use crate::table::units::{Address, Endpoint, ends_of, is_greater};
+use cap_class::read_ipv6;
 use cap_ip::{Header, HeaderOr, Reason, Transport, header_reason, transport, transport_reason};
+use cap_ipv6::Ipv6Packet;
 use cap_link::{Network, network};
 use cap_print::{Form, Line};
 use cap_source::Meta;
@@ -25,16 +31,18 @@ pub enum Description {
     OtherLink,
     /// It isn't an IPv4 packet.
     NotIpv4,
+    /// It isn't an IPv4 packet, nor an IPv6 packet where those are read.
+    NotIp,
     /// It ends inside its link header or a tag, and was captured whole.
     Short,
     /// It isn't well-formed, for this reason.
     Bad(Reason),
     /// Not enough of it was captured, for this reason.
     Cut(Reason),
-    /// It is a fragment of an IPv4 datagram.
+    /// It is a fragment of a datagram.
     Fragment {
-        /// What the sender gave all fragments of the datagram.
-        identification: u16,
+        /// What the sender gave all fragments of the datagram: 16 bits in IPv4.
+        identification: u32,
         /// Where the fragment's data begins in the datagram's data, in bytes: a multiple of 8.
         offset: u32,
     },
@@ -46,7 +54,7 @@ pub enum Description {
 fn talk_between(protocol: u8, source: Endpoint, destination: Endpoint) -> TalkKey
     ensures { result ≡ talk_between protocol (source, destination) }
 {
-    if source.cmp(&destination).is_gt() {
+    if is_greater(&source, &destination) {
         TalkKey {
             protocol,
             lesser: destination,
@@ -71,22 +79,41 @@ fn describe_endless(seen: Transport, why: Reason) -> Description
     }
 }
 
-// What a whole datagram is, of which some data was captured.
+// What a whole datagram between two addresses is, by its data's length and the captured part of that.
+fn describe_between(
+    protocol: u8,
+    source: Address,
+    destination: Address,
+    captured: &[u8],
+    length: u32,
+) -> Description
+    ensures { result ≡ describe_between protocol source destination captured.now length }
+{
+    let seen = transport(protocol, captured, length);
+    match ends_of(source, destination, seen) {
+        Some((source, destination)) => {
+            Description::Counted(talk_between(protocol, source, destination))
+        }
+        None => {
+            let why = transport_reason(protocol, captured, length);
+            describe_endless(seen, why)
+        }
+    }
+}
+
+// What a whole datagram of IPv4 is, by the captured part of its data.
 fn describe_datagram(header: &Header, captured: &[u8]) -> Description
     ensures { result ≡ describe_datagram header.now captured.now }
 {
     let key = header.key();
-    let length = header.data_length();
-    let seen = transport(key.protocol, captured, length);
-    match ends_of(key.source, key.destination, seen) {
-        Some((source, destination)) => {
-            Description::Counted(talk_between(key.protocol, source, destination))
-        }
-        None => {
-            let why = transport_reason(key.protocol, captured, length);
-            describe_endless(seen, why)
-        }
-    }
+    let (source, destination) = (Address::Ipv4(key.source), Address::Ipv4(key.destination));
+    describe_between(
+        key.protocol,
+        source,
+        destination,
+        captured,
+        header.data_length(),
+    )
 }
 
 // What an IPv4 packet is.
@@ -99,7 +126,7 @@ fn describe_ipv4(bytes: &[u8], whole: bool) -> Description
         HeaderOr::Header(header, captured) => match header.fragment() {
             None => describe_datagram(&header, captured),
             Some(fragment) => Description::Fragment {
-                identification: header.key().identification,
+                identification: u32::from(header.key().identification),
                 offset: fragment.start,
             },
         },
@@ -131,6 +158,52 @@ pub fn describe(meta: &Meta, frame: &[u8]) -> Description
     describe_frame(meta, frame)
 }
 
+// What an IPv6 packet is.
+fn describe_ipv6(read: &Ipv6Packet<'_>) -> Description
+    ensures { result ≡ describe_ipv6 (packet_seen read.now) }
+{
+    match read {
+        Ipv6Packet::Bad(why) => Description::Bad(*why),
+        Ipv6Packet::Cut(why) => Description::Cut(*why),
+        Ipv6Packet::Fragment(fragment) => Description::Fragment {
+            identification: fragment.identification,
+            offset: fragment.start,
+        },
+        Ipv6Packet::Datagram(header, captured) => describe_between(
+            header.protocol,
+            Address::Ipv6(header.source),
+            Address::Ipv6(header.destination),
+            captured,
+            header.data_length,
+        ),
+    }
+}
+
+// What a packet is that carries no IPv6 packet, where those are read.
+fn describe_unread(description: Description) -> Description
+    ensures { result ≡ describe_unread description }
+{
+    match description {
+        Description::NotIpv4 => Description::NotIp,
+        other => other,
+    }
+}
+
+/// What `describe` answers, and where IPv6 packets are read (RFC 8200, 3) the same of those. Then a packet of neither
+/// network is `NotIp`, and one of IPv6 has its class in a report that reads them; its fragments aren't joined.
+pub fn describe_for(ipv6: bool, meta: &Meta, frame: &[u8]) -> Description
+    ensures value { result ≡ describe_for ipv6 meta.now frame.now }
+    ensures class { described_class result ≡ lone_class_for ipv6 meta.now frame.now }
+{
+    if !ipv6 {
+        return describe(meta, frame);
+    }
+    match read_ipv6(meta, frame) {
+        None => describe_unread(describe(meta, frame)),
+        Some(read) => describe_ipv6(&read),
+    }
+}
+
 // Puts the word of a class.
 fn put_class(line: &mut Line, form: Form, name: &str)
     requires { length name.now + 13 ≤ room_in line.old }
@@ -150,29 +223,30 @@ fn put_reason(line: &mut Line, form: Form, why: Reason)
 }
 
 // Puts of which datagram a packet is a fragment, and where its data begins in that.
-fn put_fragment(line: &mut Line, form: Form, identification: u16, offset: u32)
-    requires { 73 ≤ room_in line.old }
+fn put_fragment(line: &mut Line, form: Form, identification: u32, offset: u32)
+    requires { 78 ≤ room_in line.old }
     ensures text { text_in line.new
         ≡ fields_in form (description_fields (described.Fragment identification offset)) (text_in line.old) }
-    ensures room { room_in line.old ≤ room_in line.new + 73 }
+    ensures room { room_in line.old ≤ room_in line.new + 78 }
 {
     line.put_number_as(form, b" fragment-offset ", b"fragment_offset", offset);
     line.put_number(form, b"identification", identification);
     put_class(line, form, "fragment");
 }
 
-/// Puts what a packet is by itself into a line, at most 134 bytes. In text it is ` class C`, where C is `other-link`,
-/// `not-ipv4`, `short`, `bad reason R`, `cut reason R`, `fragment identification I fragment-offset O`, or
+/// Puts what a packet is by itself into a line, at most 188 bytes. In text it is ` class C`, where C is `other-link`,
+/// `not-ipv4`, `not-ip`, `short`, `bad reason R`, `cut reason R`, `fragment identification I fragment-offset O`, or
 /// `counted PROTO A B` with the protocol and the ends as in the line of a conversation, the lesser end first. In JSON
 /// it is the values with these names, and `"protocol"`, `"a"` and `"b"`.
 pub fn put_description(line: &mut Line, form: Form, description: &Description)
-    requires { 134 ≤ room_in line.old }
+    requires { 188 ≤ room_in line.old }
     ensures text { text_in line.new ≡ fields_in form (description_fields description.now) (text_in line.old) }
-    ensures room { room_in line.old ≤ room_in line.new + 134 }
+    ensures room { room_in line.old ≤ room_in line.new + 188 }
 {
     match description {
         Description::OtherLink => put_class(line, form, "other-link"),
         Description::NotIpv4 => put_class(line, form, "not-ipv4"),
+        Description::NotIp => put_class(line, form, "not-ip"),
         Description::Short => put_class(line, form, "short"),
         Description::Bad(why) => {
             put_reason(line, form, *why);

@@ -1,5 +1,6 @@
 //! Laws of conversations.
 ghost use Rattle.std.specs.Prelude.{ℕ, List};
+ghost use Rattle.cap_talks.specs.inner.table.Ipv6Law.{Ipv6Law};
 ghost use Rattle.cap_talks.specs.inner.table.Laws.{KeyLaw, FrameLaw, SumLaw};
 ghost use Rattle.cap_talks.specs.inner.table.Worked.{TalkLines, TalkLimit};
 ghost use Rattle.cap_talks.specs.table.OtherNetworks.{OtherNetworks};
@@ -26,6 +27,14 @@ pub fn talk_laws()
 /// the report prints. It does nothing when it runs.
 pub fn other_networks_law()
     ensures { (xs : List Taken) → OtherNetworks xs }
+{}
+
+/// A law: in a report that reads IPv6 packets or not each packet has one class, and the seven counts add up to the
+/// packets. Conversations of IPv4 and of IPv6 never meet. If no packet carries an IPv6 packet,
+/// the report that reads them is the other one with another name of a class, and so is its refusal. It does nothing
+/// when it runs.
+pub fn ipv6_law()
+    ensures { Ipv6Law }
 {}
 
 /// A law: the conversations with the most bytes are the front of all of them in an order in which none has fewer bytes

@@ -2,7 +2,7 @@
 ghost use Rattle.std.specs.Prelude.{◌≡◌};
 ghost use Rattle.cap_print.specs.Facts.{line_in};
 ghost use Rattle.cap_print.specs.Lines.{text_in};
-ghost use Rattle.cap_talks.specs.table.TakenText.{total_facts, frames_facts, joined_facts};
+ghost use Rattle.cap_talks.specs.table.TakenText.{total_facts, frames_facts_for, joined_facts};
 
 use cap_class::ClassCounts;
 use cap_print::{Form, Line};
@@ -19,9 +19,10 @@ pub(crate) fn total_line(form: Form, packets: u64, bytes: u128, truncated: u64) 
     line
 }
 
-/// The line of the classes: in text `frames other-link N not-ipv4 N short N cut N bad N unjoined N counted N`.
-pub(crate) fn frames_line(form: Form, counts: &ClassCounts) -> Line
-    ensures { text_in result ≡ line_in form (frames_facts counts.now) }
+/// The line of the classes: in text `frames other-link N not-ipv4 N short N cut N bad N unjoined N counted N`, with
+/// `not-ip` in place of `not-ipv4` if IPv6 packets are read.
+pub(crate) fn frames_line(form: Form, reads_ipv6: bool, counts: &ClassCounts) -> Line
+    ensures { text_in result ≡ line_in form (frames_facts_for reads_ipv6 counts.now) }
 {
     let mut line = Line::end(form);
     line.put_number(form, b"counted", counts.counted);
@@ -29,7 +30,11 @@ pub(crate) fn frames_line(form: Form, counts: &ClassCounts) -> Line
     line.put_number(form, b"bad", counts.bad);
     line.put_number(form, b"cut", counts.cut);
     line.put_number(form, b"short", counts.short);
-    line.put_number_as(form, b" not-ipv4 ", b"not_ipv4", counts.not_ipv4);
+    if reads_ipv6 {
+        line.put_number_as(form, b" not-ip ", b"not_ip", counts.not_ipv4);
+    } else {
+        line.put_number_as(form, b" not-ipv4 ", b"not_ipv4", counts.not_ipv4);
+    }
     line.put_number_as(form, b" other-link ", b"other_link", counts.other_link);
     line.put_kind(form, b"frames");
     line

@@ -16,7 +16,9 @@ ghost use Rattle.cap_talks.specs.inner.table.Stepping.{endings_so_far};
 ghost use Rattle.cap_talks.specs.table.CountedUnits.{limit_refusal};
 ghost use Rattle.cap_talks.specs.inner.table.Ranked.{Shows};
 ghost use Rattle.cap_talks.specs.table.Conversations.{Conversation};
-ghost use Rattle.cap_talks.specs.table.TakenText.{text_of, text_showing_in};
+ghost use Rattle.cap_talks.specs.table.TakenText.{text_for, text_showing_for};
+ghost use Rattle.cap_print.specs.declared.forms.Form.TheVariants.{Text};
+ghost use Rattle.cap_print.specs.declared.forms.TimeForm.TheVariants.{Exact};
 ghost use Rattle.cap_talks.specs.table.TopRows.{shown_rows};
 ghost use Rattle.cap_class.specs.Taken.{Taken};
 
@@ -30,7 +32,7 @@ use arrayvec::ArrayVec;
 use cap_bytes::{CutRest, Fault, Refusal, Rule, Sink, put_all};
 use cap_link::{OtherNetwork, other_network};
 use cap_merge::Merged;
-use cap_print::Form;
+use cap_print::{Form, TimeForm};
 use cap_source::{Ending, Meta, PacketFeed};
 use std::alloc::Global;
 
@@ -86,18 +88,31 @@ fn talk_limit(meta: &Meta) -> Refusal
 impl<F: PacketFeed> Table<F> {
     ghost use Rattle.cap_talks.specs.inner.table.TableView.{table_of};
 
-    /// The table of a merge of files, of which it has taken no packet yet.
+    /// The table of a merge of files, before it takes a packet. It doesn't read IPv6 packets.
     pub fn new(alloc: Global, merged: Merged<F>) -> Table<F>
         ensures stands { TableStands (table_of result) [] }
         ensures parts { (table_of result).parts ≡ parts_of merged }
         ensures files { length (table_of result).totals.files ≡ length (merged_feed (parts_of merged)).files }
         ensures going { (table_of result).done ≡ false }
+        ensures reads { (table_of result).tally.reads ≡ false }
+    {
+        Table::reading(alloc, merged, false)
+    }
+
+    /// The table of a merge of files, before it takes a packet. It has the conversations of IPv6 beside those of IPv4
+    /// if IPv6 packets are read; else they count as `NotIpv4`, or as `OtherLink` if their link type is 229 IPV6.
+    pub fn reading(alloc: Global, merged: Merged<F>, ipv6: bool) -> Table<F>
+        ensures stands { TableStands (table_of result) [] }
+        ensures parts { (table_of result).parts ≡ parts_of merged }
+        ensures files { length (table_of result).totals.files ≡ length (merged_feed (parts_of merged)).files }
+        ensures going { (table_of result).done ≡ false }
+        ensures reads { (table_of result).tally.reads ≡ ipv6 }
     {
         let totals = Totals::new(merged.files());
         Table {
             merged,
             totals,
-            tally: Tally::new(alloc),
+            tally: Tally::new(alloc, ipv6),
             done: false,
         }
     }
@@ -149,12 +164,13 @@ impl<F: PacketFeed> Table<F> {
     /// time. After `Write` a prefix of the report is written.
     pub fn write_so_far<W: Sink>(&self, writer: &mut W) -> Result<(), Fault>
         ensures text { (xs : List Taken) → TableStands (table_of self.now) xs → IsTrue (W.tells_held writer.old)
-            → Prints (text_of (length (table_of self.now).totals.files) (endings_so_far (table_of self.now)) xs) None
+            → Prints (text_for (table_of self.now).tally.reads (Text Exact) (length (table_of self.now).totals.files)
+            (endings_so_far (table_of self.now)) xs) None
             (W.held writer.old) result (W.held writer.new) }
         ensures writer { WriterKeeps (writer_of W.Sink writer.old) (is_write result) (writer_of W.Sink writer.new) }
         ensures fault { IsOkUnless result Fault.Write }
     {
-        self.write_in(Form::Text, &None, writer)
+        self.write_in(Form::Text(TimeForm::Exact), &None, writer)
     }
 
     /// The conversations that are shown: the `most` with the most bytes, the greatest first, if a number is given. They
@@ -183,7 +199,8 @@ impl<F: PacketFeed> Table<F> {
         requires shown { (rows : List Conversation) × Shows (table_of self.now).tally.talks.rows shown.now rows }
         ensures text { (xs : List Taken) (rows : List Conversation) → TableStands (table_of self.now) xs
             → Shows (table_of self.now).tally.talks.rows shown.now rows → IsTrue (W.tells_held writer.old)
-            → Prints (text_showing_in form rows (length (table_of self.now).totals.files)
+            → Prints (text_showing_for (table_of self.now).tally.reads form rows
+            (length (table_of self.now).totals.files)
             (endings_so_far (table_of self.now)) xs)
             None (W.held writer.old) result (W.held writer.new) }
         ensures writer { WriterKeeps (writer_of W.Sink writer.old) (is_write result) (writer_of W.Sink writer.new) }

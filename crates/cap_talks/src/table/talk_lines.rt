@@ -3,18 +3,19 @@ ghost use Rattle.std.specs.Prelude.{◌≡◌, ◌+◌, ◌≤◌, ◌<◌, ◌+
 ghost use Rattle.std.specs.Prelude.{None};
 ghost use Rattle.cap_bytes.specs.Device.{WriterKeeps, writer_of};
 ghost use Rattle.cap_bytes.specs.Printing.{Prints, is_write};
-ghost use Rattle.cap_print.specs.Facts.{coded, fact_in, facts_in, fields_in, line_in};
+ghost use Rattle.cap_print.specs.Facts.{coded, fact_in, facts_in, fields_in, line_in, name_in};
 ghost use Rattle.cap_print.specs.Lines.{room_in, text_in};
 ghost use Rattle.cap_print.specs.inner.Parts.{name_room};
 ghost use Rattle.cap_talks.specs.inner.table.Ranked.{AreRanked, Shows};
 ghost use Rattle.cap_talks.specs.table.Conversations.{Conversation};
-ghost use Rattle.cap_talks.specs.table.TalkLines.{address_text, end_field, line_at_in, port_facts, protocol_text};
+ghost use Rattle.cap_talks.specs.table.TalkLines.{address_label, address_text, end_field, ipv4_text, line_at_in};
+ghost use Rattle.cap_talks.specs.table.TalkLines.{port_facts, protocol_text};
 ghost use Rattle.cap_talks.specs.table.TalkLines.{talk_facts, talk_fields, talk_texts_in, talks_facts, traffic_field};
 
 use crate::table::conversations::Conversations;
 use crate::table::rows::{TalkKey, TalkRow};
 use crate::table::top::Ranked;
-use crate::table::units::Endpoint;
+use crate::table::units::{Address, Endpoint};
 use cap_bytes::{Fault, Sink, put_all};
 use cap_print::{Form, Line};
 
@@ -40,10 +41,10 @@ fn put_protocol(line: &mut Line, form: Form, protocol: u8)
     }
 }
 
-// Puts an address, as its four bytes.
-fn prepend_address(line: &mut Line, address: u32)
+// Puts an IPv4 address, as its four bytes.
+fn prepend_ipv4(line: &mut Line, address: u32)
     requires { 15 ≤ room_in line.old }
-    ensures text { text_in line.new ≡ address_text address ++ text_in line.old }
+    ensures text { text_in line.new ≡ ipv4_text address ++ text_in line.old }
     ensures room { room_in line.old ≤ room_in line.new + 15 }
 {
     line.prepend_integer(b".", (address % 256) as u8);
@@ -52,37 +53,63 @@ fn prepend_address(line: &mut Line, address: u32)
     line.prepend_integer(b"", (address / 0x100_0000) as u8);
 }
 
-// Puts a port, if there is one.
-fn put_port(line: &mut Line, form: Form, port: Option<u16>)
-    requires { 13 ≤ room_in line.old }
-    ensures text { text_in line.new ≡ facts_in form (port_facts port) (text_in line.old) }
-    ensures room { room_in line.old ≤ room_in line.new + 13 }
+// Puts an address.
+fn prepend_address(line: &mut Line, address: Address)
+    requires { 40 ≤ room_in line.old }
+    ensures text { text_in line.new ≡ address_text address ++ text_in line.old }
+    ensures room { room_in line.old ≤ room_in line.new + 40 }
 {
-    if let Some(port) = port {
-        line.put_number_as(form, b":", b"port", port);
+    match address {
+        Address::Ipv4(address) => prepend_ipv4(line, address),
+        Address::Ipv6(address) => line.prepend_ipv6(address),
+    }
+}
+
+// Puts a port, if there is one.
+fn put_port(line: &mut Line, form: Form, end: Endpoint)
+    requires { 14 ≤ room_in line.old }
+    ensures text { text_in line.new ≡ facts_in form (port_facts end.address end.port) (text_in line.old) }
+    ensures room { room_in line.old ≤ room_in line.new + 14 }
+{
+    match (end.address, end.port) {
+        (_, None) => {}
+        (Address::Ipv4(_), Some(port)) => line.put_number_as(form, b":", b"port", port),
+        (Address::Ipv6(_), Some(port)) => line.put_number_as(form, b"]:", b"port", port),
+    }
+}
+
+// Puts what names an address.
+fn put_address_name(line: &mut Line, form: Form, end: Endpoint)
+    requires { 12 ≤ room_in line.old }
+    ensures text { text_in line.new ≡ name_in form (address_label end) (codes "address") (text_in line.old) }
+    ensures room { room_in line.old ≤ room_in line.new + 12 }
+{
+    match (end.address, end.port) {
+        (Address::Ipv6(_), Some(_)) => line.put_name(form, b" [", b"address"),
+        _ => line.put_name(form, b" ", b"address"),
     }
 }
 
 // Puts an end: its address, and its port if it has one.
 fn put_end(line: &mut Line, form: Form, key: &[u8], end: Endpoint)
-    requires { length key.now + 47 ≤ room_in line.old }
+    requires { length key.now + 74 ≤ room_in line.old }
     ensures text { text_in line.new ≡ fields_in form (end_field key.now end ∷ []) (text_in line.old) }
-    ensures room { room_in line.old ≤ room_in line.new + length key.now + 47 }
+    ensures room { room_in line.old ≤ room_in line.new + length key.now + 74 }
 {
     line.put_group_end(form);
-    put_port(line, form, end.port);
+    put_port(line, form, end);
     line.put_quote(form);
     prepend_address(line, end.address);
     line.put_quote(form);
-    line.put_name(form, b" ", b"address");
+    put_address_name(line, form, end);
     line.put_group(form, key);
 }
 
 /// Puts what names a conversation: in text `PROTO A B`, its protocol and its two ends, the lesser first.
 pub(crate) fn put_key(line: &mut Line, form: Form, key: &TalkKey)
-    requires { 114 ≤ room_in line.old }
+    requires { 168 ≤ room_in line.old }
     ensures text { text_in line.new ≡ fields_in form (talk_fields key.now) (text_in line.old) }
-    ensures room { room_in line.old ≤ room_in line.new + 114 }
+    ensures room { room_in line.old ≤ room_in line.new + 168 }
 {
     put_end(line, form, b"b", key.greater);
     put_end(line, form, b"a", key.lesser);
@@ -104,8 +131,8 @@ fn put_traffic(line: &mut Line, form: Form, label: &[u8], key: &[u8], frames: u6
 }
 
 // The line of a conversation: in text `talk PROTO A B forward P BYTES backward P BYTES first T last T`. The protocol
-// is `udp`, `tcp`, or `p` and its number; an end is `a.b.c.d:port`, or `a.b.c.d` if it has no port; A is
-// the lesser end.
+// is `udp`, `tcp`, or `p` and its number; an end is `a.b.c.d:port`, or `a.b.c.d` if it has no port, and of IPv6
+// `[a::b]:port` or `a::b`; A is the lesser end.
 fn talk_line(form: Form, key: &TalkKey, row: &TalkRow) -> Line
     ensures { text_in result ≡ line_in form (talk_facts key.now row.now) }
 {

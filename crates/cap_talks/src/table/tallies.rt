@@ -1,15 +1,17 @@
 //! What is counted of packets, besides what is reported of files.
-ghost use Rattle.std.specs.Prelude.{◌≡◌, ℕ, false, ◌+◌, ◌++◌, IsOkUnless, max, ◌≤◌, ◌<◌, ◌^◌, List, []};
+ghost use Rattle.std.specs.Prelude.{◌≡◌, ℕ, true, false, ◌+◌, ◌++◌, IsOkUnless, max, ◌≤◌, ◌<◌, ◌^◌, List, []};
 ghost use Rattle.std.specs.Prelude.{◌∷◌, length, IsTrue, IsSome, OnOk, OnErr, IfOk, IfErr, Option, Some, None};
 ghost use Rattle.std.specs.Prelude.{Err, Ok, if◌then◌else◌};
 ghost use Rattle.cap_bytes.specs.Device.{WriterKeeps, writer_of};
 ghost use Rattle.cap_bytes.specs.Printing.{Prints, is_write};
 ghost use Rattle.cap_join.specs.Fragments.{piece_of};
 ghost use Rattle.cap_join.specs.Joiners.{most_bytes};
+ghost use Rattle.cap_class.specs.Ipv6.{read_in};
 ghost use Rattle.cap_class.specs.Runs.{taken_of};
-ghost use Rattle.cap_talks.specs.inner.table.Looking.{is_plain};
+ghost use Rattle.cap_ipv6.specs.Seen.{packet_seen};
+ghost use Rattle.cap_talks.specs.inner.table.Looking.{is_plain_for};
 ghost use Rattle.cap_print.specs.Facts.{line_in};
-ghost use Rattle.cap_talks.specs.table.TakenText.{frames_facts, joined_facts};
+ghost use Rattle.cap_talks.specs.table.TakenText.{frames_facts_for, joined_facts};
 ghost use Rattle.cap_class.specs.Taken.{Taken, datagram, fragment, classify, plain, stamped_of};
 ghost use Rattle.cap_talks.specs.inner.table.Tallies.{TallyStands, LimitBy, one_if_waiting, tally_text_in};
 ghost use Rattle.cap_talks.specs.inner.table.Tallies.{counted_one, waiting_bytes};
@@ -19,20 +21,21 @@ ghost use Rattle.cap_source.specs.Times.{meta_time};
 ghost use Rattle.cap_talks.specs.declared.table.conversations.ConversationsFault.TheVariants.{Memory};
 ghost use Rattle.cap_talks.specs.inner.table.Ranked.{Shows};
 ghost use Rattle.cap_talks.specs.table.Conversations.{Conversation};
-ghost use Rattle.cap_talks.specs.table.CountedUnits.{is_limit_at};
+ghost use Rattle.cap_talks.specs.table.CountedUnits.{is_limit_for};
 ghost use Rattle.cap_talks.specs.table.TopRows.{shown_rows};
 
-use crate::table::adding::{add_unit, joined_unit, whole_unit};
+use crate::table::adding::{add_unit, ipv6_unit, joined_unit, whole_unit};
 use crate::table::conversations::{Conversations, ConversationsFault};
 use crate::table::report_lines::{frames_line, joined_line};
 use crate::table::talk_lines::put_talks;
 use crate::table::top::{Ranked, shown_of};
 use cap_bytes::{Fault, Sink, put_all};
 use cap_class::{
-    Class, ClassCounts, Classified, NO_PACKETS, class_of, classify, count_frames, joined_class,
-    stamped_of, with_frames, with_group,
+    Class, ClassCounts, Classified, NO_PACKETS, class_of, classify, count_frames, ipv6_class,
+    joined_class, read_ipv6, stamped_of, with_frames, with_group,
 };
 use cap_ip::{Header, transport};
+use cap_ipv6::Ipv6Packet;
 use cap_join::{Datagram, Joiner, Put, Stamped};
 use cap_merge::RunPacket;
 use cap_print::Form;
@@ -44,6 +47,8 @@ use std::marker::Model;
 /// What is counted of the packets of a run.
 #[derive(Drop)]
 pub(crate) struct Tally {
+    // whether IPv6 packets are read
+    reads_ipv6: bool,
     place: u64,
     classes: ClassCounts,
     joined: u64,
@@ -76,11 +81,13 @@ fn counted_one(class: Class) -> u64
 }
 
 impl Tally {
-    /// Nothing was taken.
-    pub(crate) fn new(alloc: Global) -> Tally
+    /// Nothing was taken. IPv6 packets are read or not.
+    pub(crate) fn new(alloc: Global, reads_ipv6: bool) -> Tally
         ensures stands { (next : Option Taken) → TallyStands result [] next }
+        ensures reads { result.reads ≡ reads_ipv6 }
     {
         Tally {
+            reads_ipv6,
             place: 0,
             classes: NO_PACKETS,
             joined: 0,
@@ -109,7 +116,8 @@ impl Tally {
         ensures place { IfOk result (λ waits. self.new.place ≡ (if waits then self.old.place else self.old.place + 1)) }
         ensures fault { IfErr result (λ e. e ≡ Memory) }
         ensures grows { OnErr result ((xs : List Taken) → TallyStands self.old xs (Some (taken_of packet.entry))
-            → is_plain (classify (length xs) (taken_of packet.entry)) ≡ false) }
+            → is_plain_for self.old.reads (length xs) (taken_of packet.entry) ≡ false) }
+        ensures reads { self.new.reads ≡ self.old.reads }
         ensures err { OnErr result (self.new ≡ self.old) }
     {
         let stamped = stamped_of(self.place, packet.meta.time(), packet.meta);
@@ -144,9 +152,10 @@ impl Tally {
         ensures none { OnOk result (self.new.waiting ≡ None) }
         ensures place { OnOk result (self.new.place ≡ self.old.place + 1) }
         ensures limit { IfErr result (λ e. (xs : List Taken) → TallyStands self.old xs (Some (taken_of packet.entry))
-            → LimitBy (Err e) (is_limit_at xs (taken_of packet.entry))) }
+            → LimitBy (Err e) (is_limit_for self.old.reads xs (taken_of packet.entry))) }
         ensures grows { OnErr result ((xs : List Taken) → TallyStands self.old xs (Some (taken_of packet.entry))
-            → is_plain (classify (length xs) (taken_of packet.entry)) ≡ false) }
+            → is_plain_for self.old.reads (length xs) (taken_of packet.entry) ≡ false) }
+        ensures reads { self.new.reads ≡ self.old.reads }
         ensures err { OnErr result (self.new ≡ self.old) }
     {
         let seen = transport(header.key().protocol, captured, header.data_length());
@@ -167,9 +176,11 @@ impl Tally {
         requires none { self.old.waiting ≡ None }
         requires few { self.old.place < 2 ^ 62 }
         requires classify { (place : ℕ) → classify place (taken_of packet) ≡ plain class }
+        requires unread { read_in self.old.reads (taken_of packet) ≡ None }
         ensures looks { Looks self.old (taken_of packet.entry) false self.new }
         ensures none { self.new.waiting ≡ None }
         ensures place { self.new.place ≡ self.old.place + 1 }
+        ensures reads { self.new.reads ≡ self.old.reads }
     {
         // only the contract speaks of the packet: its class says all that is counted
         let _ = packet;
@@ -177,18 +188,114 @@ impl Tally {
         self.place += 1;
     }
 
+    // Counts a packet that is neither a datagram nor a fragment of IPv4, while no datagram waits.
+    #[inline(always)]
+    fn take_other(
+        &mut self,
+        packet: RunPacket<'_>,
+        time: Option<Stamp>,
+        class: Class,
+    ) -> Result<(), ConversationsFault>
+        requires none { self.old.waiting ≡ None }
+        requires few { self.old.place < 2 ^ 62 }
+        requires time { time ≡ meta_time packet.meta.now }
+        requires classify { (place : ℕ) → classify place (taken_of packet) ≡ plain class }
+        ensures looks { OnOk result (Looks self.old (taken_of packet.entry) false self.new) }
+        ensures none { OnOk result (self.new.waiting ≡ None) }
+        ensures place { OnOk result (self.new.place ≡ self.old.place + 1) }
+        ensures limit { IfErr result (λ e. (xs : List Taken) → TallyStands self.old xs (Some (taken_of packet.entry))
+            → LimitBy (Err e) (is_limit_for self.old.reads xs (taken_of packet.entry))) }
+        ensures grows { OnErr result ((xs : List Taken) → TallyStands self.old xs (Some (taken_of packet.entry))
+            → is_plain_for self.old.reads (length xs) (taken_of packet.entry) ≡ false) }
+        ensures reads { self.new.reads ≡ self.old.reads }
+        ensures err { OnErr result (self.new ≡ self.old) }
+    {
+        if self.reads_ipv6 {
+            return self.take_read(packet, time, class);
+        }
+        self.count_plain(packet, class);
+        Ok(())
+    }
+
+    // Counts the same where IPv6 packets are read. It isn't inlined, so that what it returns takes no room where they
+    // aren't.
+    #[inline(never)]
+    fn take_read(
+        &mut self,
+        packet: RunPacket<'_>,
+        time: Option<Stamp>,
+        class: Class,
+    ) -> Result<(), ConversationsFault>
+        requires none { self.old.waiting ≡ None }
+        requires few { self.old.place < 2 ^ 62 }
+        requires reads { self.old.reads ≡ true }
+        requires time { time ≡ meta_time packet.meta.now }
+        requires classify { (place : ℕ) → classify place (taken_of packet) ≡ plain class }
+        ensures looks { OnOk result (Looks self.old (taken_of packet.entry) false self.new) }
+        ensures none { OnOk result (self.new.waiting ≡ None) }
+        ensures place { OnOk result (self.new.place ≡ self.old.place + 1) }
+        ensures limit { IfErr result (λ e. (xs : List Taken) → TallyStands self.old xs (Some (taken_of packet.entry))
+            → LimitBy (Err e) (is_limit_for self.old.reads xs (taken_of packet.entry))) }
+        ensures grows { OnErr result ((xs : List Taken) → TallyStands self.old xs (Some (taken_of packet.entry))
+            → is_plain_for self.old.reads (length xs) (taken_of packet.entry) ≡ false) }
+        ensures reads { self.new.reads ≡ self.old.reads }
+        ensures err { OnErr result (self.new ≡ self.old) }
+    {
+        match read_ipv6(packet.meta, packet.frame) {
+            None => {
+                self.count_plain(packet, class);
+                Ok(())
+            }
+            Some(read) => self.take_ipv6(packet, time, class, read),
+        }
+    }
+
+    // Counts an IPv6 packet, while no datagram waits; as any other it has that class.
+    fn take_ipv6(
+        &mut self,
+        packet: RunPacket<'_>,
+        time: Option<Stamp>,
+        class: Class,
+        read: Ipv6Packet<'_>,
+    ) -> Result<(), ConversationsFault>
+        requires none { self.old.waiting ≡ None }
+        requires few { self.old.place < 2 ^ 62 }
+        requires time { time ≡ meta_time packet.meta.now }
+        requires classify { (place : ℕ) → classify place (taken_of packet) ≡ plain class }
+        requires read { read_in self.old.reads (taken_of packet) ≡ Some (packet_seen read) }
+        ensures looks { OnOk result (Looks self.old (taken_of packet.entry) false self.new) }
+        ensures none { OnOk result (self.new.waiting ≡ None) }
+        ensures place { OnOk result (self.new.place ≡ self.old.place + 1) }
+        ensures limit { IfErr result (λ e. (xs : List Taken) → TallyStands self.old xs (Some (taken_of packet.entry))
+            → LimitBy (Err e) (is_limit_for self.old.reads xs (taken_of packet.entry))) }
+        ensures grows { OnErr result ((xs : List Taken) → TallyStands self.old xs (Some (taken_of packet.entry))
+            → is_plain_for self.old.reads (length xs) (taken_of packet.entry) ≡ false) }
+        ensures reads { self.new.reads ≡ self.old.reads }
+        ensures err { OnErr result (self.new ≡ self.old) }
+    {
+        // only the contract speaks of the class that it has where IPv6 packets aren't read
+        let _ = class;
+        let stamped = stamped_of(self.place, time, packet.meta);
+        add_unit(&mut self.talks, &ipv6_unit(&read, stamped))?;
+        count_frames(&mut self.classes, ipv6_class(&read), 1);
+        self.place += 1;
+        Ok(())
+    }
+
     // Counts the datagram that waits, and with it the packet that completed it.
     fn take_waiting(&mut self) -> Result<(), ConversationsFault>
         requires some { IsSome self.old.waiting }
         requires few { self.old.place < 2 ^ 62 }
         ensures stands { OnOk result ((xs : List Taken) (x : Taken) → TallyStands self.old xs (Some x)
-            → (is_limit_at xs x ≡ false) × ((next : Option Taken) → TallyStands self.new (x ∷ xs) next)) }
+            → (is_limit_for self.old.reads xs x ≡ false)
+            × ((next : Option Taken) → TallyStands self.new (x ∷ xs) next)) }
         ensures limit { IfErr result (λ e. (xs : List Taken) (x : Taken) → TallyStands self.old xs (Some x)
-            → LimitBy (Err e) (is_limit_at xs x)) }
+            → LimitBy (Err e) (is_limit_for self.old.reads xs x)) }
         ensures grows { OnErr result ((xs : List Taken) (x : Taken) → TallyStands self.old xs (Some x)
-            → is_plain (classify (length xs) x) ≡ false) }
+            → is_plain_for self.old.reads (length xs) x ≡ false) }
         ensures none { OnOk result (self.new.waiting ≡ None) }
         ensures place { OnOk result (self.new.place ≡ self.old.place + 1) }
+        ensures reads { self.new.reads ≡ self.old.reads }
         ensures err { OnErr result (self.new ≡ self.old) }
     {
         let Some(datagram) = &self.waiting else {
@@ -221,12 +328,13 @@ impl Tally {
             ≡ fragment (piece_of header bytes.now (stamped_of place packet.meta.now)) }
         ensures stands { OnOk result (Looks self.old (taken_of packet.entry) false self.new) }
         ensures limit { IfErr result (λ e. (xs : List Taken) → TallyStands self.old xs (Some (taken_of packet.entry))
-            → LimitBy (Err e) (is_limit_at xs (taken_of packet.entry))) }
+            → LimitBy (Err e) (is_limit_for self.old.reads xs (taken_of packet.entry))) }
         ensures grows { OnErr result ((xs : List Taken) → TallyStands self.old xs (Some (taken_of packet.entry))
-            → is_plain (classify (length xs) (taken_of packet.entry)) ≡ false) }
+            → is_plain_for self.old.reads (length xs) (taken_of packet.entry) ≡ false) }
         ensures none { OnOk result (self.new.waiting ≡ None) }
         ensures place { OnOk result (self.new.place ≡ self.old.place + 1) }
         ensures same { OnErr result (self.new.place ≡ self.old.place) }
+        ensures reads { self.new.reads ≡ self.old.reads }
         ensures err { OnErr result ((xs : List Taken) → TallyStands self.old xs (Some (taken_of packet.entry))
             → TallyStands self.new xs (Some (taken_of packet.entry))) }
     {
@@ -251,12 +359,13 @@ impl Tally {
         requires few { self.old.place < 2 ^ 62 }
         ensures stands { OnOk result (Looks self.old (taken_of packet.entry) false self.new) }
         ensures limit { IfErr result (λ e. (xs : List Taken) → TallyStands self.old xs (Some (taken_of packet.entry))
-            → LimitBy (Err e) (is_limit_at xs (taken_of packet.entry))) }
+            → LimitBy (Err e) (is_limit_for self.old.reads xs (taken_of packet.entry))) }
         ensures grows { OnErr result ((xs : List Taken) → TallyStands self.old xs (Some (taken_of packet.entry))
-            → is_plain (classify (length xs) (taken_of packet.entry)) ≡ false) }
+            → is_plain_for self.old.reads (length xs) (taken_of packet.entry) ≡ false) }
         ensures none { OnOk result (self.new.waiting ≡ None) }
         ensures place { OnOk result (self.new.place ≡ self.old.place + 1) }
         ensures same { OnErr result (self.new.place ≡ self.old.place) }
+        ensures reads { self.new.reads ≡ self.old.reads }
         ensures err { OnErr result ((xs : List Taken) → TallyStands self.old xs (Some (taken_of packet.entry))
             → TallyStands self.new xs (Some (taken_of packet.entry))) }
     {
@@ -264,10 +373,7 @@ impl Tally {
             return self.take_waiting();
         }
         match classify(packet.meta, packet.frame) {
-            Classified::Plain(class) => {
-                self.count_plain(packet, class);
-                Ok(())
-            }
+            Classified::Plain(class) => self.take_other(packet, time, class),
             Classified::Datagram(header, captured) => self.take_datagram(
                 packet, time, header, captured,
             ),
@@ -319,6 +425,7 @@ impl Tally {
         put_counts(
             writer,
             form,
+            self.reads_ipv6,
             &self.classes,
             self.joined,
             self.joiner.given_up(),
@@ -355,17 +462,19 @@ impl Tally {
 fn put_counts<W: Sink>(
     writer: &mut W,
     form: Form,
+    reads_ipv6: bool,
     classes: &ClassCounts,
     joined: u64,
     given_up: u64,
 ) -> Result<(), Fault>
     ensures text { IsTrue (W.tells_held writer.old)
-        → Prints (line_in form (frames_facts classes.now) ++ line_in form (joined_facts joined given_up)) None
+        → Prints (line_in form (frames_facts_for reads_ipv6 classes.now)
+        ++ line_in form (joined_facts joined given_up)) None
         (W.held writer.old) result (W.held writer.new) }
     ensures writer { WriterKeeps (writer_of W.Sink writer.old) (is_write result) (writer_of W.Sink writer.new) }
     ensures fault { IsOkUnless result Fault.Write }
 {
-    let line = frames_line(form, classes);
+    let line = frames_line(form, reads_ipv6, classes);
     put_all(writer, line.as_slice())?;
     let line = joined_line(form, joined, given_up);
     put_all(writer, line.as_slice())

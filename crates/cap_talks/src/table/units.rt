@@ -1,23 +1,94 @@
 //! Counted units: whole datagrams, with the ends between which they went.
 ghost use Rattle.std.specs.Prelude.{◌≡◌};
-ghost use Rattle.cap_talks.specs.table.Units.{ends_of};
+ghost use Rattle.std.specs.Option.{option_cmp};
+ghost use Rattle.std.specs.Ordering.{is_gt, nat_cmp};
+ghost use Rattle.cap_talks.specs.inner.table.Packed.{IsNarrowAddress};
+ghost use Rattle.cap_talks.specs.table.Units.{end_cmp, ends_of, number_of, version_of};
 
 use cap_ip::Transport;
 use cap_time::Stamp;
 
-/// An end of a conversation: an IPv4 address (RFC 791, 3.1), and a port if the protocol has ports
-/// (RFC 768; RFC 9293, 3.1). Ends compare as pairs of numbers, by address and then by port.
-#[derive(Clone, Copy, PartialEq, Eq, PartialOrd, Ord)]
+/// An address of IPv4 (RFC 791, 3.1) or of IPv6 (RFC 8200, 3), its first byte the highest. Those of IPv4 come before
+/// those of IPv6, and those of one network compare as numbers.
+#[derive(Clone, Copy, Debug, PartialEq, Eq)]
+pub enum Address {
+    /// An IPv4 address.
+    Ipv4(u32),
+    /// An IPv6 address.
+    Ipv6(u128),
+}
+
+impl Address {
+    // The version of the network that it is of: 4 or 6.
+    #[inline(always)]
+    pub(crate) fn version(self) -> u8
+        ensures { result ≡ version_of self }
+    {
+        match self {
+            Address::Ipv4(_) => 4,
+            Address::Ipv6(_) => 6,
+        }
+    }
+
+    // It as a number.
+    #[inline(always)]
+    pub(crate) fn number(self) -> u128
+        ensures value { result ≡ number_of self }
+        ensures narrow { IsNarrowAddress self }
+    {
+        match self {
+            Address::Ipv4(address) => u128::from(address),
+            Address::Ipv6(address) => address,
+        }
+    }
+}
+
+/// An end of a conversation: an address, and a port if the protocol has ports (RFC 768; RFC 9293, 3.1). Ends compare by
+/// address and then by port.
+#[derive(Clone, Copy, PartialEq, Eq)]
 pub struct Endpoint {
-    /// The address, its first byte the highest.
-    pub address: u32,
+    /// The address.
+    pub address: Address,
     /// The port; `None` if the protocol has none.
     pub port: Option<u16>,
 }
 
+// Whether a port is above another, or is one where the other is none.
+#[inline(always)]
+fn is_above(a: Option<u16>, b: Option<u16>) -> bool
+    ensures { result ≡ is_gt (option_cmp nat_cmp a b) }
+{
+    match (a, b) {
+        (Some(a), Some(b)) => a > b,
+        (Some(_), None) => true,
+        (None, _) => false,
+    }
+}
+
+/// Whether an end is greater than another.
+#[inline(always)]
+pub(crate) fn is_greater(a: &Endpoint, b: &Endpoint) -> bool
+    ensures { result ≡ is_gt (end_cmp a.now b.now) }
+{
+    let (version, other) = (a.address.version(), b.address.version());
+    if version != other {
+        return version > other;
+    }
+    let (number, other) = (a.address.number(), b.address.number());
+    if number != other {
+        return number > other;
+    }
+    is_above(a.port, b.port)
+}
+
 /// The source and the destination of a datagram between two addresses, whose transport was read; `None`
 /// if that is bad or cut.
-pub fn ends_of(source: u32, destination: u32, transport: Transport) -> Option<(Endpoint, Endpoint)>
+#[inline(always)]
+pub fn ends_of(
+    source: Address,
+    destination: Address,
+    transport: Transport,
+) -> Option<(Endpoint, Endpoint)>
     ensures { result ≡ ends_of source destination transport }
 {
     let (source_port, destination_port) = match transport {
@@ -46,7 +117,7 @@ pub struct TimedFrame {
     pub place: u64,
 }
 
-/// An IPv4 datagram that counts in a conversation: one that came whole, or one that was joined.
+/// A datagram of IPv4 or IPv6 that counts in a conversation: one that came whole, or one that was joined.
 #[derive(Clone, Copy)]
 pub struct CountedUnit {
     /// The number of the protocol that its data is of: 6 TCP, 17 UDP.

@@ -15,7 +15,7 @@ ghost use Rattle.cap_talks.specs.talks.Telling.{Tells};
 
 use crate::counts::{Counted, Counts, cuts_of, put_files};
 use cap_bytes::{CutRest, Fault, Sink, Source, Tail};
-use cap_print::Form;
+use cap_print::{Form, TimeForm};
 use cap_source::{Capture, Head, PacketFeed};
 use std::alloc::Global;
 
@@ -93,7 +93,7 @@ pub fn file_lines<R: Source, W: Sink>(
     ensures first { IsTrue (list_all R.tells_coming sources.items)
         → FailsFirst tail (map R.coming sources.items) result }
 {
-    file_lines_in(alloc, sources, tail, Form::Text, writer)
+    file_lines_in(alloc, sources, tail, Form::Text(TimeForm::Exact), writer)
 }
 
 /// Writes the lines of 1 to 32 capture files in a form: in text those of `file_lines`, in JSON an object on each line

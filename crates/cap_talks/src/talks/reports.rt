@@ -14,7 +14,8 @@ ghost use Rattle.cap_talks.specs.inner.talks.Reporting.{LeavesReport, TakesAll, 
 ghost use Rattle.cap_talks.specs.talks.CutRests.{rests_by_place};
 ghost use Rattle.cap_talks.specs.table.OtherNetworks.{counts_if, other_counts};
 ghost use Rattle.cap_class.specs.Runs.{taken_after};
-ghost use Rattle.cap_talks.specs.talks.ReportText.{report_shown_in, report_text, report_text_in, report_refusal};
+ghost use Rattle.cap_talks.specs.talks.ReportText.{report_for, report_refusal, report_refusal_for, report_text};
+ghost use Rattle.cap_talks.specs.talks.ReportText.{report_text_in};
 ghost use Rattle.cap_talks.specs.inner.table.Stepping.{TableStands};
 ghost use Rattle.cap_talks.specs.inner.table.TableView.{table_of};
 ghost use Rattle.cap_talks.specs.talks.Telling.{Tells};
@@ -22,7 +23,7 @@ ghost use Rattle.cap_talks.specs.talks.Telling.{Tells};
 use crate::table::{NO_OTHERS, OtherCounts, Step, Table, with_network};
 use cap_bytes::{CutRest, Fault, Sink, Source, Tail};
 use cap_merge::{Merged, merge_files};
-use cap_print::Form;
+use cap_print::{Form, TimeForm};
 use cap_source::PacketFeed;
 use std::alloc::Global;
 
@@ -35,6 +36,9 @@ pub struct ReportOptions {
     pub top: Option<u32>,
     /// Whether the packets of the class `NotIpv4` are counted by their networks.
     pub counts: bool,
+    /// Whether IPv6 packets are read: their conversations stand beside those of IPv4, each packet counts in the class
+    /// that it has then, and the class `not-ipv4` is called `not-ip`.
+    pub ipv6: bool,
 }
 
 /// What a report drops, or counts without a line.
@@ -103,7 +107,8 @@ fn write_table<F: PacketFeed, W: Sink>(
 ) -> Result<Option<OtherCounts>, Fault>
     requires stands { TableStands (table_of table.old) [] }
     ensures text { IsTrue (merged_feed (table_of table.old).parts).told → IsTrue (W.tells_held writer.old)
-        → TellsReport options.form options.top (length (table_of table.old).totals.files) (table_of table.old).parts
+        → TellsReport (table_of table.old).tally.reads options.form options.top
+        (length (table_of table.old).totals.files) (table_of table.old).parts
         (W.held writer.old) result (W.held writer.new) }
     ensures writer { WriterKeeps (writer_of W.Sink writer.old) (is_write result) (writer_of W.Sink writer.new) }
     ensures walks { Walks (merged_feed (table_of table.old).parts) result (merged_feed (table_of table.new).parts) }
@@ -128,7 +133,8 @@ fn report_table<F: PacketFeed, W: Sink>(
 ) -> Result<ReportLeft, Fault>
     requires stands { TableStands (table_of table.old) [] }
     ensures text { IsTrue (merged_feed (table_of table.old).parts).told → IsTrue (W.tells_held writer.old)
-        → TellsReport options.form options.top (length (table_of table.old).totals.files) (table_of table.old).parts
+        → TellsReport (table_of table.old).tally.reads options.form options.top
+        (length (table_of table.old).totals.files) (table_of table.old).parts
         (W.held writer.old) result (W.held writer.new) }
     ensures left { IfOk result (λ left. IsTrue (merged_feed (table_of table.old).parts).told
         → LeavesReport options.counts (length (table_of table.old).totals.files) (table_of table.old).parts left) }
@@ -150,14 +156,15 @@ fn report_merged<F: PacketFeed, W: Sink>(
     writer: &mut W,
 ) -> Result<ReportLeft, Fault>
     ensures text { IsTrue (merged_feed (parts_of merged)).told → IsTrue (W.tells_held writer.old)
-        → TellsReport options.form options.top (length (merged_feed (parts_of merged)).files) (parts_of merged)
+        → TellsReport options.ipv6 options.form options.top (length (merged_feed (parts_of merged)).files)
+        (parts_of merged)
         (W.held writer.old) result (W.held writer.new) }
     ensures left { IfOk result (λ left. IsTrue (merged_feed (parts_of merged)).told
         → LeavesReport options.counts (length (merged_feed (parts_of merged)).files) (parts_of merged) left) }
     ensures writer { WriterKeeps (writer_of W.Sink writer.old) (is_write result) (writer_of W.Sink writer.new) }
     ensures walks { (new : Feed) × Walks (merged_feed (parts_of merged)) result new }
 {
-    let mut table = Table::new(alloc, merged);
+    let mut table = Table::reading(alloc, merged, options.ipv6);
     report_table(alloc, &mut table, options, writer)
 }
 
@@ -186,7 +193,7 @@ pub fn report<R: Source, W: Sink>(
     ensures writer { WriterKeeps (writer_of W.Sink writer.old) (is_write result) (writer_of W.Sink writer.new) }
     ensures read { FailsOf (map R.can_fail sources.items) result }
 {
-    report_in(alloc, sources, tail, Form::Text, writer)
+    report_in(alloc, sources, tail, Form::Text(TimeForm::Exact), writer)
 }
 
 /// Writes the report over 1 to 32 capture files in a form: in text that of `report`, in JSON an object on each line
@@ -254,6 +261,7 @@ pub fn report_and_count<R: Source, W: Sink>(
         form,
         top: None,
         counts,
+        ipv6: false,
     };
     report_with(alloc, sources, tail, options, writer)
 }
@@ -261,7 +269,9 @@ pub fn report_and_count<R: Source, W: Sink>(
 /// Writes what `report_in` writes. If the options have a number, only so many conversations have a line: those with the
 /// most bytes, both ways. The conversation with the most bytes comes first, and those of equal bytes keep their order;
 /// the line `talks` counts all. The conversations with the most bytes are found once all packets are taken: nothing is
-/// written if a growth is refused then. It returns what `report_and_count` returns.
+/// written if a growth is refused then. If they ask for IPv6 it has the conversations of that too, and the refusal of
+/// rule 16 is that of the packet that would open the 1,048,577th conversation of both. It returns what
+/// `report_and_count` returns.
 pub fn report_with<R: Source, W: Sink>(
     alloc: Global,
     sources: Vec<R>,
@@ -272,9 +282,9 @@ pub fn report_with<R: Source, W: Sink>(
     requires some { 1 ≤ vec_len sources }
     requires most { vec_len sources ≤ 32 }
     ensures text { IsTrue (list_all R.tells_coming sources.items) → IsTrue (W.tells_held writer.old)
-        → Tells (report_shown_in options.form options.top (length sources.items)
+        → Tells (report_for options.ipv6 options.form options.top (length sources.items)
         (endings_of_files tail (map R.coming sources.items)) (clocked_run tail (map R.coming sources.items)))
-        (report_refusal (clocked_run tail (map R.coming sources.items)))
+        (report_refusal_for options.ipv6 (clocked_run tail (map R.coming sources.items)))
         (W.held writer.old) result (W.held writer.new) }
     ensures cuts { IfOk result (λ left. IsTrue (list_all R.tells_coming sources.items)
         → left.cuts ≡ rests_by_place (endings_of_files tail (map R.coming sources.items)) (length sources.items)) }

@@ -9,7 +9,7 @@ use crate::hex_vectors::{
 };
 use cap_bytes::{Fault, Pieces, Tail};
 use cap_check::{Check, CheckEnd, CheckLine, check_file, check_to, put_check_line};
-use cap_print::Form;
+use cap_print::{Form, TimeForm};
 use cap_source::SkippedKinds;
 use std::alloc::Global;
 use std::process::Abort;
@@ -95,7 +95,7 @@ const CHECKED: [Row; 11] = [
     (
         TAGGED_FRAMES,
         Tail::Refuse,
-        Form::Text,
+        Form::Text(TimeForm::Exact),
         "check 7 pcap packets 3 bytes 180 first 1+0/1000000 last 3+0/1000000 \
         backward 0 untimed 0 truncated 0 skipped 0 interfaces 1 whole\n",
         true,
@@ -103,7 +103,7 @@ const CHECKED: [Row; 11] = [
     (
         RUNS_BACK,
         Tail::Refuse,
-        Form::Text,
+        Form::Text(TimeForm::Exact),
         "check 7 pcap packets 2 bytes 0 first 1+0/1000000 last 5+0/1000000 \
         backward 1 untimed 0 truncated 0 skipped 0 interfaces 1 whole\n",
         true,
@@ -111,7 +111,7 @@ const CHECKED: [Row; 11] = [
     (
         OPTIONS_PCAPNG,
         Tail::Refuse,
-        Form::Text,
+        Form::Text(TimeForm::Exact),
         "check 7 pcapng packets 1 bytes 4 first 2+500000/1000000 last 2+500000/1000000 \
         backward 0 untimed 0 truncated 0 skipped 1 interfaces 1 whole\n",
         true,
@@ -119,7 +119,7 @@ const CHECKED: [Row; 11] = [
     (
         SIMPLE_PACKET,
         Tail::Refuse,
-        Form::Text,
+        Form::Text(TimeForm::Exact),
         "check 7 pcapng packets 1 bytes 10 first - last - \
         backward 0 untimed 1 truncated 1 skipped 0 interfaces 1 whole\n",
         true,
@@ -127,7 +127,7 @@ const CHECKED: [Row; 11] = [
     (
         CUT_PCAP,
         Tail::Accept,
-        Form::Text,
+        Form::Text(TimeForm::Exact),
         "check 7 pcap packets 0 bytes 0 first - last - \
         backward 0 untimed 0 truncated 0 skipped 0 interfaces 1 whole cut\n",
         true,
@@ -135,7 +135,7 @@ const CHECKED: [Row; 11] = [
     (
         CUT_PCAP,
         Tail::Refuse,
-        Form::Text,
+        Form::Text(TimeForm::Exact),
         "check 7 pcap packets 0 bytes 0 first - last - \
         backward 0 untimed 0 truncated 0 skipped 0 interfaces 1 \
         refused offset 24 rule 3 cut\n",
@@ -144,7 +144,7 @@ const CHECKED: [Row; 11] = [
     (
         UNKNOWN,
         Tail::Refuse,
-        Form::Text,
+        Form::Text(TimeForm::Exact),
         "check 7 - packets 0 bytes 0 first - last - \
         backward 0 untimed 0 truncated 0 skipped 0 interfaces 0 \
         refused offset 0 rule 1 magic\n",
@@ -153,7 +153,7 @@ const CHECKED: [Row; 11] = [
     (
         SILENT,
         Tail::Refuse,
-        Form::Text,
+        Form::Text(TimeForm::Exact),
         "check 7 pcapng packets 1 bytes 4 first 2+500000/1000000 last 2+500000/1000000 \
         backward 0 untimed 0 truncated 0 skipped 0 interfaces 3 whole\n",
         true,
@@ -161,7 +161,7 @@ const CHECKED: [Row; 11] = [
     (
         FIVE,
         Tail::Refuse,
-        Form::Text,
+        Form::Text(TimeForm::Exact),
         "check 7 pcapng packets 1 bytes 4 first 2+500000/1000000 last 2+500000/1000000 \
         backward 0 untimed 0 truncated 0 skipped 0 interfaces 5 whole\n",
         true,
@@ -169,7 +169,7 @@ const CHECKED: [Row; 11] = [
     (
         CARRY_PCAP,
         Tail::Refuse,
-        Form::Json,
+        Form::Json(TimeForm::Exact),
         "{\"type\":\"check\",\"file\":7,\"format\":\"pcap\",\"packets\":1,\"bytes\":4,\
         \"first\":[2,500000,1000000],\"last\":[2,500000,1000000],\"backward\":0,\"untimed\":0,\
         \"truncated\":0,\"skipped\":0,\"interfaces\":1,\"whole\":true,\"cut\":false}\n",
@@ -178,7 +178,7 @@ const CHECKED: [Row; 11] = [
     (
         CUT_PCAP,
         Tail::Refuse,
-        Form::Json,
+        Form::Json(TimeForm::Exact),
         "{\"type\":\"check\",\"file\":7,\"format\":\"pcap\",\"packets\":0,\"bytes\":0,\
         \"first\":null,\"last\":null,\"backward\":0,\
         \"untimed\":0,\"truncated\":0,\"skipped\":0,\"interfaces\":1,\
@@ -218,7 +218,7 @@ fn checks_unread(rt: &impl Abort, alloc: Global, row: &Unread) {
         1,
         Tail::Refuse,
         COUNTS,
-        Form::Text,
+        Form::Text(TimeForm::Exact),
         b"",
         &mut writer,
     );
@@ -244,7 +244,7 @@ fn a_check_is_written_or_fails(rt: HostRuntime) {
         1,
         Tail::Refuse,
         COUNTS,
-        Form::Text,
+        Form::Text(TimeForm::Exact),
         b"",
         &mut writer,
     );
@@ -257,7 +257,7 @@ fn a_check_is_written_or_fails(rt: HostRuntime) {
     let answer = put_check_line(
         &mut writer,
         COUNTS,
-        Form::Text,
+        Form::Text(TimeForm::Exact),
         3,
         b" name a",
         &Check::unopened(),
@@ -271,7 +271,7 @@ fn a_check_is_written_or_fails(rt: HostRuntime) {
         3,
         Tail::Refuse,
         COUNTS,
-        Form::Text,
+        Form::Text(TimeForm::Exact),
         b"",
         &mut writer,
     );

@@ -7,8 +7,8 @@ use crate::commands::captures::{
 };
 use crate::files::{ask_written, reader_of, room_of};
 use cap_bytes::{Order, Rule, Tail};
-use cap_commands::convert_to;
-use cap_source::Format;
+use cap_commands::{OutputFormat, convert_to};
+use cap_time::Unit;
 use std::alloc::Global;
 use std::process::Abort;
 
@@ -16,47 +16,82 @@ use std::process::Abort;
 type Row = (
     &'static str,
     Order,
-    Format,
+    OutputFormat,
     &'static str,
     Result<(), (u64, Rule)>,
 );
 
-const WRITTEN: [Row; 13] = [
+// The packet at 2.5 seconds, and one at 2 seconds and a nanosecond, in nanoseconds.
+const CARRIED_NANO: &str = "4d3cb2a10200040000000000000000000000040001000000\
+    020000000065cd1d040000000400000001020304";
+
+const INEXACT_NANO: &str = "4d3cb2a10200040000000000000000000000040001000000\
+    0200000001000000040000000400000001020304";
+
+const WRITTEN: [Row; 16] = [
     (
         CARRY_PCAP,
         Order::Little,
-        Format::Pcapng,
+        OutputFormat::Pcapng,
         CARRY_PCAPNG,
         Ok(()),
     ),
     (
         OBSOLETE_PCAPNG,
         Order::Little,
-        Format::Pcapng,
+        OutputFormat::Pcapng,
         CARRY_PCAPNG,
         Ok(()),
     ),
     (
         CARRY_PCAPNG,
         Order::Little,
-        Format::Pcap,
+        OutputFormat::Pcap(None),
         CARRIED_PCAP,
         Ok(()),
     ),
-    (CARRY_PCAPNG, Order::Big, Format::Pcap, CARRIED_BIG, Ok(())),
+    (
+        CARRY_PCAPNG,
+        Order::Big,
+        OutputFormat::Pcap(None),
+        CARRIED_BIG,
+        Ok(()),
+    ),
     (
         CARRY_PCAP,
         Order::Little,
-        Format::Pcap,
+        OutputFormat::Pcap(None),
         CARRIED_PCAP,
         Ok(()),
+    ),
+    // In the unit that is asked for; a time that isn't whole in it.
+    (
+        CARRY_PCAPNG,
+        Order::Little,
+        OutputFormat::Pcap(Some(Unit::Nano)),
+        CARRIED_NANO,
+        Ok(()),
+    ),
+    (
+        CARRIED_NANO,
+        Order::Little,
+        OutputFormat::Pcap(Some(Unit::Micro)),
+        CARRIED_PCAP,
+        Ok(()),
+    ),
+    (
+        INEXACT_NANO,
+        Order::Little,
+        OutputFormat::Pcap(Some(Unit::Micro)),
+        "d4c3b2a10200040000000000000000000000040001000000",
+        Err((24, Rule::Inexact)),
     ),
     // No interface; a second link; a time below 0; a packet without a time, in both formats; 1/1024 of a second; a
     // packet that is cut; an empty file.
     (
         "0a0d0d0a1c0000004d3c2b1a01000000ffffffffffffffff1c000000",
         Order::Little,
-        Format::Pcap,
+        OutputFormat::Pcap(None),
         "",
         Err((0, Rule::NoInterface)),
     ),
@@ -69,7 +104,7 @@ const WRITTEN: [Row; 13] = [
         0000000600000024000000000000000000\
         2625a000000004000000040102030400000024",
         Order::Little,
-        Format::Pcap,
+        OutputFormat::Pcap(None),
         CARRIED_PCAP,
         Err((132, Rule::LinkMixed)),
     ),
@@ -78,7 +113,7 @@ const WRITTEN: [Row; 13] = [
         010000002c000000010000000000040009000100060000000e000800ffffffffffffffff000000002c000000\
         0600000024000000000000000000000020a1070004000000040000000102030424000000",
         Order::Little,
-        Format::Pcap,
+        OutputFormat::Pcap(None),
         "d4c3b2a10200040000000000000000000000040001000000",
         Err((72, Rule::TimeRange)),
     ),
@@ -87,7 +122,7 @@ const WRITTEN: [Row; 13] = [
         0100000014000000010000000400000014000000\
         03000000140000000a0000000102030414000000",
         Order::Little,
-        Format::Pcap,
+        OutputFormat::Pcap(None),
         "d4c3b2a10200040000000000000000000400000001000000",
         Err((48, Rule::NoTime)),
     ),
@@ -96,7 +131,7 @@ const WRITTEN: [Row; 13] = [
         0100000014000000010000000400000014000000\
         03000000140000000a0000000102030414000000",
         Order::Little,
-        Format::Pcapng,
+        OutputFormat::Pcapng,
         "0a0d0d0a1c0000004d3c2b1a01000000ffffffffffffffff1c000000\
         0100000020000000010000000400000009000100060000000000000020000000",
         Err((48, Rule::NoTime)),
@@ -106,14 +141,14 @@ const WRITTEN: [Row; 13] = [
         01000000200000000100000000000400090001008a0000000000000020000000\
         060000002400000000000000000000000100000004000000040000000102030424000000",
         Order::Little,
-        Format::Pcap,
+        OutputFormat::Pcap(None),
         "4d3cb2a10200040000000000000000000000040001000000",
         Err((60, Rule::Inexact)),
     ),
     (
         "d4c3b2a102000400000000000000000000000400010000000100000060e316000400000004000000010203",
         Order::Little,
-        Format::Pcapng,
+        OutputFormat::Pcapng,
         "0a0d0d0a1c0000004d3c2b1a01000000ffffffffffffffff1c000000\
         0100000020000000010000000000040009000100060000000000000020000000",
         Err((24, Rule::Cut)),
@@ -121,7 +156,7 @@ const WRITTEN: [Row; 13] = [
     (
         "",
         Order::Little,
-        Format::Pcapng,
+        OutputFormat::Pcapng,
         "0a0d0d0a1c0000004d3c2b1a01000000ffffffffffffffff1c000000",
         Err((0, Rule::Cut)),
     ),

@@ -7,7 +7,7 @@ use crate::hex_vectors::{CARRY_PCAP, CARRY_PCAPNG, CUT_PCAP, ETHERNET, File, RAW
 use cap_bytes::{CutRest, Fault, Refusal, Rule, Tail};
 use cap_commands::{CutEnds, DiffEnd, DiffOptions, diff_in, diff_to};
 use cap_line::{Ignored, NOTHING_IGNORED};
-use cap_print::Form;
+use cap_print::{Form, TimeForm};
 use std::alloc::Global;
 use std::process::Abort;
 
@@ -222,7 +222,7 @@ fn is_object(rt: &impl Abort, alloc: Global, row: &(File, File, u32, &str, bool)
     let other = reader_of(rt, alloc, second, 4096);
     let options = DiffOptions {
         ignored: NOTHING_IGNORED,
-        form: Form::Json,
+        form: Form::Json(TimeForm::Exact),
         most,
     };
     let answer = diff_in(alloc, one, other, Tail::Refuse, options, &mut writer);
@@ -302,7 +302,7 @@ fn ignores(rt: &impl Abort, alloc: Global, row: &(File, File, Ignored, &str, boo
     let other = reader_of(rt, alloc, second, 4096);
     let options = DiffOptions {
         ignored,
-        form: Form::Text,
+        form: Form::Text(TimeForm::Exact),
         most: 16,
     };
     let answer = diff_in(alloc, one, other, Tail::Refuse, options, &mut writer);
@@ -482,8 +482,8 @@ fn drops(rt: &impl Abort, alloc: Global, row: &Dropped, form: Form) {
         most: 16,
     };
     let printed = match form {
-        Form::Text => text,
-        Form::Json => objects,
+        Form::Text(_) => text,
+        Form::Json(_) => objects,
     };
     let answer = diff_in(alloc, one, other, Tail::Accept, options, &mut writer);
     let end = DiffEnd { is_same, cuts };
@@ -493,7 +493,7 @@ fn drops(rt: &impl Abort, alloc: Global, row: &Dropped, form: Form) {
 #[test]
 fn always_memory_cut_captures_are_compared(rt: HostRuntime) {
     for row in &DROPPED {
-        for form in [Form::Text, Form::Json] {
+        for form in [Form::Text(TimeForm::Exact), Form::Json(TimeForm::Exact)] {
             drops(&rt, rt.alloc(), row, form);
         }
     }

@@ -9,7 +9,7 @@ use crate::hex_vectors::{
 use cap_bytes::{Pieces, Tail};
 use cap_check::{CheckLine, check_all_to, check_to};
 use cap_digest::{PacketDigest, lowest_terms};
-use cap_print::Form;
+use cap_print::{Form, TimeForm};
 use cap_source::{Capture, PacketFeed, next_packet};
 use std::alloc::Global;
 use std::process::Abort;
@@ -63,7 +63,7 @@ const CHECK_NONE_CUT: &str = "check 1 pcap packets 0 bytes 0 first - last - \
 // A file, whether a cut end is dropped, the line and its form, what is printed, and whether the file is whole.
 type Row = (File, Tail, CheckLine, Form, &'static str, bool);
 
-const TEXT: Form = Form::Text;
+const TEXT: Form = Form::Text(TimeForm::Exact);
 
 const DIGEST: CheckLine = CheckLine::Digest;
 
@@ -81,7 +81,7 @@ const DIGESTED: [Row; 13] = [
         CARRY_PCAPNG,
         Tail::Refuse,
         DIGEST,
-        Form::Json,
+        Form::Json(TimeForm::Exact),
         CARRIED_JSON,
         true,
     ),
@@ -89,7 +89,7 @@ const DIGESTED: [Row; 13] = [
         CUT_PCAP,
         Tail::Refuse,
         DIGEST,
-        Form::Json,
+        Form::Json(TimeForm::Exact),
         REFUSED_JSON,
         false,
     ),
@@ -100,7 +100,7 @@ const DIGESTED: [Row; 13] = [
         CUT_PCAP,
         Tail::Refuse,
         BOTH,
-        Form::Json,
+        Form::Json(TimeForm::Exact),
         CHECK_REFUSED_JSON,
         false,
     ),

@@ -6,9 +6,13 @@ use crate::commands::captures::{
 use crate::files::{ask_written, readers_of, room_of};
 use cap_bytes::{CutRest, Fault, Order, Sink};
 use cap_commands::{Done, DroppedInfo, Finding, NOTHING_LEFT, job_to};
-use cap_line::{Job, NOTHING_IGNORED, Task, can_replace, can_share, is_whole};
+use cap_line::{
+    Job, NOTHING_IGNORED, Task, can_have_unit, can_replace, can_share, can_skip, is_whole,
+};
+use cap_print::TimeForm;
 use cap_source::Format;
 use cap_talks::NO_OTHERS;
+use cap_time::Unit;
 use cap_write::NO_PACKETS_LEFT_OUT;
 use std::alloc::Global;
 use std::process::Abort;
@@ -73,21 +77,27 @@ const PRINTED: [Printed; 7] = [
     (Task::Report, false, CARRY_PCAP, REPORT),
 ];
 
-// A task, the order and the format that it writes, the captures, and what is written, in hex. A join writes no datagram
-// of frames of 4 bytes.
+// A task, the order, the format and the unit that it writes, the captures, and what is written, in hex. A join writes
+// no datagram of frames of 4 bytes.
 type Written = (
     Task,
     Order,
     Option<Format>,
+    Option<Unit>,
     &'static [&'static str],
     &'static str,
 );
 
-const WRITTEN: [Written; 5] = [
+// The packet of CARRY_PCAPNG in nanoseconds.
+const CARRIED_NANO: &str = "4d3cb2a10200040000000000000000000000040001000000\
+    020000000065cd1d040000000400000001020304";
+
+const WRITTEN: [Written; 7] = [
     (
         Task::Convert,
         Order::Little,
         Some(Format::Pcapng),
+        None,
         &[CARRY_PCAP],
         CARRY_PCAPNG,
     ),
@@ -95,6 +105,7 @@ const WRITTEN: [Written; 5] = [
         Task::Convert,
         Order::Little,
         Some(Format::Pcap),
+        None,
         &[CARRY_PCAPNG],
         CARRIED_PCAP,
     ),
@@ -102,6 +113,7 @@ const WRITTEN: [Written; 5] = [
         Task::Convert,
         Order::Big,
         Some(Format::Pcap),
+        None,
         &[CARRY_PCAPNG],
         CARRIED_BIG,
     ),
@@ -109,10 +121,34 @@ const WRITTEN: [Written; 5] = [
         Task::Merge,
         Order::Little,
         None,
+        None,
         &[CARRY_PCAP, CARRY_PCAP],
         TWICE,
     ),
-    (Task::Join, Order::Little, None, &[CARRY_PCAP], SECTION),
+    (
+        Task::Join,
+        Order::Little,
+        None,
+        None,
+        &[CARRY_PCAP],
+        SECTION,
+    ),
+    (
+        Task::Convert,
+        Order::Little,
+        Some(Format::Pcap),
+        Some(Unit::Nano),
+        &[CARRY_PCAPNG],
+        CARRIED_NANO,
+    ),
+    (
+        Task::Merge,
+        Order::Little,
+        Some(Format::Pcap),
+        Some(Unit::Nano),
+        &[CARRY_PCAP],
+        CARRIED_NANO,
+    ),
 ];
 
 // What a job of that many captures answers.
@@ -132,6 +168,8 @@ fn does<W: Sink>(
     holds!(rt; is_whole(job.task, job.files.len(), job.to, job.out));
     holds!(rt; can_replace(job.whole, job.out));
     holds!(rt; can_share(job.shares, job.to));
+    holds!(rt; can_skip(job.skips, job.files.as_slice()));
+    holds!(rt; can_have_unit(job.unit, job.to));
     let done = job_to(alloc, job, sources, false, writer)?;
     Ok(done.finding)
 }
@@ -153,6 +191,8 @@ fn counts<W: Sink>(
     holds!(rt; is_whole(job.task, job.files.len(), job.to, job.out));
     holds!(rt; can_replace(job.whole, job.out));
     holds!(rt; can_share(job.shares, job.to));
+    holds!(rt; can_skip(job.skips, job.files.as_slice()));
+    holds!(rt; can_have_unit(job.unit, job.to));
     job_to(alloc, job, sources, true, writer)
 }
 
@@ -166,11 +206,13 @@ fn printing(rt: &impl Abort, alloc: Global, task: Task, allow_cut: bool) -> Job<
         allow_cut,
         order: Order::Little,
         to: None,
+        unit: None,
         out: None,
         explain: false,
         whole: false,
         json: false,
         data: None,
+        time: TimeForm::Exact,
         top: None,
         ignored: NOTHING_IGNORED,
         list: None,
@@ -179,6 +221,7 @@ fn printing(rt: &impl Abort, alloc: Global, task: Task, allow_cut: bool) -> Job<
         digests: false,
         names: false,
         shares: false,
+        skips: false,
     }
 }
 
@@ -271,7 +314,7 @@ fn a_job_finds_a_file_that_is_not_whole(rt: HostRuntime) {
 
 // What a job writes.
 fn writes(rt: &impl Abort, alloc: Global, row: &Written) {
-    let (task, order, to, captures, text) = *row;
+    let (task, order, to, unit, captures, text) = *row;
     let mut files = Vec::new(alloc);
     for _ in captures {
         files.push("a").expect(rt, "memory");
@@ -282,11 +325,13 @@ fn writes(rt: &impl Abort, alloc: Global, row: &Written) {
         allow_cut: false,
         order,
         to,
+        unit,
         out: Some("b"),
         explain: false,
         whole: false,
         json: false,
         data: None,
+        time: TimeForm::Exact,
         top: None,
         ignored: NOTHING_IGNORED,
         list: None,
@@ -295,6 +340,7 @@ fn writes(rt: &impl Abort, alloc: Global, row: &Written) {
         digests: false,
         names: false,
         shares: false,
+        skips: false,
     };
     let mut writer = room_of(rt, alloc, 1024);
     let answer = does(rt, alloc, &job, captures, &mut writer);

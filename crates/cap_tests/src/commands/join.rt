@@ -6,6 +6,7 @@ use crate::commands::{ask_front, reader_again, room_again};
 use crate::files::{ask_written, readers_of, room_of, roomy};
 use cap_bytes::{Fault, Order, Sink, Source, Tail};
 use cap_commands::{join_to, join_to_pcap};
+use cap_time::Unit;
 use std::alloc::Global;
 use std::process::Abort;
 
@@ -36,15 +37,16 @@ fn join<R: Source, W: Sink>(
     join_to(alloc, sources, Tail::Refuse, Order::Little, writer)
 }
 
-// The same as pcap.
+// The same as pcap, in that unit.
 fn join_as_pcap<R: Source, W: Sink>(
     rt: &impl Abort,
     alloc: Global,
     sources: Vec<R>,
+    unit: Option<Unit>,
     writer: &mut W,
 ) -> Result<(), Fault> {
     same!(rt; sources.len(), 1);
-    join_to_pcap(alloc, sources, Tail::Refuse, Order::Big, writer)
+    join_to_pcap(alloc, sources, Tail::Refuse, Order::Big, unit, writer)
 }
 
 // What is written of the fragments, by `piece` bytes at a time.
@@ -69,13 +71,30 @@ const JOINED_AS_PCAP: &str = "a1b2c3d40002000400000000000000000000000000000065\
     00000004000000000000002c0000002c4500002c00070000401166b80a0000010a000002\
     03e907d100180000a0a1a2a3a4a5a6a7b0b1b2b3b4b5b6b7";
 
+// The same in nanoseconds.
+const JOINED_IN_NANO: &str = "a1b23c4d0002000400000000000000000000000000000065\
+    00000004000000000000002c0000002c4500002c00070000401166b80a0000010a000002\
+    03e907d100180000a0a1a2a3a4a5a6a7b0b1b2b3b4b5b6b7";
+
+const AS_PCAP: [(Option<Unit>, &str); 3] = [
+    (None, JOINED_AS_PCAP),
+    (Some(Unit::Micro), JOINED_AS_PCAP),
+    (Some(Unit::Nano), JOINED_IN_NANO),
+];
+
+// What is written of the fragments as pcap in a unit.
+fn joins_as_pcap(rt: &impl Abort, alloc: Global, unit: Option<Unit>, wanted: &str) {
+    let sources = readers_of(rt, alloc, &[FRAGMENTS], 1);
+    let mut writer = room_of(rt, alloc, 512);
+    let answer = join_as_pcap(rt, alloc, sources, unit, &mut writer);
+    ask_written(rt, alloc, (answer, writer.bytes()), Ok(()), &[wanted]);
+}
+
 #[test]
 fn always_memory_fragments_are_joined_as_pcap(rt: HostRuntime) {
-    let sources = readers_of(&rt, rt.alloc(), &[FRAGMENTS], 1);
-    let mut writer = room_of(&rt, rt.alloc(), 512);
-    let answer = join_as_pcap(&rt, rt.alloc(), sources, &mut writer);
-    let found = (answer, writer.bytes());
-    ask_written(&rt, rt.alloc(), found, Ok(()), &[JOINED_AS_PCAP]);
+    for (unit, wanted) in &AS_PCAP {
+        joins_as_pcap(&rt, rt.alloc(), *unit, *wanted);
+    }
 }
 
 // The answer is as with memory, or `Memory` after a prefix, whichever growth is refused.

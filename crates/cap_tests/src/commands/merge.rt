@@ -7,6 +7,7 @@ use crate::commands::{ask_front, reader_again, room_again};
 use crate::files::{answer_of_files, ask_written, pair_of, readers_of, room_of};
 use cap_bytes::{Fault, Order, Rule, Sink, Source, Tail};
 use cap_commands::{merge_to, merge_to_pcap};
+use cap_time::Unit;
 use std::alloc::Global;
 use std::process::Abort;
 
@@ -84,16 +85,17 @@ fn merge<R: Source, W: Sink>(
     merge_to(alloc, sources, Tail::Refuse, Order::Little, writer)
 }
 
-// The same as pcap.
+// The same as pcap, in that unit.
 fn merge_as_pcap<R: Source, W: Sink>(
     rt: &impl Abort,
     alloc: Global,
     sources: Vec<R>,
+    unit: Option<Unit>,
     writer: &mut W,
 ) -> Result<(), Fault> {
     holds!(rt; !sources.is_empty());
     holds!(rt; sources.len() <= 32);
-    merge_to_pcap(alloc, sources, Tail::Refuse, Order::Big, writer)
+    merge_to_pcap(alloc, sources, Tail::Refuse, Order::Big, unit, writer)
 }
 
 // What is written and answered of files that are given by `piece` bytes at a time.
@@ -122,13 +124,30 @@ const BY_CLOCK_AS_PCAP: &str = "a1b2c3d40002000400000000000000000004000000000001
     000000000000000100000001b200000005000000000000000100000001a5\
     00000001000000000000000100000001a100000005000000000000000100000001b5";
 
+// The same in nanoseconds.
+const BY_CLOCK_IN_NANO: &str = "a1b23c4d000200040000000000000000000400000000000100000002\
+    000000000000000100000001b200000005000000000000000100000001a5\
+    00000001000000000000000100000001a100000005000000000000000100000001b5";
+
+const AS_PCAP: [(Option<Unit>, &str); 3] = [
+    (None, BY_CLOCK_AS_PCAP),
+    (Some(Unit::Micro), BY_CLOCK_AS_PCAP),
+    (Some(Unit::Nano), BY_CLOCK_IN_NANO),
+];
+
+// What is written of two files as pcap in a unit.
+fn merges_as_pcap(rt: &impl Abort, alloc: Global, unit: Option<Unit>, wanted: &str) {
+    let sources = readers_of(rt, alloc, &[RUNS_BACK, RUNS_ON], 1);
+    let mut writer = room_of(rt, alloc, 512);
+    let answer = merge_as_pcap(rt, alloc, sources, unit, &mut writer);
+    ask_written(rt, alloc, (answer, writer.bytes()), Ok(()), &[wanted]);
+}
+
 #[test]
 fn always_memory_files_are_merged_as_pcap(rt: HostRuntime) {
-    let sources = readers_of(&rt, rt.alloc(), &[RUNS_BACK, RUNS_ON], 1);
-    let mut writer = room_of(&rt, rt.alloc(), 512);
-    let answer = merge_as_pcap(&rt, rt.alloc(), sources, &mut writer);
-    let found = (answer, writer.bytes());
-    ask_written(&rt, rt.alloc(), found, Ok(()), &[BY_CLOCK_AS_PCAP]);
+    for (unit, wanted) in &AS_PCAP {
+        merges_as_pcap(&rt, rt.alloc(), *unit, *wanted);
+    }
 }
 
 // The answer is as with memory, or `Memory` after a prefix, whichever growth is refused.

@@ -18,4 +18,4 @@ returns c =
       c.either-time.ensures,
       c.either-captured.ensures,
       c.either-original.ensures,
-    ) (json-line c.args.n c.args.it c.args.place)
+    ) (json-line c.args.times c.args.n c.args.it c.args.place)

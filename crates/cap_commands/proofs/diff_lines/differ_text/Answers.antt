@@ -13,4 +13,4 @@ returns c =
       c.put_place.ensures.text,
       c.prepend_text.ensures.text,
       c.new-line.ensures.text,
-    ) (text-line c.args.n c.args.it c.args.place)
+    ) (text-line c.args.times c.args.n c.args.it c.args.place)

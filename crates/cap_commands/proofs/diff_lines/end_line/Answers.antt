@@ -8,4 +8,4 @@ returns-in-Json c =
       c.prepend_field-in-Json.ensures.text,
       c.prepend_text-in-Json.ensures.text,
       c.new-line.ensures.text,
-    ) (end-line c.args.n))
+    ) (end-line c.in-Json.field-0 c.args.n))

@@ -20,6 +20,8 @@ returns-clause-app c =
     (λ app is. record {
       orders = is.1.orders;
       orders_are = is.1.orders_are;
+      units = is.1.units;
+      units_are = is.1.units_are;
       formats = formats.0;
       formats_are = formats.1;
       app_is = rw (is.2, is.1.app_is, c.files.ensures.rule) refl;

@@ -1,10 +1,9 @@
 use Rattle.std.proofs.Common.{codes}
-use Rattle.cap_line.specs.Command.{files_rule, showing_app}
-use Rattle.cap_line.proofs.Parsing.{AddsRule-is}
+use Rattle.cap_line.specs.Command.{timing_app}
+use Rattle.cap_line.proofs.Parsing.{skips}
 use Rattle.cap_line.proofs.command.info.Goals as goal
 
 pub returns-clause-app : goal.returns-clause-app
 returns-clause-app c =
-    AddsRule-is c.showing.result c.with_argument.result _ files_rule
-    (showing_app (codes "info")) c.showing.ensures.app c.files.ensures.rule
-    c.with_argument.ensures.app
+    skips (timing_app (codes "info")) c.timing-before.result c.skipping.result c.timing-before.ensures.app
+    c.skipping.ensures.app

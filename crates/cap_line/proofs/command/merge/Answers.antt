@@ -10,6 +10,8 @@ returns-clause-app c =
     (λ app is. record {
       orders = is.orders;
       orders_are = is.orders_are;
+      units = is.units;
+      units_are = is.units_are;
       formats = is.formats;
       formats_are = is.formats_are;
       app_is = rw (is.app_is, c.share_interfaces.ensures.rule) refl;

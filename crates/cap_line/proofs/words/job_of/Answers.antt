@@ -13,13 +13,35 @@ returns c =
     let taken : inputs_fault c.in-Some.task (files_in rows) (names_file_in rows) (out_in rows) ≡ Ok tt =
     grind (arith, common_steps) in
     let count : length (files_in rows) ≡ vec_len c.in-Ok.files = grind (arith, common_steps) in
-    let named : option_or (option_map (λ v. v.now) c.text_of-8.result) (option_map (λ l. l.now) c.text_of-7.result)
+    let named : option_or (option_map (λ v. v.now) c.text_of-10.result) (option_map (λ l. l.now) c.text_of-9.result)
     ≡ names_file_in rows = grind (arith, common_steps) in
     let whole = taken-is c.in-Some.task (files_in rows) (names_file_in rows) _ (out_in rows) _ taken count named in (
       c.in-Some.task,
       grind (arith, common_steps),
       taken,
-      grind (arith, common_steps),
+      record {
+        task_is = grind (arith, common_steps);
+        files = grind (arith, common_steps);
+        allow_cut = grind (arith, common_steps);
+        order = grind (arith, common_steps);
+        to = grind (arith, common_steps);
+        unit = grind (arith, common_steps);
+        out = grind (arith, common_steps);
+        explain = grind (arith, common_steps);
+        whole = grind (arith, common_steps);
+        json = grind (arith, common_steps);
+        class = grind (arith, common_steps);
+        digests = grind (arith, common_steps);
+        names = grind (arith, common_steps);
+        shares = grind (arith, common_steps);
+        skips = grind (arith, common_steps);
+        list = grind (arith, common_steps);
+        verify = grind (arith, common_steps);
+        count = grind (arith, common_steps);
+        top = grind (arith, common_steps);
+        time = grind (arith, common_steps);
+        ignored = grind (arith, common_steps);
+      },
       record {
         some = whole.0;
         listed = whole.1;
@@ -27,6 +49,8 @@ returns c =
         taken = grind (arith, common_steps);
         replaced = grind (arith, common_steps);
         shared = grind (arith, common_steps);
+        skipped = grind (arith, common_steps);
+        in_unit = grind (arith, common_steps);
       },
       grind (arith, common_steps),
     )

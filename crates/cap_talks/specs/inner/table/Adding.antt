@@ -6,6 +6,7 @@ use Rattle.cap_join.specs.declared.datagrams.Datagram.{Datagram}
 use Rattle.cap_talks.specs.table.Rows.{is_refused, talk_limit}
 use Rattle.cap_talks.specs.table.Conversations.{Conversation, talk_key}
 use Rattle.cap_talks.specs.table.Units.{ends_of}
+use Rattle.cap_talks.specs.declared.table.units.Address.TheVariants.{Ipv4}
 use Rattle.cap_talks.specs.declared.table.units.CountedUnit.{CountedUnit}
 use Rattle.cap_talks.specs.table.CountedUnits.{timed_frame, unit_of}
 
@@ -13,7 +14,7 @@ use Rattle.cap_talks.specs.table.CountedUnits.{timed_frame, unit_of}
 unfoldable pub datagram_unit : Datagram → Option CountedUnit
 datagram_unit d =
     option_map (unit_of d.header.key.protocol d.frames d.bytes (timed_frame d.first) (timed_frame d.last))
-    (ends_of d.header.key.source d.header.key.destination
+    (ends_of (Ipv4 d.header.key.source) (Ipv4 d.header.key.destination)
     (transport_of d.header.key.protocol d.payload.items (length d.payload.items)))
 
 -- its conversation is one too many

@@ -11,10 +11,10 @@ use Rattle.cap_source.specs.declared.feeds.FileEnd.{FileEnd}
 use Rattle.cap_source.specs.declared.feeds.Head.{Head}
 use Rattle.cap_source.specs.declared.feeds.Head.TheVariants as heads
 use Rattle.cap_time.specs.declared.stamps.Stamp.{Stamp}
-use Rattle.cap_talks.specs.table.CountedUnits.{is_limit_at}
+use Rattle.cap_talks.specs.table.CountedUnits.{is_limit_for}
 use Rattle.cap_talks.specs.table.CountedUnits.{limit_refusal}
-use Rattle.cap_talks.specs.inner.table.Looking.{is_plain}
-use Rattle.cap_class.specs.Taken.{Taken, classify}
+use Rattle.cap_talks.specs.inner.table.Looking.{is_plain_for}
+use Rattle.cap_class.specs.Taken.{Taken}
 use Rattle.cap_talks.specs.inner.table.Tallies.{TallyState, TallyStands}
 use Rattle.cap_talks.specs.inner.table.Totals.{TotalsState, TotalsStand}
 use Rattle.cap_talks.specs.declared.table.tables.Step.{Step}
@@ -55,6 +55,7 @@ pub record StepKeeps (old new : TableState) : Type 0 where
   pub keeps : FeedKeeps (merged_feed old.parts) (merged_feed new.parts)
   pub places : new.tally.place + (merged_feed new.parts).left ≤ old.tally.place + (merged_feed old.parts).left
   pub files : length new.totals.files ≡ length old.totals.files
+  pub reads : new.tally.reads ≡ old.tally.reads
 
 -- The packets to come, and how the files end, are the same.
 pub record KeepsTableRun (old new : TableState) : Type 0 where
@@ -76,7 +77,8 @@ pub record TableTakes (old new : TableState) : Type 0 where
   pub endings : IsTrue (merged_feed old.parts).told → (file : ℕ)
       → (merged_feed new.parts).endings file ≡ (merged_feed old.parts).endings file
   pub goes : FeedGoes (merged_feed old.parts) (merged_feed new.parts)
-  pub stands : (xs : List Taken) → TableStands old xs → (is_limit_at xs item ≡ false) × TableStands new (item ∷ xs)
+  pub stands : (xs : List Taken) → TableStands old xs
+      → (is_limit_for old.tally.reads xs item ≡ false) × TableStands new (item ∷ xs)
   pub going : new.done ≡ old.done
 
 -- The feed is at its end.
@@ -107,7 +109,7 @@ pub record RefusedHere (refusal : Refusal) (old new : TableState) : Type 0 where
   pub run : IsTrue (merged_feed old.parts).told → run_of old.parts ≡ clocked item ∷ drop 1 (run_of old.parts)
   pub same : IsTrue (merged_feed old.parts).told → KeepsTableRun old new
   pub goes : FeedGoes (merged_feed old.parts) (merged_feed new.parts)
-  pub limit : (xs : List Taken) → TableStands old xs → is_limit_at xs item ≡ true
+  pub limit : (xs : List Taken) → TableStands old xs → is_limit_for old.tally.reads xs item ≡ true
   pub stays : TableStays old new
 
 -- A read failed in this call, or in an earlier one.
@@ -115,11 +117,11 @@ pub record TableFails (file offset : ℕ) (old new : TableState) : Type 0 where
   pub breaks : FeedBreaks (merged_feed old.parts) file offset (merged_feed new.parts)
   pub stays : TableStays old new
 
--- The packet that is known to come first is a datagram or a fragment, of which something is kept.
+-- The packet that is known to come first is one of which something is kept: a datagram or a fragment.
 pub record KeepsNext (old new : TableState) : Type 0 where
   pub item : Taken
   pub next : next_taken new.parts ≡ Some item
-  pub kept : (xs : List Taken) → TableStands old xs → is_plain (classify (length xs) item) ≡ false
+  pub kept : (xs : List Taken) → TableStands old xs → is_plain_for old.tally.reads (length xs) item ≡ false
 
 -- A growth was refused, of the feed or of what is kept of the packet that comes first: the packets to come are the
 -- same.

@@ -1,5 +1,5 @@
 -- What a tally keeps, and what it stands for.
-use Rattle.std.specs.Prelude.{◌≡◌, ℕ, List, ◌∷◌, ◌++◌, ◌+◌, ◌-◌, ◌*◌, ◌≤◌, ◌^◌, Bool, true, false, length, Option, Some}
+use Rattle.std.specs.Prelude.{◌≡◌, ℕ, List, ◌∷◌, ◌++◌, ◌+◌, ◌*◌, ◌≤◌, ◌^◌, Bool, true, false, length, Option, Some}
 use Rattle.std.specs.Prelude.{None, Result, Ok, Err, ⊤, if◌then◌else◌}
 use Rattle.cap_join.specs.ByteMap.{completes}
 use Rattle.cap_join.specs.Fragments.{Piece}
@@ -14,21 +14,22 @@ use Rattle.cap_print.specs.declared.forms.Form.{Form}
 use Rattle.cap_talks.specs.table.Conversations.{Conversation}
 use Rattle.cap_talks.specs.table.Rows.{TalksState, frames_in, bytes_in}
 use Rattle.cap_talks.specs.table.Rows as talks
-use Rattle.cap_class.specs.Classes.{classes}
+use Rattle.cap_class.specs.Ipv6.{report_classes}
 use Rattle.cap_class.specs.Counting.{counts_of, is_class}
-use Rattle.cap_talks.specs.table.TakenText.{frames_facts, joined_facts}
+use Rattle.cap_talks.specs.table.TakenText.{frames_facts_for, joined_facts}
 use Rattle.cap_talks.specs.table.TalkLines.{talk_texts_in, talks_facts}
 use Rattle.cap_class.specs.Taken.{Taken, fragment, classify, events_of}
-use Rattle.cap_talks.specs.table.CountedUnits.{counted_units, joined_in, is_limit_at}
+use Rattle.cap_talks.specs.table.CountedUnits.{is_limit_for, joined_in, units_for}
 use Rattle.cap_class.specs.declared.classes.Class.{Class}
 use Rattle.cap_class.specs.declared.classes.Class.TheVariants as class
 use Rattle.cap_class.specs.declared.counts.ClassCounts.{ClassCounts}
 use Rattle.cap_talks.specs.declared.table.conversations.ConversationsFault.{ConversationsFault}
 use Rattle.cap_talks.specs.declared.table.conversations.ConversationsFault.TheVariants as faults
 
--- How many packets were taken, how many of each class there are, how many joined datagrams count, the conversations,
--- the joiner, and a joined datagram that waits for its conversation.
+-- Whether IPv6 packets are read, how many packets were taken, how many of each class there are, how many joined
+-- datagrams count, the conversations, the joiner, and a joined datagram that waits for its conversation.
 pub record TallyState : Type 0 where
+  pub reads : Bool
   pub place : ℕ
   pub classes : ClassCounts
   pub joined : ℕ
@@ -54,9 +55,9 @@ Joins (Some d) joiner xs next = WaitsFor d joiner xs next
 -- if one is.
 pub record TallyStands (t : TallyState) (xs : List Taken) (next : Option Taken) : Type 0 where
   pub place : t.place ≡ length xs
-  pub classes : t.classes ≡ counts_of (classes xs)
+  pub classes : t.classes ≡ counts_of (report_classes t.reads xs)
   pub joined : t.joined ≡ joined_in xs
-  pub talks : talks.TalksStandFor t.talks (counted_units xs)
+  pub talks : talks.TalksStandFor t.talks (units_for t.reads xs)
   pub joins : Joins t.waiting t.joiner xs next
 
 -- a waiting datagram fits into the numbers
@@ -85,7 +86,7 @@ waiting_bytes (Some d) = length d.payload.items
 -- the lines of a tally, with those of these conversations, in a form
 unfoldable pub tally_text_in : Form → List Conversation → TallyState → List ℕ
 tally_text_in form rows t =
-    line_in form (frames_facts t.classes) ++ line_in form (joined_facts t.joined t.joiner.given_up)
+    line_in form (frames_facts_for t.reads t.classes) ++ line_in form (joined_facts t.joined t.joiner.given_up)
     ++ (line_in form (talks_facts (length t.talks.rows)) ++ talk_texts_in form rows)
 
 -- one, of a class that counts
@@ -96,7 +97,7 @@ counted_one c = if is_class class.Counted c then 1 else 0
 abbrev pub Looks : TallyState → Taken → Bool → TallyState → Type 0
 Looks old x true new = (xs : List Taken) → TallyStands old xs (Some x) → TallyStands new xs (Some x)
 Looks old x false new =
-    (xs : List Taken) → TallyStands old xs (Some x) → (is_limit_at xs x ≡ false)
+    (xs : List Taken) → TallyStands old xs (Some x) → (is_limit_for old.reads xs x ≡ false)
     × ((next : Option Taken) → TallyStands new (x ∷ xs) next)
 
 -- a datagram waits, if that is returned

@@ -5,6 +5,7 @@ use Rattle.cap_talks.specs.inner.table.Tallies.{TallyState, IsSoundTally}
 abbrev pub tally_view : Inside → TallyState
 tally_view t =
     record {
+      reads = t.reads_ipv6;
       place = t.place;
       classes = t.classes;
       joined = t.joined;

@@ -2,12 +2,14 @@
 use Rattle.std.specs.Prelude.{◌≡◌, ℕ, List, [], ◌∷◌, ◌++◌, true, false, None, Some, Option, codes, pos}
 use Rattle.std.proofs.Common.{lit<}
 use Rattle.cap_print.specs.declared.forms.Form.TheVariants.{Json}
+use Rattle.cap_print.specs.declared.forms.TimeForm.TheVariants.{Exact}
 use Rattle.cap_talks.specs.declared.table.units.TimedFrame.{TimedFrame}
 use Rattle.cap_time.specs.declared.stamps.Stamp.{Stamp}
 use Rattle.cap_talks.specs.table.Rows.{is_refused}
 use Rattle.cap_talks.specs.table.TalkLines.{talk_texts, talk_texts_in}
 use Rattle.cap_talks.specs.table.Conversations.{talk_key, rows_of}
 use Rattle.cap_talks.specs.table.Units.{end_at}
+use Rattle.cap_talks.specs.declared.table.units.Address.TheVariants.{Ipv4}
 use Rattle.cap_talks.specs.declared.table.units.CountedUnit.{CountedUnit}
 use Rattle.cap_talks.specs.declared.table.units.Endpoint.{Endpoint}
 
@@ -26,10 +28,10 @@ worked_frame_at place time = Some (record { time = time; place = place })
 
 -- 10.0.0.1 and 10.0.0.2, with a port
 abbrev pub one : ℕ → Endpoint
-one port = end_at 167772161 (Some port)
+one port = end_at (Ipv4 167772161) (Some port)
 
 abbrev pub two : ℕ → Endpoint
-two port = end_at 167772162 (Some port)
+two port = end_at (Ipv4 167772162) (Some port)
 
 -- a UDP datagram of that many frames and bytes
 abbrev pub unit_of : Endpoint → Endpoint → ℕ → ℕ → Option TimedFrame → Option TimedFrame → CountedUnit
@@ -68,7 +70,7 @@ pub record TalkLines : Type 0 where
       ≡ codes "talk udp 10.0.0.1:1001 10.0.0.2:2001 forward 4 112 backward 0 0 first 1+0/1000000 last 4+0/1000000\n"
   pub begun_line : talk_texts (rows_of begun_before)
       ≡ codes "talk udp 10.0.0.1:1 10.0.0.2:2 forward 3 180 backward 0 0 first 0+512/1024 last 0+512/1024\n"
-  pub answered_object : talk_texts_in Json (rows_of worked_answer)
+  pub answered_object : talk_texts_in (Json Exact) (rows_of worked_answer)
       ≡ codes "{\"type\":\"talk\",\"protocol\":17,\"a\":{\"address\":\"10.0.0.1\",\"port\":1000},"
       ++ codes "\"b\":{\"address\":\"10.0.0.2\",\"port\":2000},\"forward\":{\"packets\":1,\"bytes\":60},"
       ++ codes "\"backward\":{\"packets\":1,\"bytes\":60},\"first\":[1,0,1000000],\"last\":[2,0,1000000]}\n"

@@ -15,6 +15,6 @@ invariant-loop-place g l = record {
         told = g.O.Reader.Source.tells_coming s;
         bytes = g.O.Reader.Source.coming s;
         can_fail = g.O.Reader.Device.can_fail s;
-      }) (line_by l.job.task l.job.digests) (form_by l.job.json) (tail_of l.job.allow_cut) l.job.names
+      }) (line_by l.job.task l.job.digests) (form_by l.job.json l.job.time) (tail_of l.job.allow_cut) l.job.names
       (map (λ n. n.now) l.names) l.place l.are_whole (g.W.Sink.held l.fn.writer) (g.W.Sink.held l.writer);
 }

@@ -43,10 +43,10 @@ returns-in_err-put_check_line-clause-text g c = λ w.
     })
     c.reader_of-reader.result in
     let name_is : c.as_slice.result.now
-    ≡ name_fields (form_by job.json) job.names (map (λ n. n.now) names) (c.args.place + 1) =
+    ≡ name_fields (form_by job.json job.time) job.names (map (λ n. n.now) names) (c.args.place + 1) =
     c.as_slice.ensures.value
     ∙ (rw c.form_of-form.ensures at c.in_ok-named.ensures
-    ∙ named-at (form_by job.json) job.names names c.args.place _ c.requires.place) in
+    ∙ named-at (form_by job.json job.time) job.names names c.args.place _ c.requires.place) in
     rw (p.1, p.2)
     (record {
       reader = c.reader_of-reader.result;
@@ -74,10 +74,10 @@ returns-clause-text g c = λ w.
     })
     c.reader_of-reader.result in
     let name_is : c.as_slice.result.now
-    ≡ name_fields (form_by job.json) job.names (map (λ n. n.now) names) (c.args.place + 1) =
+    ≡ name_fields (form_by job.json job.time) job.names (map (λ n. n.now) names) (c.args.place + 1) =
     c.as_slice.ensures.value
     ∙ (rw c.form_of-form.ensures at c.in_ok-named.ensures
-    ∙ named-at (form_by job.json) job.names names c.args.place _ c.requires.place) in
+    ∙ named-at (form_by job.json job.time) job.names names c.args.place _ c.requires.place) in
     record {
       reader = c.reader_of-reader.result;
       opened = given-at (g.O.Opener.gives c.args.opener.now) names c.args.place _ _ _ c.requires.place

@@ -28,5 +28,5 @@ returns-else-is_surveying-clause-runs g c =
       held = g.S.Writer.Sink.held w;
       waiting = g.S.Writer.Outlet.waiting w;
     }) (g.S.System.commits c.args.system.now) (g.S.System.lacks_input c.args.system.now) c.args.job.now
-    c.run_files.result
-    c.is_surveying.result false c.is_surveying.ensures c.if-is_surveying.false c.run_files.ensures.runs
+    c.run_either.result
+    c.is_surveying.result false c.is_surveying.ensures c.if-is_surveying.false c.run_either.ensures.runs

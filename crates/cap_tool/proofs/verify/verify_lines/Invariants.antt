@@ -16,6 +16,6 @@ invariant-loop-place g l = record {
         told = g.O.Reader.Source.tells_coming s;
         bytes = g.O.Reader.Source.coming s;
         can_fail = g.O.Reader.Device.can_fail s;
-      })) (tail_of l.job.allow_cut) (form_by l.job.json) (map entry_of l.lines) l.place l.found
+      })) (tail_of l.job.allow_cut) (form_by l.job.json l.job.time) (map entry_of l.lines) l.place l.found
       (g.W.Sink.held l.fn.writer) (g.W.Sink.held l.writer);
 }

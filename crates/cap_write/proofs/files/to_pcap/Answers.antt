@@ -2,7 +2,7 @@ use Rattle.std.proofs.Common.{arith, ◌∙◌, ap, Err}
 use Rattle.cap_source.proofs.Onward.{Keeps-trans}
 use Rattle.std.proofs.lemmas.Result.{err_from_is_err_and}
 use Rattle.cap_source.specs.inner.Captures.{capture_feed, capture_first}
-use Rattle.cap_write.specs.Pcap.{pcap_bytes}
+use Rattle.cap_write.specs.Pcap.{first_in_unit, pcap_bytes}
 use Rattle.cap_write.proofs.Starting.{Prints-unread, Writer-unread, Walks-unread, Walks-first, Ends-first}
 use Rattle.cap_write.proofs.Starting.{memory-unread}
 use Rattle.cap_write.proofs.files.to_pcap.Goals as goal
@@ -24,7 +24,8 @@ returns-clause-keeps g c = search (Keeps-trans, c.in_ok-first.ensures.keeps, c.p
 pub returns-in_err-first-clause-text : goal.returns-in_err-first-clause-text
 returns-in_err-first-clause-text g c =
     let p = err_from_is_err_and c.from_residual.result c.from_residual.ensures.1 in
-    λ t w. Prints-unread _ _ _ _ (pcap_bytes c.args.order (capture_first c.args.capture.now)
+    λ t w. Prints-unread _ _ _ _ (pcap_bytes c.args.order
+    (first_in_unit c.args.unit (capture_first c.args.capture.now))
     (capture_feed c.args.capture.now).items) _ (g.W.Sink.held c.args.writer.now) c.in_err-first.ensures.answer (p.1
     ∙ ap Err p.2)
 

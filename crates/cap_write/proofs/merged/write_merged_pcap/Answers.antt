@@ -12,6 +12,6 @@ returns-in_err-units_of-in-Some-clause-text g c = λ t w.
     let shown = g.F.PacketFeed.feed c.next_packet.new.feed in
     let shows : ShowsItem old (Ok (Some c.in-Some.meta)) shown = rw c.in-Some.is at (c.in_ok-meta.ensures.items t) in
     rw (p.1, p.2)
-    (Prints-run-untimed c.args.order c.in-Some.meta shown.frame old.items (drop 1 old.items)
+    (Prints-run-untimed c.args.unit c.args.order c.in-Some.meta shown.frame old.items (drop 1 old.items)
     (g.W.Sink.held c.args.writer.now) c.in_err-units_of-in-Some.field-0.0 shows.1
     c.in_err-units_of-in-Some.ensures.answer)

@@ -32,4 +32,5 @@ returns-clause-opens c =
       ) c.in_ok-merged.ensures.unread,
       rw c.in_ok-opened.ensures.ok c.new.ensures.stands,
       rw c.in_ok-opened.ensures.ok c.new.ensures.going,
+      rw c.in_ok-opened.ensures.ok c.new.ensures.reads,
     ) refl

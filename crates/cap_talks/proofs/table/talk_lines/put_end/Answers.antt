@@ -6,7 +6,7 @@ pub returns-clause-text : goal.returns-clause-text
 returns-clause-text c =
     rw (
       c.put_group.ensures.text,
-      c.put_name.ensures.text,
+      c.put_address_name.ensures.text,
       c.put_quote-2.ensures.text,
       c.prepend_address.ensures.text,
       c.put_quote.ensures.text,

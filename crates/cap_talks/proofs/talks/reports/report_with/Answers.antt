@@ -8,7 +8,8 @@ pub returns-clause-text : goal.returns-clause-text
 returns-clause-text g c = λ t w.
     let reader = reader_of g.R.Source.tells_coming g.R.Device.can_fail g.R.Source.coming in
     tells-files reader c.args.tail c.args.sources.items (parts_of c.in_ok-merged.merged) c.in_ok-merged.ensures.unread
-    c.args.options.form c.args.options.top (g.W.Sink.held c.args.writer.now) (g.W.Sink.held c.report_merged.new.writer)
+    c.args.options.ipv6 c.args.options.form c.args.options.top (g.W.Sink.held c.args.writer.now)
+    (g.W.Sink.held c.report_merged.new.writer)
     c.report_merged.result
     (λ told. c.report_merged.ensures.text told w) t
 

@@ -1,6 +1,4 @@
-use Rattle.std.proofs.Common.{Ok, Option}
 use Rattle.std.proofs.lemmas.Result.{err_from_is_err_and}
-use Rattle.cap_merge.specs.Parts.{merged_feed}
 use Rattle.cap_talks.specs.inner.table.TableView.{table_of}
 use Rattle.cap_talks.specs.declared.table.others.OtherCounts.{OtherCounts}
 use Rattle.cap_talks.proofs.CountedNetworks.{CountsSoFar-begin, CountsSoFar-end, CountsSoFar-looked, CountsSoFar-more}

@@ -11,6 +11,7 @@ invariant_of-self c = record {
   order = order-kept c.add_unit.result _ _ c.args.unit.now c.add_unit.ensures.entries c.add_unit.ensures.err
       c.requires.unit.order c.self.invariant.order;
   keys = c.add_unit.ensures.keys;
+  known = c.add_unit.ensures.known;
 }
 
 pub returns-clause-stands : goal.returns-clause-stands

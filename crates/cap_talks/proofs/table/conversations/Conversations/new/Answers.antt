@@ -5,4 +5,4 @@ use Rattle.cap_talks.proofs.table.conversations.Conversations.new.Goals as goal
 
 pub returns-clause-stands : goal.returns-clause-stands
 unfolding rows_of
-returns-clause-stands c = record { rows = ap unpacked_talks c.new.ensures.empty }
+returns-clause-stands c = record { rows = ap (unpacked_talks _) c.new.ensures.empty }

@@ -1,6 +1,6 @@
-use Rattle.std.proofs.Common.{Option, inl, inr, refl, ◌∙◌}
+use Rattle.std.proofs.Common.{inl, inr, refl}
 use Rattle.std.proofs.lemmas.Result.{err_from_is_err_and}
-use Rattle.cap_class.specs.Taken.{Taken, taken}
+use Rattle.cap_class.specs.Taken.{taken}
 use Rattle.cap_merge.specs.Parts.{merged_feed}
 use Rattle.cap_merge.specs.inner.MergedLaws.{merged-is-feed}
 use Rattle.cap_merge.specs.inner.View.{parts_of}
@@ -65,14 +65,14 @@ returns-clause-sees g c =
 pub returns-in_err-peek-clause-keeps : goal.returns-in_err-peek-clause-keeps
 returns-in_err-peek-clause-keeps g c =
     let e = c.in_err-peek.ensures in
-    record { keeps = e.keeps; places = stayed _ _ _ _ refl e.keeps.left; files = refl }
+    record { keeps = e.keeps; places = stayed _ _ _ _ refl e.keeps.left; files = refl; reads = refl }
 
 pub returns-then-not-branch-clause-keeps : goal.returns-then-not-branch-clause-keeps
 returns-then-not-branch-clause-keeps g c =
     let e = c.in_ok-peek.ensures in
-    record { keeps = e.keeps; places = stayed _ _ _ _ refl e.keeps.left; files = refl }
+    record { keeps = e.keeps; places = stayed _ _ _ _ refl e.keeps.left; files = refl; reads = refl }
 
 pub returns-clause-keeps : goal.returns-clause-keeps
 returns-clause-keeps g c =
     let e = c.in_ok-peek.ensures in
-    record { keeps = e.keeps; places = stayed _ _ _ _ refl e.keeps.left; files = refl }
+    record { keeps = e.keeps; places = stayed _ _ _ _ refl e.keeps.left; files = refl; reads = refl }

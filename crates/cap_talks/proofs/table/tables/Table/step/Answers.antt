@@ -9,7 +9,7 @@ use Rattle.cap_class.specs.Taken.{taken}
 use Rattle.cap_talks.specs.inner.table.Stepping.{next_taken, clocked}
 use Rattle.cap_class.specs.Taken.{Taken}
 use Rattle.cap_talks.specs.inner.table.Tallies.{LimitBy, TallyStands}
-use Rattle.cap_talks.specs.table.CountedUnits.{is_limit_at}
+use Rattle.cap_talks.specs.table.CountedUnits.{is_limit_for}
 use Rattle.cap_talks.proofs.Stepping.{known-packet, known-end, faulted, stands-asked, next-is, first-asked, run-packet}
 use Rattle.cap_talks.proofs.Stepping.{run-end, of-file, is-left, found-packet, again-packet, again-end, again-fault}
 use Rattle.cap_talks.proofs.Stepping.{stayed, went}
@@ -165,7 +165,8 @@ returns-in-Err-Limit-clause-step g c =
           (c.next_packet-packet.ensures.run (e.keeps.told t)) (e.run t);
       same = λ t. record { run = e.run t; endings = (e.items t).endings };
       goes = known.goes;
-      limit = λ xs h. subst (λ f. LimitBy (Err f) (is_limit_at xs x)) c.in-Err-Limit.field-0-is
+      limit = λ xs h. subst (λ f. LimitBy (Err f) (is_limit_for c.args.self.now.tally.reads xs x))
+          c.in-Err-Limit.field-0-is
           (c.in-Err-Limit.ensures.limit xs (now xs h.tally));
       stays = record {
         stands = λ xs h. record {
@@ -216,7 +217,7 @@ returns-in-Err-Memory-clause-step g c =
 pub returns-in_err-peek-clause-keeps : goal.returns-in_err-peek-clause-keeps
 returns-in_err-peek-clause-keeps g c =
     let e = c.in_err-peek.ensures in
-    record { keeps = e.keeps; places = stayed _ _ _ _ refl e.keeps.left; files = refl }
+    record { keeps = e.keeps; places = stayed _ _ _ _ refl e.keeps.left; files = refl; reads = refl }
 
 pub returns-in_err-peek-clause-again : goal.returns-in_err-peek-clause-again
 returns-in_err-peek-clause-again g c =
@@ -226,7 +227,7 @@ returns-in_err-peek-clause-again g c =
 pub returns-then-not-branch-clause-keeps : goal.returns-then-not-branch-clause-keeps
 returns-then-not-branch-clause-keeps g c =
     let e = c.in_ok-peek.ensures in
-    record { keeps = e.keeps; places = stayed _ _ _ _ refl e.keeps.left; files = refl }
+    record { keeps = e.keeps; places = stayed _ _ _ _ refl e.keeps.left; files = refl; reads = refl }
 
 pub returns-then-not-branch-clause-again : goal.returns-then-not-branch-clause-again
 returns-then-not-branch-clause-again g c =
@@ -247,6 +248,7 @@ returns-in-Ok-clause-keeps g c =
       keeps = Keeps-trans _ _ _ e.keeps c.pass.ensures.keeps;
       places = went _ _ _ _ _ c.in-Ok.ensures.place e.keeps.left c.pass.ensures.passes.left;
       files = c.take-in-Ok.ensures.files;
+      reads = c.in-Ok.ensures.reads;
     }
 
 pub returns-in-Ok-clause-again : goal.returns-in-Ok-clause-again
@@ -256,7 +258,12 @@ returns-in-Ok-clause-again g c =
 pub returns-in-Err-Limit-clause-keeps : goal.returns-in-Err-Limit-clause-keeps
 returns-in-Err-Limit-clause-keeps g c =
     let e = c.in_ok-peek.ensures in
-    record { keeps = e.keeps; places = stayed _ _ _ _ c.in-Err-Limit.ensures.same e.keeps.left; files = refl }
+    record {
+      keeps = e.keeps;
+      places = stayed _ _ _ _ c.in-Err-Limit.ensures.same e.keeps.left;
+      files = refl;
+      reads = c.in-Err-Limit.ensures.reads;
+    }
 
 pub returns-in-Err-Limit-clause-again : goal.returns-in-Err-Limit-clause-again
 returns-in-Err-Limit-clause-again g c =
@@ -265,7 +272,12 @@ returns-in-Err-Limit-clause-again g c =
 pub returns-in-Err-Memory-clause-keeps : goal.returns-in-Err-Memory-clause-keeps
 returns-in-Err-Memory-clause-keeps g c =
     let e = c.in_ok-peek.ensures in
-    record { keeps = e.keeps; places = stayed _ _ _ _ c.in-Err-Memory.ensures.same e.keeps.left; files = refl }
+    record {
+      keeps = e.keeps;
+      places = stayed _ _ _ _ c.in-Err-Memory.ensures.same e.keeps.left;
+      files = refl;
+      reads = c.in-Err-Memory.ensures.reads;
+    }
 
 pub returns-in-Err-Memory-clause-again : goal.returns-in-Err-Memory-clause-again
 returns-in-Err-Memory-clause-again g c =

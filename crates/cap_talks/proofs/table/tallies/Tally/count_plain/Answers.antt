@@ -1,4 +1,5 @@
 use Rattle.std.proofs.Common.{ap, ◌∙◌, arith}
+use Rattle.cap_class.specs.Ipv6.{read_in}
 use Rattle.cap_class.specs.Runs.{taken_of}
 use Rattle.cap_talks.specs.inner.table.Tallies.{TallyState}
 use Rattle.cap_talks.specs.inner.table.TallyView.{tally_view}
@@ -24,7 +25,8 @@ invariant_of-self c =
     let x = taken_of c.args.packet in
     sound-plain t x (ap (λ (n : TallyState). n.waiting) c.self.view_is ∙ c.requires.none) c.self.invariant
     (omega (arith, c.requires.few, ap (λ (n : TallyState). n.place) c.self.view_is)) c.args.class
-    c.requires.classify _ c.with_frames-self-inside.ensures
+    c.requires.classify (ap (λ (n : TallyState). read_in n.reads x) c.self.view_is ∙ c.requires.unread) _
+    c.with_frames-self-inside.ensures
 
 pub returns-clause-looks : goal.returns-clause-looks
 returns-clause-looks c =
@@ -32,4 +34,5 @@ returns-clause-looks c =
     let x = taken_of c.args.packet in
     rw (← c.self.view_is)
     (looks-plain t x (ap (λ (n : TallyState). n.waiting) c.self.view_is ∙ c.requires.none) c.args.class
-    c.requires.classify _ c.with_frames-self-inside.ensures)
+    c.requires.classify (ap (λ (n : TallyState). read_in n.reads x) c.self.view_is ∙ c.requires.unread) _
+    c.with_frames-self-inside.ensures)

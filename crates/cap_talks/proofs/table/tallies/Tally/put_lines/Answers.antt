@@ -3,7 +3,7 @@ use Rattle.std.proofs.lemmas.Result.{err_from_is_err_and}
 use Rattle.cap_bytes.proofs.Putting.{Prints-behind}
 use Rattle.cap_bytes.specs.Printing.{Prints}
 use Rattle.cap_print.specs.Facts.{line_in}
-use Rattle.cap_talks.specs.table.TakenText.{frames_facts, joined_facts}
+use Rattle.cap_talks.specs.table.TakenText.{frames_facts_for, joined_facts}
 use Rattle.cap_talks.specs.inner.table.Ranked.{Shows}
 use Rattle.cap_talks.specs.inner.table.Tallies.{TallyState, tally_text_in}
 use Rattle.cap_talks.specs.table.TalkLines.{talk_texts_in, talks_facts}
@@ -20,10 +20,12 @@ returns-in_err-put_counts-clause-text g c = λ rows shows w.
     (g.W.Sink.held c.args.writer.now)
     (Err c.in_err-put_counts.field-0.0) (g.W.Sink.held c.put_counts.new.writer)) c.self.view_is
     (prints-first (g.W.Sink.held c.args.writer.now) (g.W.Sink.held c.put_counts.new.writer)
-    (line_in c.args.form (frames_facts t.classes) ++ line_in c.args.form (joined_facts t.joined t.joiner.given_up))
+    (line_in c.args.form (frames_facts_for t.reads_ipv6 t.classes) ++ line_in c.args.form
+    (joined_facts t.joined t.joiner.given_up))
     (line_in c.args.form (talks_facts (length t.talks.rows)) ++ talk_texts_in c.args.form rows)
     c.in_err-put_counts.field-0.0 c.in_err-put_counts.ensures.fault
-    (subst (λ n. Prints {A = Unit {0}} (line_in c.args.form (frames_facts t.classes) ++ line_in c.args.form
+    (subst (λ n. Prints {A = Unit {0}} (line_in c.args.form (frames_facts_for t.reads_ipv6 t.classes) ++ line_in
+    c.args.form
     (joined_facts t.joined n)) None
     (g.W.Sink.held c.args.writer.now) (Err c.in_err-put_counts.field-0.0) (g.W.Sink.held c.put_counts.new.writer))
     c.given_up.ensures.value (c.in_err-put_counts.ensures.text w))))
@@ -38,7 +40,8 @@ returns-clause-text g c = λ rows shows w.
     rw (← c.self.view_is)
     (Prints-behind None (g.W.Sink.held c.args.writer.now) (g.W.Sink.held c.put_counts.new.writer)
     (g.W.Sink.held c.put_talks.new.writer)
-    (line_in c.args.form (frames_facts t.classes) ++ line_in c.args.form (joined_facts t.joined t.joiner.given_up))
+    (line_in c.args.form (frames_facts_for t.reads_ipv6 t.classes) ++ line_in c.args.form
+    (joined_facts t.joined t.joiner.given_up))
     (line_in c.args.form (talks_facts (length t.talks.rows)) ++ talk_texts_in c.args.form rows)
     c.put_talks.result (rw (ap (λ n. line_in c.args.form (joined_facts t.joined n)) c.given_up.ensures.value) at
     ((e.text w).1))

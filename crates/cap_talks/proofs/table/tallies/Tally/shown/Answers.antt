@@ -1,5 +1,4 @@
-use Rattle.std.proofs.Common.{arith, rules, subst}
-use Rattle.std.proofs.lemmas.Grind.{common_steps}
+use Rattle.std.proofs.Common.{arith}
 use Rattle.cap_talks.specs.inner.table.TallyView.{tally_view}
 use Rattle.cap_talks.proofs.Exits.{frames-taken}
 use Rattle.cap_talks.proofs.SumLaws.{sum_law}

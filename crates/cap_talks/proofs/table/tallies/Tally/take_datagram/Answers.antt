@@ -6,6 +6,7 @@ use Rattle.cap_talks.specs.table.Conversations.{frames_of, units_bytes}
 use Rattle.cap_talks.proofs.SumLaws.{sum_law}
 use Rattle.cap_talks.specs.inner.table.Adding.{is_over}
 use Rattle.cap_class.specs.Classes.{class_of}
+use Rattle.cap_class.proofs.Seen.{read-datagram}
 use Rattle.cap_class.specs.Runs.{taken_of}
 use Rattle.cap_talks.specs.inner.table.Looking.{is_plain}
 use Rattle.cap_class.specs.Taken.{datagram, stamped_of}
@@ -13,10 +14,10 @@ use Rattle.cap_class.specs.Counting.{with_frames}
 use Rattle.cap_talks.specs.inner.table.Tallies.{TallyState, LimitBy}
 use Rattle.cap_talks.specs.inner.table.TallyView.{tally_view}
 use Rattle.cap_talks.specs.table.CountedUnits.{listed, whole_unit}
-use Rattle.cap_talks.proofs.Tallying.{unit-is}
+use Rattle.cap_talks.proofs.Tallying.{unit-seen}
 use Rattle.cap_talks.proofs.UnitOrder.{whole-order}
 use Rattle.cap_talks.proofs.Exits.{sum-taken, frames-taken, looks-datagram, sound-datagram, numbers-whole, limit-is}
-use Rattle.cap_talks.proofs.Exits.{limit-by}
+use Rattle.cap_talks.proofs.Exits.{kept-by, limit-by}
 use Rattle.cap_talks.proofs.table.tallies.Tally.take_datagram.Goals as goal
 
 pub add_unit-requires-clause-frames : goal.add_unit-requires-clause-frames
@@ -62,8 +63,9 @@ returns-in_err-add_unit-clause-limit c =
     limit-by c.in_err-add_unit.field-0.0 _ _
     (limit-is t x xs (Some x) (whole_unit c.args.header c.args.captured.now
     (stamped_of t.place c.args.packet.meta.now)) h
-    (unit-is x xs (datagram c.args.header c.args.captured.now)
+    (unit-seen t.reads x xs (datagram c.args.header c.args.captured.now)
     (c.requires.classify (length xs))
+    (read-datagram x (length xs) t.reads c.args.header c.args.captured.now (c.requires.classify (length xs)))
     ∙ ap (λ (n : ℕ). whole_unit c.args.header c.args.captured.now (stamped_of n c.args.packet.meta.now)) (sym h.place)))
     (subst (λ u. LimitBy (Err c.in_err-add_unit.field-0.0) (is_over t.talks.rows u))
     (c.whole_unit.ensures ∙ ap (whole_unit c.args.header c.args.captured.now) c.stamped_of-stamped.ensures)
@@ -127,4 +129,4 @@ returns-clause-looks c =
 pub returns-in_err-add_unit-clause-grows : goal.returns-in_err-add_unit-clause-grows
 returns-in_err-add_unit-clause-grows c =
     let p = err_from_is_err_and c.from_residual.result c.from_residual.ensures.1 in
-    rw p.1 (λ xs h. ap is_plain (c.requires.classify (length xs)))
+    rw p.1 (λ xs h. kept-by _ _ (ap is_plain (c.requires.classify (length xs))))

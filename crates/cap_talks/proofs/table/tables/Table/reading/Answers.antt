@@ -3,7 +3,7 @@ use Rattle.std.specs.List.{range_with_len}
 use Rattle.cap_merge.specs.inner.MergedLaws.{merged-is-feed}
 use Rattle.cap_merge.specs.inner.View.{parts_of}
 use Rattle.cap_talks.specs.inner.table.Stepping.{next_taken}
-use Rattle.cap_talks.proofs.table.tables.Table.new.Goals as goal
+use Rattle.cap_talks.proofs.table.tables.Table.reading.Goals as goal
 
 pub invariant_of-result : goal.invariant_of-result
 invariant_of-result g c =
