@@ -13,6 +13,7 @@ pub mod SumLaws
 pub mod TalkPrinting
 pub mod RowOrder
 pub mod Packing
+pub mod Ipv4Units
 pub mod Frames
 pub mod Tallying
 pub mod Exits

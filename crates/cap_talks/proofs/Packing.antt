@@ -30,9 +30,11 @@ use Rattle.cap_talks.specs.declared.table.keys.WideKey.{WideKey}
 use Rattle.cap_talks.specs.declared.table.units.Address.{Address}
 use Rattle.cap_talks.specs.declared.table.units.Address.TheVariants.{Ipv4, Ipv6}
 use Rattle.cap_talks.specs.table.Units.{number_of}
-use Rattle.cap_talks.specs.table.Rows.{is_refused, talk_limit, with_unit, with_talk, or_empty, row_at, row_in}
+use Rattle.cap_talks.specs.inner.table.Adding.{with_talk_delta}
+use Rattle.cap_talks.specs.table.Rows.{is_refused, talk_limit, with_delta, or_empty, row_at, row_in}
 use Rattle.cap_talks.specs.table.Conversations.{is_forward, talk_key, row_of, same_talk}
 use Rattle.cap_talks.specs.declared.table.keys.PackedKey.{PackedKey}
+use Rattle.cap_talks.specs.declared.table.rows.RowDelta.{RowDelta}
 use Rattle.cap_talks.specs.declared.table.rows.TalkKey.{TalkKey}
 use Rattle.cap_talks.specs.declared.table.rows.TalkRow.{TalkRow}
 use Rattle.cap_talks.specs.declared.table.units.CountedUnit.{CountedUnit}
@@ -646,42 +648,38 @@ pub on-err : {A B : Type 0} (r : Result (Unit {0}) ConversationsFault) → OnErr
 on-err (Ok x) a f = tt
 on-err (Err e) a f = f a
 
--- ---- a unit more
+-- ---- what a unit adds
 
-module _ (known : List WideKey) (all : are_known known ≡ true) (unit : CountedUnit) (it : PackedKey × Bool)
-    (of : IsKeyOf known unit it) where
+module _ (known : List WideKey) (all : are_known known ≡ true) (key : PackedKey) (p : is_packed known key ≡ true) where
   pub at-packed : (es : List (PackedKey × TalkRow)) (place : ℕ) → are_packed known es ≡ true
-      → slice_get (values_of es) place ≡ lookup (same_packed it.0) es
-      → row_in es place ≡ row_at (talk_key unit) (unpacked_talks known es)
-  at-packed es place a row = ap or_empty (row ∙ lookup-packed known all it.0 of.packed es a
-      ∙ ap (λ key. lookup (same_talk key) (unpacked_talks known es)) of.key)
+      → slice_get (values_of es) place ≡ lookup (same_packed key) es
+      → row_in es place ≡ row_at (unpacked known key) (unpacked_talks known es)
+  at-packed es place a row = ap or_empty (row ∙ lookup-packed known all key p es a)
 
-  -- a unit is added to its conversation's row where it stands
-  pub there-more : (es new : List (PackedKey × TalkRow)) (place : ℕ) → are_packed known es ≡ true
-      → Some place ≡ position (same_packed it.0) (keys_of es)
-      → slice_get (values_of es) place ≡ lookup (same_packed it.0) es
-      → new ≡ set_value_at es place (with_unit (row_in es place) unit)
-      → unpacked_talks known new ≡ with_talk (unpacked_talks known es) unit
-  there-more es new place a at row is =
+  -- it is added to its conversation's row where that stands
+  pub there-more : (es new : List (PackedKey × TalkRow)) (place : ℕ) (delta : RowDelta) → are_packed known es ≡ true
+      → Some place ≡ position (same_packed key) (keys_of es)
+      → slice_get (values_of es) place ≡ lookup (same_packed key) es
+      → new ≡ set_value_at es place (with_delta (row_in es place) delta)
+      → unpacked_talks known new ≡ with_talk_delta (unpacked_talks known es) (unpacked known key) delta
+  there-more es new place delta a at row is =
       let row_is = at-packed es place a row in
-      let there = insert_entry-first same_packed it.0 (with_unit (row_in es place) unit) es place
-      (Found-position (same_packed it.0) es place (sym at)).first in
+      let there = insert_entry-first same_packed key (with_delta (row_in es place) delta) es place
+      (Found-position (same_packed key) es place (sym at)).first in
       ap (unpacked_talks known) (is ∙ sym there)
-      ∙ insert-packed known all it.0 of.packed (with_unit (row_in es place) unit) es a
-      ∙ (λ i. insert_entry same_talk (unpacked_talks known es) (of.key i) (with_unit (row_is i) unit))
+      ∙ insert-packed known all key p (with_delta (row_in es place) delta) es a
+      ∙ (λ i. insert_entry same_talk (unpacked_talks known es) (unpacked known key) (with_delta (row_is i) delta))
 
   -- or to an empty row, if it is the first of a conversation
-  pub new-more : (es new : List (PackedKey × TalkRow)) → are_packed known es ≡ true
-      → false ≡ is_some (lookup (same_packed it.0) es)
-      → new ≡ insert_entry same_packed es it.0 (with_unit (row_of []) unit)
-      → unpacked_talks known new ≡ with_talk (unpacked_talks known es) unit
-  new-more es new a none is =
-      let lookup_is = lookup-packed known all it.0 of.packed es a
-      ∙ ap (λ key. lookup (same_talk key) (unpacked_talks known es)) of.key in
-      ap (unpacked_talks known) is ∙ insert-packed known all it.0 of.packed (with_unit (row_of []) unit) es a
-      ∙ ap (λ key. insert_entry same_talk (unpacked_talks known es) key (with_unit (row_of []) unit)) of.key
-      ∙ ap (λ row. insert_entry same_talk (unpacked_talks known es) (talk_key unit) (with_unit row unit))
-      (empty_row (lookup (same_talk (talk_key unit)) (unpacked_talks known es)) (none ∙ ap is_some lookup_is))
+  pub new-more : (es new : List (PackedKey × TalkRow)) (delta : RowDelta) → are_packed known es ≡ true
+      → false ≡ is_some (lookup (same_packed key) es)
+      → new ≡ insert_entry same_packed es key (with_delta (row_of []) delta)
+      → unpacked_talks known new ≡ with_talk_delta (unpacked_talks known es) (unpacked known key) delta
+  new-more es new delta a none is =
+      ap (unpacked_talks known) is ∙ insert-packed known all key p (with_delta (row_of []) delta) es a
+      ∙ ap (λ row. insert_entry same_talk (unpacked_talks known es) (unpacked known key) (with_delta row delta))
+      (empty_row (lookup (same_talk (unpacked known key)) (unpacked_talks known es))
+      (none ∙ ap is_some (lookup-packed known all key p es a)))
     where
       empty_row : (o : Option TalkRow) → false ≡ is_some o → row_of [] ≡ or_empty o
       empty_row None h = refl
@@ -689,18 +687,16 @@ module _ (known : List WideKey) (all : are_known known ≡ true) (unit : Counted
 
   -- whether it is one too many
   pub refused-there : (es : List (PackedKey × TalkRow)) → are_packed known es ≡ true
-      → true ≡ is_some (lookup (same_packed it.0) es)
-      → false ≡ is_refused talk_limit (unpacked_talks known es) (talk_key unit)
+      → true ≡ is_some (lookup (same_packed key) es)
+      → false ≡ is_refused talk_limit (unpacked_talks known es) (unpacked known key)
   refused-there es a some =
-      ap (λ b. not b && not (nat_lt (length (unpacked_talks known es)) talk_limit)) (some
-      ∙ ap is_some (lookup-packed known all it.0 of.packed es a
-      ∙ ap (λ key. lookup (same_talk key) (unpacked_talks known es)) of.key))
+      ap (λ b. not b && not (nat_lt (length (unpacked_talks known es)) talk_limit))
+      (some ∙ ap is_some (lookup-packed known all key p es a))
 
   pub refused-new : (es : List (PackedKey × TalkRow)) → are_packed known es ≡ true
-      → false ≡ is_some (lookup (same_packed it.0) es)
-      → not (nat_lt (length es) talk_limit) ≡ is_refused talk_limit (unpacked_talks known es) (talk_key unit)
+      → false ≡ is_some (lookup (same_packed key) es)
+      → not (nat_lt (length es) talk_limit) ≡ is_refused talk_limit (unpacked_talks known es) (unpacked known key)
   refused-new es a none =
       (λ i. not (nat_lt (sym (length-map es (unpacked_talk known)) i) talk_limit))
-      ∙ ap (λ b. not b && not (nat_lt (length (unpacked_talks known es)) talk_limit)) (none
-      ∙ ap is_some (lookup-packed known all it.0 of.packed es a
-      ∙ ap (λ key. lookup (same_talk key) (unpacked_talks known es)) of.key))
+      ∙ ap (λ b. not b && not (nat_lt (length (unpacked_talks known es)) talk_limit))
+      (none ∙ ap is_some (lookup-packed known all key p es a))

@@ -4,6 +4,7 @@
 mod adding;
 mod conversations;
 mod descriptions;
+mod ipv4_units;
 mod keys;
 mod laws;
 mod others;

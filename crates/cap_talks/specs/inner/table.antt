@@ -1,5 +1,6 @@
 pub mod Adding
 pub mod Holding
+pub mod Ipv4Units
 pub mod Ipv6Law
 pub mod Keys
 pub mod Knowing

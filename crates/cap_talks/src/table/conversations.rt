@@ -5,17 +5,21 @@ ghost use Rattle.std.specs.List.{list_any};
 ghost use Rattle.indexmap.specs.IndexMap.{insert_entry};
 ghost use Rattle.indexmap.specs.Layout.{set_value_at};
 ghost use Rattle.cap_talks.specs.inner.table.Knowing.{GrowsBy, IsKeyOf};
-ghost use Rattle.cap_talks.specs.inner.table.Packed.{are_known, are_packed, is_ipv4_key, same_packed, same_wide};
-ghost use Rattle.cap_talks.specs.inner.table.Packed.{unpacked_talks, widened};
+ghost use Rattle.cap_talks.specs.inner.table.Adding.{with_talk_delta};
+ghost use Rattle.cap_talks.specs.inner.table.Ipv4Units.{frame_delta, unit_of_ipv4};
+ghost use Rattle.cap_talks.specs.inner.table.Packed.{are_known, are_packed, is_ipv4_key, is_packed, same_packed};
+ghost use Rattle.cap_talks.specs.inner.table.Packed.{same_wide, unpacked, unpacked_talks, widened};
 ghost use Rattle.cap_talks.specs.table.Conversations.{talk_key, row_of};
 ghost use Rattle.cap_talks.specs.table.Rows.{TalksStandFor, is_refused, is_limit, talk_limit, frames_in, bytes_in};
 ghost use Rattle.cap_talks.specs.table.Rows.{frames_of_row, bytes_of_row, row_in, with_delta, with_talk, IsUnitInOrder};
 ghost use Rattle.cap_talks.specs.table.Rows.{is_in_order, are_all_in_order};
 ghost use Rattle.cap_talks.specs.declared.table.units.CountedUnit.{CountedUnit};
 
+use crate::table::ipv4_units::{Ipv4Ends, Ipv4Unit};
 use crate::table::keys::{PackedKey, WideKey};
 use crate::table::rows::{RowDelta, TalkKey, TalkRow};
 use crate::table::units::CountedUnit;
+use cap_join::Stamped;
 use indexmap::{IndexMap, IndexSet};
 use std::alloc::Global;
 use std::marker::Model;
@@ -73,7 +77,7 @@ impl Conversations {
     ///
     /// Returns `Limit` exactly if the unit's conversation is a new one and there are 1,048,576 already, `Memory`
     /// if a growth was refused. Both leave the table as it was.
-    #[inline(always)]
+    #[inline(never)]
     pub fn add(&mut self, unit: &CountedUnit) -> Result<(), ConversationsFault>
         requires frames { frames_in self.old.rows + unit.now.frames < 2 ^ 64 }
         requires bytes { bytes_in self.old.rows + unit.now.bytes < 2 ^ 128 }
@@ -86,6 +90,22 @@ impl Conversations {
         ensures err { OnErr result (self.new ≡ self.old) }
     {
         add_unit(&mut self.rows, &mut self.known, unit)
+    }
+
+    /// Counts one unit of IPv4 more that came in one frame, as `add` does.
+    #[inline(always)]
+    pub(crate) fn add_ipv4(&mut self, unit: &Ipv4Unit) -> Result<(), ConversationsFault>
+        requires frames { frames_in self.old.rows + 1 < 2 ^ 64 }
+        requires bytes { bytes_in self.old.rows + unit.now.frame.original < 2 ^ 128 }
+        requires unit { IsUnitInOrder (unit_of_ipv4 unit.now) }
+        ensures stands { OnOk result ((units : List CountedUnit) → TalksStandFor self.old units
+            → TalksStandFor self.new (units ++ unit_of_ipv4 unit.now ∷ [])) }
+        ensures frames { OnOk result (frames_in self.new.rows ≡ frames_in self.old.rows + 1) }
+        ensures bytes { OnOk result (bytes_in self.new.rows ≡ bytes_in self.old.rows + unit.now.frame.original) }
+        ensures limit { is_limit result ≡ is_refused talk_limit self.old.rows (talk_key (unit_of_ipv4 unit.now)) }
+        ensures err { OnErr result (self.new ≡ self.old) }
+    {
+        add_ipv4(&mut self.rows, &self.known, unit)
     }
 
     /// How many conversations there are: at most 1,048,576.
@@ -123,6 +143,27 @@ fn add_at(rows: &mut IndexMap<PackedKey, TalkRow>, place: usize, delta: RowDelta
         unreachable!();
     };
     row.take(delta);
+}
+
+// Counts one unit more that came in one frame in the row at a place.
+#[inline(always)]
+fn add_frame_at(
+    rows: &mut IndexMap<PackedKey, TalkRow>,
+    place: usize,
+    forward: bool,
+    frame: &Stamped,
+)
+    requires place { place < length rows.old.entries }
+    requires frames { frames_of_row (row_in rows.old.entries place) + 1 < 2 ^ 64 }
+    requires bytes { bytes_of_row (row_in rows.old.entries place) + frame.now.original < 2 ^ 128 }
+    requires order { is_in_order (row_in rows.old.entries place) ≡ true }
+    ensures { rows.new.entries ≡ set_value_at rows.old.entries place
+        (with_delta (row_in rows.old.entries place) (frame_delta forward frame.now)) }
+{
+    let Some(row) = rows.get_index_mut(place) else {
+        unreachable!();
+    };
+    row.take_frame(forward, frame);
 }
 
 // Adds the row of a new conversation, of one unit.
@@ -195,10 +236,101 @@ fn key_of(
     ensures unknown { OnErr result (list_any (same_wide (widened (talk_key unit.now))) known.old.keys ≡ false) }
     ensures limit { IfErr result (λ e. is_limit (Err e) ≡ not (nat_lt talks talk_limit)) }
 {
-    match PackedKey::of(unit) {
-        Some(key) => Ok(key),
+    match Ipv4Ends::of(unit) {
+        Some(ends) => Ok(PackedKey::of(&ends)),
         None => known_key(known, talks, unit),
     }
+}
+
+// Counts in the rows what a unit adds whose conversation has that key.
+#[inline(always)]
+fn add_delta(
+    rows: &mut IndexMap<PackedKey, TalkRow>,
+    known: &IndexSet<WideKey>,
+    key: PackedKey,
+    delta: &RowDelta,
+) -> Result<(), ConversationsFault>
+    requires known { are_known known.now.keys ≡ true }
+    requires keys { are_packed known.now.keys rows.old.entries ≡ true }
+    requires key { is_packed known.now.keys key ≡ true }
+    requires frames { frames_in (unpacked_talks known.now.keys rows.old.entries) + delta.now.frames < 2 ^ 64 }
+    requires bytes { bytes_in (unpacked_talks known.now.keys rows.old.entries) + delta.now.bytes < 2 ^ 128 }
+    requires order { are_all_in_order (unpacked_talks known.now.keys rows.old.entries) ≡ true }
+    requires one { delta.now.frames ≡ 1 → delta.now.first ≡ delta.now.last }
+    ensures entries { OnOk result (unpacked_talks known.now.keys rows.new.entries
+        ≡ with_talk_delta (unpacked_talks known.now.keys rows.old.entries) (unpacked known.now.keys key) delta.now) }
+    ensures keys { are_packed known.now.keys rows.new.entries ≡ true }
+    ensures limit { is_limit result
+        ≡ is_refused talk_limit (unpacked_talks known.now.keys rows.old.entries) (unpacked known.now.keys key) }
+    ensures err { OnErr result (rows.new.entries ≡ rows.old.entries) }
+{
+    // only the contract speaks of the keys known
+    let _ = known;
+    match rows.get_index_of(&key) {
+        Some(place) => {
+            add_at(rows, place, *delta);
+            Ok(())
+        }
+        None => add_row(rows, key, *delta),
+    }
+}
+
+// The same of a unit that came in one frame.
+#[inline(always)]
+fn add_frame(
+    rows: &mut IndexMap<PackedKey, TalkRow>,
+    known: &IndexSet<WideKey>,
+    key: PackedKey,
+    forward: bool,
+    frame: &Stamped,
+) -> Result<(), ConversationsFault>
+    requires known { are_known known.now.keys ≡ true }
+    requires keys { are_packed known.now.keys rows.old.entries ≡ true }
+    requires key { is_packed known.now.keys key ≡ true }
+    requires frames { frames_in (unpacked_talks known.now.keys rows.old.entries) + 1 < 2 ^ 64 }
+    requires bytes { bytes_in (unpacked_talks known.now.keys rows.old.entries) + frame.now.original < 2 ^ 128 }
+    requires order { are_all_in_order (unpacked_talks known.now.keys rows.old.entries) ≡ true }
+    ensures entries { OnOk result (unpacked_talks known.now.keys rows.new.entries
+        ≡ with_talk_delta (unpacked_talks known.now.keys rows.old.entries) (unpacked known.now.keys key)
+        (frame_delta forward frame.now)) }
+    ensures keys { are_packed known.now.keys rows.new.entries ≡ true }
+    ensures limit { is_limit result
+        ≡ is_refused talk_limit (unpacked_talks known.now.keys rows.old.entries) (unpacked known.now.keys key) }
+    ensures err { OnErr result (rows.new.entries ≡ rows.old.entries) }
+{
+    // only the contract speaks of the keys known
+    let _ = known;
+    match rows.get_index_of(&key) {
+        Some(place) => {
+            add_frame_at(rows, place, forward, frame);
+            Ok(())
+        }
+        None => add_row(rows, key, RowDelta::of_frame(forward, *frame)),
+    }
+}
+
+// Counts one unit of IPv4 more in the rows.
+#[inline(always)]
+fn add_ipv4(
+    rows: &mut IndexMap<PackedKey, TalkRow>,
+    known: &IndexSet<WideKey>,
+    unit: &Ipv4Unit,
+) -> Result<(), ConversationsFault>
+    requires known { are_known known.now.keys ≡ true }
+    requires keys { are_packed known.now.keys rows.old.entries ≡ true }
+    requires frames { frames_in (unpacked_talks known.now.keys rows.old.entries) + 1 < 2 ^ 64 }
+    requires bytes { bytes_in (unpacked_talks known.now.keys rows.old.entries) + unit.now.frame.original < 2 ^ 128 }
+    requires order { are_all_in_order (unpacked_talks known.now.keys rows.old.entries) ≡ true }
+    ensures entries { OnOk result (unpacked_talks known.now.keys rows.new.entries
+        ≡ with_talk (unpacked_talks known.now.keys rows.old.entries) (unit_of_ipv4 unit.now)) }
+    ensures keys { are_packed known.now.keys rows.new.entries ≡ true }
+    ensures limit { is_limit result
+        ≡ is_refused talk_limit (unpacked_talks known.now.keys rows.old.entries) (talk_key (unit_of_ipv4 unit.now)) }
+    ensures err { OnErr result (unpacked_talks known.now.keys rows.new.entries
+        ≡ unpacked_talks known.now.keys rows.old.entries) }
+{
+    let (key, forward) = PackedKey::of(&unit.ends);
+    add_frame(rows, known, key, forward, &unit.frame)
 }
 
 // Counts one unit more in the rows.
@@ -224,11 +356,5 @@ fn add_unit(
         ≡ unpacked_talks known.old.keys rows.old.entries) }
 {
     let (key, forward) = key_of(known, rows.len(), unit)?;
-    match rows.get_index_of(&key) {
-        Some(place) => {
-            add_at(rows, place, RowDelta::of(unit, forward));
-            Ok(())
-        }
-        None => add_row(rows, key, RowDelta::of(unit, forward)),
-    }
+    add_delta(rows, known, key, &RowDelta::of(unit, forward))
 }

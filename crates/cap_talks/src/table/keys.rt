@@ -1,15 +1,16 @@
 //! Keys of conversations as they are looked up.
-ghost use Rattle.std.specs.Prelude.{◌≡◌, ◌<◌, ◌^◌, true, is_some, IfSome};
+ghost use Rattle.std.specs.Prelude.{◌≡◌, ◌<◌, ◌^◌, true, IfSome};
 ghost use Rattle.std.proofs.Common.{rules};
 ghost use Rattle.std.specs.Cmp.Rules.{hashing};
 ghost use Rattle.std.specs.Hash as fed;
 ghost use Rattle.cap_talks.specs.table.Conversations.{talk_key, is_forward};
-ghost use Rattle.cap_talks.specs.declared.table.units.Address.TheVariants.{Ipv4};
+ghost use Rattle.cap_talks.specs.inner.table.Ipv4Units.{end_of_ipv4, unit_between};
 ghost use Rattle.cap_talks.specs.inner.table.Packed.{IsNarrow, IsNarrowEnd, are_known, both_numbers, end_at_number};
-ghost use Rattle.cap_talks.specs.inner.table.Packed.{end_number, end_of_side, is_end_number, is_ipv4_key, is_packed};
+ghost use Rattle.cap_talks.specs.inner.table.Packed.{end_number, end_of_side, is_end_number, is_packed};
 ghost use Rattle.cap_talks.specs.inner.table.Packed.{is_side, is_wide, mark, packed, port_number, port_of};
 ghost use Rattle.cap_talks.specs.inner.table.Packed.{side_number, talk_of_wide, unpacked, widened};
 
+use crate::table::ipv4_units::{Ipv4End, Ipv4Ends};
 use crate::table::rows::TalkKey;
 use crate::table::units::{Address, CountedUnit, Endpoint, is_greater};
 use indexmap::IndexSet;
@@ -79,12 +80,12 @@ fn port_of(number: u64) -> Option<u16>
 
 // An end of IPv4 as a number: the address, and below it the port.
 #[inline(always)]
-fn end_number(address: u32, port: Option<u16>) -> u64
-    ensures value { result ≡ end_number (record { address = Ipv4 address; port = port }) }
+fn end_number(end: Ipv4End) -> u64
+    ensures value { result ≡ end_number (end_of_ipv4 end) }
     ensures bound { result < 2 ^ 49 }
-    ensures narrow { IsNarrowEnd (record { address = Ipv4 address; port = port }) }
+    ensures narrow { IsNarrowEnd (end_of_ipv4 end) }
 {
-    u64::from(address) * 131_072 + port_number(port)
+    u64::from(end.address) * 131_072 + port_number(end.port)
 }
 
 // The end of a number.
@@ -128,36 +129,29 @@ fn end_of_side(number: u128, side: u64) -> Endpoint
 }
 
 impl PackedKey {
-    /// The key of the conversation that a unit belongs to, and whether it goes from the lesser of its ends, or from an
-    /// end to itself; `None` if an end is of IPv6.
+    /// The key of the conversation that a unit between those ends belongs to, and whether it goes from the lesser of
+    /// them, or from an end to itself.
     #[inline(always)]
-    pub(crate) fn of(unit: &CountedUnit) -> Option<(PackedKey, bool)>
-        ensures value { IfSome result (λ it. it.0 ≡ packed (talk_key unit.now)) }
-        ensures ipv4 { is_some result ≡ is_ipv4_key (talk_key unit.now) }
-        ensures forward { IfSome result (λ it. it.1 ≡ is_forward unit.now) }
-        ensures narrow { IfSome result (λ it. IsNarrow (talk_key unit.now)) }
+    pub(crate) fn of(ends: &Ipv4Ends) -> (PackedKey, bool)
+        ensures value { result.0 ≡ packed (talk_key (unit_between ends.now)) }
+        ensures forward { result.1 ≡ is_forward (unit_between ends.now) }
+        ensures narrow { IsNarrow (talk_key (unit_between ends.now)) }
     {
-        let Address::Ipv4(source) = unit.source.address else {
-            return None;
-        };
-        let Address::Ipv4(destination) = unit.destination.address else {
-            return None;
-        };
-        let protocol = u64::from(unit.protocol);
-        let source = end_number(source, unit.source.port);
-        let destination = end_number(destination, unit.destination.port);
+        let protocol = u64::from(ends.protocol);
+        let source = end_number(ends.source);
+        let destination = end_number(ends.destination);
         if source <= destination {
             let key = PackedKey {
                 lesser: source * 256 + protocol,
                 greater: destination,
             };
-            Some((key, true))
+            (key, true)
         } else {
             let key = PackedKey {
                 lesser: destination * 256 + protocol,
                 greater: source,
             };
-            Some((key, false))
+            (key, false)
         }
     }
 

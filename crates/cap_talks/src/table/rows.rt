@@ -1,11 +1,14 @@
 //! The row of a conversation: what is counted of its units.
-ghost use Rattle.std.specs.Prelude.{◌≡◌, ◌+◌, ◌<◌, ◌^◌, [], true, if◌then◌else◌};
+ghost use Rattle.std.specs.Prelude.{◌≡◌, ◌+◌, ◌<◌, ◌^◌, [], true, if◌then◌else◌, Some};
 ghost use Rattle.cap_talks.specs.table.Conversations.{is_forward, earlier_frame, later_frame, frame_time, place_or};
 ghost use Rattle.cap_talks.specs.table.Conversations.{row_of};
+ghost use Rattle.cap_talks.specs.inner.table.Ipv4Units.{frame_delta};
+ghost use Rattle.cap_talks.specs.table.CountedUnits.{timed_frame};
 ghost use Rattle.cap_talks.specs.table.Rows.{delta_of, with_delta, with_frames, frames_of_row, bytes_of_row, row_frame};
 ghost use Rattle.cap_talks.specs.table.Rows.{is_earlier, is_after, is_in_order};
 
-use crate::table::units::{CountedUnit, Endpoint, TimedFrame};
+use crate::table::units::{CountedUnit, Endpoint, TimedFrame, timed_frame};
+use cap_join::Stamped;
 use cap_time::Stamp;
 use std::cmp::Ordering;
 
@@ -70,6 +73,21 @@ impl RowDelta {
             last: unit.last,
         }
     }
+
+    // What a unit adds that came in one frame.
+    #[inline(always)]
+    pub(crate) fn of_frame(forward: bool, frame: Stamped) -> RowDelta
+        ensures { result ≡ frame_delta forward frame }
+    {
+        let timed = timed_frame(Some(frame));
+        RowDelta {
+            is_forward: forward,
+            frames: 1,
+            bytes: u128::from(frame.original),
+            first: timed,
+            last: timed,
+        }
+    }
 }
 
 impl TalkRow {
@@ -107,6 +125,24 @@ impl TalkRow {
         }
         take_frames(self, delta);
     }
+
+    // Counts one unit more that came in one frame. It does what `take` does, and reads the frame's time where it is.
+    #[inline(always)]
+    pub(crate) fn take_frame(&mut self, forward: bool, frame: &Stamped)
+        requires frames { frames_of_row self.old + 1 < 2 ^ 64 }
+        requires bytes { bytes_of_row self.old + frame.now.original < 2 ^ 128 }
+        requires order { is_in_order self.old ≡ true }
+        ensures { self.new ≡ with_delta self.old (frame_delta forward frame.now) }
+    {
+        if forward {
+            self.forward_frames += 1;
+            self.forward_bytes += u128::from(frame.original);
+        } else {
+            self.backward_frames += 1;
+            self.backward_bytes += u128::from(frame.original);
+        }
+        take_one(self, frame);
+    }
 }
 
 // Whether a frame comes before the first one so far: it has the lesser time, of equal times the lower place, or is the
@@ -139,6 +175,19 @@ fn take_frames(row: &mut TalkRow, delta: RowDelta)
     take_both(row, delta.first, delta.last);
 }
 
+// Takes the only frame of a unit, as `take_frames` does.
+#[inline(always)]
+fn take_one(row: &mut TalkRow, frame: &Stamped)
+    requires order { is_in_order row.old ≡ true }
+    ensures { row.new ≡ with_frames row.old (timed_frame (Some frame.now)) (timed_frame (Some frame.now)) }
+{
+    if is_next(&mut row.last, &mut row.last_place, frame) {
+        return;
+    }
+    let timed = timed_frame(Some(*frame));
+    take_both(row, timed, timed);
+}
+
 // Takes a first and a last frame, whatever times they have. It takes copies, and isn't inlined, so that where a frame
 // is later than all before it, nothing of it need be in memory.
 #[inline(never)]
@@ -158,6 +207,25 @@ fn goes_on(last: &mut Option<Stamp>, place: &mut u64, frame: &Option<TimedFrame>
 {
     match (last, frame) {
         (Some(last), Some(frame)) => match last.reach(&frame.time) {
+            Ordering::Less => {
+                *place = frame.place;
+                true
+            }
+            _ => false,
+        },
+        _ => false,
+    }
+}
+
+// Does the same with a frame that may have no time.
+#[inline(always)]
+fn is_next(last: &mut Option<Stamp>, place: &mut u64, frame: &Stamped) -> bool
+    ensures later { result ≡ is_after (timed_frame (Some frame.now)) last.old }
+    ensures time { last.new ≡ (if result then frame_time (timed_frame (Some frame.now)) else last.old) }
+    ensures place { place.new ≡ (if result then place_or (timed_frame (Some frame.now)) place.old else place.old) }
+{
+    match (last, &frame.time) {
+        (Some(last), Some(time)) => match last.reach(time) {
             Ordering::Less => {
                 *place = frame.place;
                 true

@@ -24,7 +24,7 @@ ghost use Rattle.cap_talks.specs.table.Conversations.{Conversation};
 ghost use Rattle.cap_talks.specs.table.CountedUnits.{is_limit_for};
 ghost use Rattle.cap_talks.specs.table.TopRows.{shown_rows};
 
-use crate::table::adding::{add_unit, ipv6_unit, joined_unit, whole_unit};
+use crate::table::adding::{add_ipv4, add_unit, ipv6_unit, joined_unit, whole_unit};
 use crate::table::conversations::{Conversations, ConversationsFault};
 use crate::table::report_lines::{frames_line, joined_line};
 use crate::table::talk_lines::put_talks;
@@ -160,7 +160,7 @@ impl Tally {
     {
         let seen = transport(header.key().protocol, captured, header.data_length());
         let stamped = stamped_of(self.place, time, packet.meta);
-        add_unit(
+        add_ipv4(
             &mut self.talks,
             &whole_unit(&header, captured, seen, stamped),
         )?;

@@ -2,10 +2,13 @@
 ghost use Rattle.std.specs.Prelude.{◌≡◌};
 ghost use Rattle.std.specs.Option.{option_cmp};
 ghost use Rattle.std.specs.Ordering.{is_gt, nat_cmp};
+ghost use Rattle.cap_talks.specs.inner.table.Ipv4Units.{ports_of};
 ghost use Rattle.cap_talks.specs.inner.table.Packed.{IsNarrowAddress};
+ghost use Rattle.cap_talks.specs.table.CountedUnits.{timed_frame};
 ghost use Rattle.cap_talks.specs.table.Units.{end_cmp, ends_of, number_of, version_of};
 
 use cap_ip::Transport;
+use cap_join::Stamped;
 use cap_time::Stamp;
 
 /// An address of IPv4 (RFC 791, 3.1) or of IPv6 (RFC 8200, 3), its first byte the highest. Those of IPv4 come before
@@ -81,6 +84,18 @@ pub(crate) fn is_greater(a: &Endpoint, b: &Endpoint) -> bool
     is_above(a.port, b.port)
 }
 
+/// The ports of a datagram whose transport was read, that of its source first; `None` if that is bad or cut.
+#[inline(always)]
+pub(crate) fn ports_of(transport: Transport) -> Option<(Option<u16>, Option<u16>)>
+    ensures { result ≡ ports_of transport }
+{
+    match transport {
+        Transport::Ports(source, destination) => Some((Some(source), Some(destination))),
+        Transport::NoPorts => Some((None, None)),
+        Transport::Bad | Transport::Cut => None,
+    }
+}
+
 /// The source and the destination of a datagram between two addresses, whose transport was read; `None`
 /// if that is bad or cut.
 #[inline(always)]
@@ -91,11 +106,7 @@ pub fn ends_of(
 ) -> Option<(Endpoint, Endpoint)>
     ensures { result ≡ ends_of source destination transport }
 {
-    let (source_port, destination_port) = match transport {
-        Transport::Ports(source, destination) => (Some(source), Some(destination)),
-        Transport::NoPorts => (None, None),
-        Transport::Bad | Transport::Cut => return None,
-    };
+    let (source_port, destination_port) = ports_of(transport)?;
     Some((
         Endpoint {
             address: source,
@@ -136,4 +147,16 @@ pub struct CountedUnit {
     /// Its frame of the greatest time, of equal times that of the lowest place; `None` if no frame has
     /// a time.
     pub last: Option<TimedFrame>,
+}
+
+/// A frame, if it has a time.
+#[inline(always)]
+pub(crate) fn timed_frame(frame: Option<Stamped>) -> Option<TimedFrame>
+    ensures { result ≡ timed_frame frame }
+{
+    let frame = frame?;
+    Some(TimedFrame {
+        time: frame.time?,
+        place: frame.place,
+    })
 }

@@ -1,10 +1,13 @@
--- The unit of a joined datagram, and whether a unit's conversation is one too many.
+-- The unit of a joined datagram, whether a unit's conversation is one too many, and the rows with what a unit adds.
 use Rattle.std.specs.Prelude.{List, Bool, false, length, Option}
 use Rattle.std.specs.Option.{option_map, option_map_or}
 use Rattle.cap_ip.specs.Transport.{transport_of}
 use Rattle.cap_join.specs.declared.datagrams.Datagram.{Datagram}
-use Rattle.cap_talks.specs.table.Rows.{is_refused, talk_limit}
-use Rattle.cap_talks.specs.table.Conversations.{Conversation, talk_key}
+use Rattle.indexmap.specs.IndexMap.{insert_entry}
+use Rattle.cap_talks.specs.table.Rows.{is_refused, row_at, talk_limit, with_delta}
+use Rattle.cap_talks.specs.table.Conversations.{Conversation, same_talk, talk_key}
+use Rattle.cap_talks.specs.declared.table.rows.RowDelta.{RowDelta}
+use Rattle.cap_talks.specs.declared.table.rows.TalkKey.{TalkKey}
 use Rattle.cap_talks.specs.table.Units.{ends_of}
 use Rattle.cap_talks.specs.declared.table.units.Address.TheVariants.{Ipv4}
 use Rattle.cap_talks.specs.declared.table.units.CountedUnit.{CountedUnit}
@@ -20,3 +23,7 @@ datagram_unit d =
 -- its conversation is one too many
 abbrev pub is_over : List Conversation → Option CountedUnit → Bool
 is_over rows unit = option_map_or (λ u. is_refused talk_limit rows (talk_key u)) unit false
+
+-- the rows with what a unit adds: to the row of its conversation where it stands, or after the others
+abbrev pub with_talk_delta : List Conversation → TalkKey → RowDelta → List Conversation
+with_talk_delta rows key delta = insert_entry same_talk rows key (with_delta (row_at key rows) delta)

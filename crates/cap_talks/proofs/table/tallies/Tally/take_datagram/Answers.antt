@@ -20,8 +20,8 @@ use Rattle.cap_talks.proofs.Exits.{sum-taken, frames-taken, looks-datagram, soun
 use Rattle.cap_talks.proofs.Exits.{kept-by, limit-by}
 use Rattle.cap_talks.proofs.table.tallies.Tally.take_datagram.Goals as goal
 
-pub add_unit-requires-clause-frames : goal.add_unit-requires-clause-frames
-add_unit-requires-clause-frames c =
+pub add_ipv4-requires-clause-frames : goal.add_ipv4-requires-clause-frames
+add_ipv4-requires-clause-frames c =
     let t = tally_view c.self.inside in
     let s = c.self.invariant in
     let original : c.stamped_of-stamped.result.original < 4294967296 = search rules in
@@ -34,8 +34,8 @@ add_unit-requires-clause-frames c =
       s.few,
     )
 
-pub add_unit-requires-clause-bytes : goal.add_unit-requires-clause-bytes
-add_unit-requires-clause-bytes c =
+pub add_ipv4-requires-clause-bytes : goal.add_ipv4-requires-clause-bytes
+add_ipv4-requires-clause-bytes c =
     let t = tally_view c.self.inside in
     let s = c.self.invariant in
     let original : c.stamped_of-stamped.result.original < 4294967296 = search rules in
@@ -50,26 +50,26 @@ add_unit-requires-clause-bytes c =
       s.few,
     )
 
-pub add_unit-requires-clause-unit : goal.add_unit-requires-clause-unit
-add_unit-requires-clause-unit c = rw c.whole_unit.ensures
+pub add_ipv4-requires-clause-unit : goal.add_ipv4-requires-clause-unit
+add_ipv4-requires-clause-unit c = rw c.whole_unit.ensures
     (whole-order c.args.header c.args.captured.now c.stamped_of-stamped.result)
 
-pub returns-in_err-add_unit-clause-limit : goal.returns-in_err-add_unit-clause-limit
-returns-in_err-add_unit-clause-limit c =
+pub returns-in_err-add_ipv4-clause-limit : goal.returns-in_err-add_ipv4-clause-limit
+returns-in_err-add_ipv4-clause-limit c =
     let p = err_from_is_err_and c.from_residual.result c.from_residual.ensures.1 in
     let t = tally_view c.self.inside in
     let x = taken_of c.args.packet in
     rw (p.1, p.2, ← c.self.view_is) (λ xs h.
-    limit-by c.in_err-add_unit.field-0.0 _ _
+    limit-by c.in_err-add_ipv4.field-0.0 _ _
     (limit-is t x xs (Some x) (whole_unit c.args.header c.args.captured.now
     (stamped_of t.place c.args.packet.meta.now)) h
     (unit-seen t.reads x xs (datagram c.args.header c.args.captured.now)
     (c.requires.classify (length xs))
     (read-datagram x (length xs) t.reads c.args.header c.args.captured.now (c.requires.classify (length xs)))
     ∙ ap (λ (n : ℕ). whole_unit c.args.header c.args.captured.now (stamped_of n c.args.packet.meta.now)) (sym h.place)))
-    (subst (λ u. LimitBy (Err c.in_err-add_unit.field-0.0) (is_over t.talks.rows u))
+    (subst (λ u. LimitBy (Err c.in_err-add_ipv4.field-0.0) (is_over t.talks.rows u))
     (c.whole_unit.ensures ∙ ap (whole_unit c.args.header c.args.captured.now) c.stamped_of-stamped.ensures)
-    c.in_err-add_unit.ensures.limit))
+    c.in_err-add_ipv4.ensures.limit))
 
 pub count_frames-requires : goal.count_frames-requires
 count_frames-requires c =
@@ -82,7 +82,7 @@ invariant_of-self-2 c =
     let t = tally_view c.self.inside in
     let s = c.self.invariant in
     let x = taken_of c.args.packet in
-    let e = c.in_ok-add_unit.ensures in
+    let e = c.in_ok-add_ipv4.ensures in
     let header = c.args.header in
     let captured = c.args.captured.now in
     let unit = c.whole_unit.ensures ∙ ap (whole_unit header captured) c.stamped_of-stamped.ensures in
@@ -90,8 +90,8 @@ invariant_of-self-2 c =
     let one = numbers-whole header captured c.stamped_of-stamped.result original in
     sound-datagram t x (ap (λ (n : TallyState). n.waiting) c.self.view_is ∙ c.requires.none) header captured
     c.requires.classify
-    c.add_unit.new.talks _
-    (λ us stands. subst (λ u. TalksStandFor c.add_unit.new.talks (us ++ listed u)) unit (e.stands us stands))
+    c.add_ipv4.new.talks _
+    (λ us stands. subst (λ u. TalksStandFor c.add_ipv4.new.talks (us ++ listed u)) unit (e.stands us stands))
     (λ es stands. search rules)
     _ (c.count_frames.ensures
     ∙ (λ i. with_frames ((c.class_of.ensures ∙ ap class_of (c.transport-seen.ensures
@@ -111,22 +111,22 @@ pub returns-clause-looks : goal.returns-clause-looks
 returns-clause-looks c =
     let t = tally_view c.self.inside in
     let x = taken_of c.args.packet in
-    let e = c.in_ok-add_unit.ensures in
+    let e = c.in_ok-add_ipv4.ensures in
     let header = c.args.header in
     let captured = c.args.captured.now in
     let unit = c.whole_unit.ensures ∙ ap (whole_unit header captured) c.stamped_of-stamped.ensures in
     rw (← c.self.view_is)
     (looks-datagram t x (ap (λ (n : TallyState). n.waiting) c.self.view_is ∙ c.requires.none) header captured
     c.requires.classify
-    c.add_unit.new.talks _
-    (λ us stands. subst (λ u. TalksStandFor c.add_unit.new.talks (us ++ listed u)) unit (e.stands us stands))
+    c.add_ipv4.new.talks _
+    (λ us stands. subst (λ u. TalksStandFor c.add_ipv4.new.talks (us ++ listed u)) unit (e.stands us stands))
     (λ es stands. search rules)
     _ (c.count_frames.ensures
     ∙ (λ i. with_frames ((c.class_of.ensures ∙ ap class_of (c.transport-seen.ensures
     ∙ (λ j. transport_of (c.key.ensures j).protocol captured (c.data_length.ensures.value j)))) i) 1 t.classes))
     (sym (ap (is_over t.talks.rows) unit) ∙ e.limit))
 
-pub returns-in_err-add_unit-clause-grows : goal.returns-in_err-add_unit-clause-grows
-returns-in_err-add_unit-clause-grows c =
+pub returns-in_err-add_ipv4-clause-grows : goal.returns-in_err-add_ipv4-clause-grows
+returns-in_err-add_ipv4-clause-grows c =
     let p = err_from_is_err_and c.from_residual.result c.from_residual.ensures.1 in
     rw p.1 (λ xs h. kept-by _ _ (ap is_plain (c.requires.classify (length xs))))
