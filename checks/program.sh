@@ -724,6 +724,9 @@ completed '' capt blocks --t
 completed '' capt digest --t
 completed '--skip-refused' capt info --s
 completed '--skip-refused' capt report --s
+completed '--ipv6' capt report --i
+completed '--ipv6' capt list --i
+completed '--ignore' capt diff --i
 
 echo "$passed passed, $failed failed"
 [ "$failed" = 0 ]

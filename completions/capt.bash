@@ -24,11 +24,11 @@ _capt() {
         help) mapfile -t COMPREPLY < <(compgen -W "$commands" -- "$word"); return ;;
         convert | join) options='--allow-cut --explain --order --output --to --unit --whole -o --help' ;;
         merge) options='--allow-cut --explain --order --output --to --unit --whole --share-interfaces -o --help' ;;
-        list) options='--allow-cut --explain --class --json --data --time --help' ;;
+        list) options='--allow-cut --explain --class --ipv6 --json --data --time --help' ;;
         diff) options='--allow-cut --explain --ignore --json --data --time --help' ;;
         digest) options='--allow-cut --explain --json --names --files0-from --verify --help' ;;
         check) options='--allow-cut --explain --digest --json --names --files0-from --time --help' ;;
-        report) options='--allow-cut --explain --json --time --top --skip-refused --help' ;;
+        report) options='--allow-cut --explain --ipv6 --json --time --top --skip-refused --help' ;;
         info) options='--allow-cut --explain --json --time --skip-refused --help' ;;
         *) options='--allow-cut --explain --json --help' ;;
     esac

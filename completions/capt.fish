@@ -19,6 +19,7 @@ complete -c capt -n "__fish_seen_subcommand_from $commands" -l allow-cut -d 'Dro
 complete -c capt -n "__fish_seen_subcommand_from $commands" -l explain -d 'Name the file of a fault, and why'
 complete -c capt -n '__fish_seen_subcommand_from report info list blocks diff digest check' -l json -d 'Print JSON Lines'
 complete -c capt -n '__fish_seen_subcommand_from list' -l class -d 'Say of which class each packet is, and why'
+complete -c capt -n '__fish_seen_subcommand_from report list' -l ipv6 -d 'Read IPv6 packets too'
 complete -c capt -n '__fish_seen_subcommand_from check' -l digest -d 'Print the SHA-256 of the packets too'
 complete -c capt -n '__fish_seen_subcommand_from digest check' -l names -d 'Name each file at the end of its line'
 complete -c capt -n '__fish_seen_subcommand_from digest check' -l files0-from -r -d 'Read the names of captures from a list'

@@ -3,6 +3,7 @@
 
 monday.pcap      three Ethernet frames with two tags each: UDP there, UDP back, and one whose UDP length is wrong
 tuesday.pcapng   one UDP datagram in four IPv4 fragments, the third of which overwrites the second
+wednesday.pcap   three Ethernet frames of IPv6: UDP there, UDP back, and a router's advertisement
 trace.pcap       one packet of four bytes, whose fraction of a second is more than a second
 cut.pcap         trace.pcap without its last byte
 
@@ -54,11 +55,21 @@ TUESDAY = [
     "4500001c00072000401100000a0000010a000002 03e907d100180000",
     "4500001c00072001401100000a0000010a000002 a0a1a2a3a4a5a6a7",
 ]
+# destination, source, the type of IPv6; an IPv6 header; a UDP header without data, or an ICMPv6 message
+WEDNESDAY = [
+    "020000000002 020000000001 86dd 6000000000081140 20010db8000000000000000000000001 20010db8000000000000000000000002"
+    "03e807d0000898b1",
+    "020000000001 020000000002 86dd 6000000000081140 20010db8000000000000000000000002 20010db8000000000000000000000001"
+    "07d003e8000898b1",
+    "333300000001 020000000001 86dd 6000000000103aff fe800000000000000000000000000001 ff020000000000000000000000000001"
+    "86003527400007080000000000000000",
+]
 
 trace = pcap(1, [(1, 1_500_000, bytes([1, 2, 3, 4]))])
 files = {
     "monday.pcap": pcap(1, [(1 + n, 0, bytes.fromhex(frame) + bytes(8)) for n, frame in enumerate(MONDAY)]),
     "tuesday.pcapng": pcapng(101, [(1 + n, 0, bytes.fromhex(frame)) for n, frame in enumerate(TUESDAY)]),
+    "wednesday.pcap": pcap(1, [(1 + n, 0, bytes.fromhex(frame)) for n, frame in enumerate(WEDNESDAY)]),
     "trace.pcap": trace,
     "cut.pcap": trace[:-1],
 }

@@ -20,7 +20,7 @@ use Rattle.cap_print.specs.declared.forms.Form.TheVariants.{Json, Text}
 use Rattle.cap_print.specs.declared.forms.TimeForm.{TimeForm}
 use Rattle.cap_merge.specs.Files.{clocked_run, endings_of_files}
 use Rattle.cap_talks.specs.talks.InfoText.{first_refusal, info_text_in}
-use Rattle.cap_talks.specs.talks.ReportText.{report_refusal, report_shown_in}
+use Rattle.cap_talks.specs.talks.ReportText.{report_for, report_refusal_for}
 use Rattle.cap_talks.specs.talks.Telling.{Tells}
 use Rattle.cap_commands.specs.BlockText.{block_list_in, block_refusal}
 use Rattle.cap_commands.specs.ClassText.{list_by}
@@ -91,14 +91,15 @@ abbrev pub shown_by : Form → Option ℕ → ℕ
 shown_by (Text times) count = 16
 shown_by (Json times) count = unwrap_or count 16
 
--- what a job shows: at most so many bytes of a packet, and the conversations with the most bytes in a report, if so
--- many of them are asked for
+-- what a job shows: at most so many bytes of a packet; the conversations with the most bytes in a report, if so many of
+-- them are asked for; and the classes and conversations of IPv6 packets too, or not
 pub record JobShows : Type 0 where
   pub bytes : ℕ
   pub top : Option ℕ
+  pub ipv6 : Bool
 
 abbrev pub job_shows : Job → JobShows
-job_shows job = record { bytes = shown_by (form_by job.json job.time) job.data; top = job.top }
+job_shows job = record { bytes = shown_by (form_by job.json job.time) job.data; top = job.top; ipv6 = job.ipv6 }
 
 -- the options of `diff`, by what is ignored, the form, and how many bytes are shown
 abbrev pub diff_options : Ignored → Form → ℕ → DiffOptions
@@ -123,7 +124,7 @@ whole_by (Err fault) finding = Err fault
 abbrev pub DoesTask : Task → Ignored → Tail → Form → JobShows → Bool → Order → Option OutputFormat → Bool → Bool
     → List Bool → List (List ℕ) → Finding → List ℕ → Result Unit Fault → List ℕ → Type 0
 DoesTask tasks.List ignored tail form shown classed order to shares digests fails files finding =
-    Prints (list_by classed form shown.bytes tail (only_of files)) (list_refusal tail (only_of files))
+    Prints (list_by classed shown.ipv6 form shown.bytes tail (only_of files)) (list_refusal tail (only_of files))
 DoesTask tasks.Blocks ignored tail form shown classed order to shares digests fails files finding =
     Prints (block_list_in form tail (only_of files)) (block_refusal tail (only_of files))
 DoesTask tasks.Diff ignored tail form shown classed order to shares digests fails files finding =
@@ -138,8 +139,9 @@ DoesTask tasks.Check ignored tail form shown classed order to shares digests fai
 DoesTask tasks.Info ignored tail form shown classed order to shares digests fails files finding =
     Tells (info_text_in form tail files) (first_refusal tail 1 files)
 DoesTask tasks.Report ignored tail form shown classed order to shares digests fails files finding =
-    Tells (report_shown_in form shown.top (length files) (endings_of_files tail files) (clocked_run tail files))
-    (report_refusal (clocked_run tail files))
+    Tells
+    (report_for shown.ipv6 form shown.top (length files) (endings_of_files tail files) (clocked_run tail files))
+    (report_refusal_for shown.ipv6 (clocked_run tail files))
 DoesTask tasks.Convert ignored tail form shown classed order None shares digests fails files finding =
     λ old result new. ⊥
 DoesTask tasks.Convert ignored tail form shown classed order (Some format) shares digests fails files finding =

@@ -21,7 +21,7 @@ use crate::counting::{
 };
 use crate::diff::{DiffEnd, DiffOptions, diff_in};
 use crate::left::{DroppedInfo, NOTHING_LEFT, both_cut, left_of_report, only_cut, only_cuts};
-use crate::list::list_in;
+use crate::list::{ListOptions, list_in};
 use cap_bytes::{CutRest, Fault, Sink, Source, Tail};
 use cap_check::{CheckLine, check_all_to};
 use cap_line::{Job, Task};
@@ -311,9 +311,14 @@ pub fn job_to<R: Source, W: Sink>(
     let form = form_of(job.json, job.time);
     match job.task {
         Task::List => {
-            let shown = shown_of(form, job.data);
-            let source = only(sources);
-            listed(list_in(alloc, source, tail, form, shown, job.class, writer))
+            let most = shown_of(form, job.data);
+            let options = ListOptions {
+                form,
+                most,
+                class: job.class,
+                ipv6: job.ipv6, // for the class alone
+            };
+            listed(list_in(alloc, only(sources), tail, options, writer))
         }
         Task::Blocks => listed(blocks_in(alloc, only(sources), tail, form, writer)),
         Task::Diff => {
@@ -339,7 +344,7 @@ pub fn job_to<R: Source, W: Sink>(
                 form,
                 top: job.top,
                 counts,
-                ipv6: false,
+                ipv6: job.ipv6, // for the conversations, too
             };
             reported(report_with(alloc, sources, tail, options, writer))
         }

@@ -1,5 +1,5 @@
 //! `capt list`, in text and in JSON: one line for each packet, as it is found.
-ghost use Rattle.std.specs.Prelude.{◌≡◌, ◌<◌, ◌≤◌, ◌^◌, ◌∷◌, [], None, IsTrue, length};
+ghost use Rattle.std.specs.Prelude.{◌≡◌, ◌<◌, ◌≤◌, ◌^◌, ◌∷◌, [], None, IsTrue, false, length};
 ghost use Rattle.std.specs.Prelude.{IfOk, IsOkUnless, OnOk, is_err};
 ghost use Rattle.cap_commands.specs.ClassText.{list_by, packet_line_by};
 ghost use Rattle.cap_commands.specs.Left.{done_of};
@@ -13,7 +13,7 @@ ghost use Rattle.cap_source.specs.ReadFaults.{FailsOf};
 ghost use Rattle.cap_source.specs.Items.{file_ending};
 ghost use Rattle.cap_source.specs.inner.Walk.{SameEndings, Walks};
 ghost use Rattle.cap_source.specs.inner.Growing.{IfMemory};
-ghost use Rattle.cap_talks.specs.table.Descriptions.{describe_of, description_fields};
+ghost use Rattle.cap_talks.specs.table.Descriptions.{describe_for, description_fields};
 
 use crate::left::without_cut;
 use crate::lines::{
@@ -23,7 +23,7 @@ use crate::lines::{
 use cap_bytes::{CutRest, Fault, Sink, Source, Tail, put_all};
 use cap_print::{Form, Line, TimeForm};
 use cap_source::{Capture, Meta, PacketFeed};
-use cap_talks::describe;
+use cap_talks::describe_for;
 use std::alloc::Global;
 use std::cmp::min;
 
@@ -76,12 +76,27 @@ pub(crate) fn put_long_packet<W: Sink>(
     put_rest(writer, line, form, behind, shown)
 }
 
-// Writes the packet number n, from 1, in a form, with these of its captured bytes, and what it is by itself.
+/// What a line of `list` shows of a packet.
+#[derive(Clone, Copy, Debug, PartialEq, Eq)]
+pub(crate) struct ListOptions {
+    /// The form of the line.
+    pub(crate) form: Form,
+    /// How many of its captured bytes are shown at most, the first of them.
+    pub(crate) most: u32,
+    /// Whether it is said what the packet is by itself, and why.
+    pub(crate) class: bool,
+    /// Whether an IPv6 packet is read for that.
+    pub(crate) ipv6: bool,
+}
+
+// Writes the packet number n, from 1, in a form, with these of its captured bytes, and what it is by itself, where IPv6
+// packets are read or not.
 #[inline(never)]
 fn put_classed_packet<W: Sink>(
     writer: &mut W,
     line: &mut Line,
     form: Form,
+    ipv6: bool,
     n: u64,
     meta: &Meta,
     bytes: &[u8],
@@ -89,11 +104,12 @@ fn put_classed_packet<W: Sink>(
 ) -> Result<(), Fault>
     ensures bytes { IsTrue (W.tells_held writer.old)
         → Puts (W.held writer.old) result (W.held writer.new)
-        (line_in form (facts_before (description_fields (describe_of meta.now bytes.now)) n meta.now shown.now)) }
+        (line_in form
+        (facts_before (description_fields (describe_for ipv6 meta.now bytes.now)) n meta.now shown.now)) }
     ensures writer { WriterKeeps (writer_of W.Sink writer.old) (is_err result) (writer_of W.Sink writer.new) }
     ensures fault { IsOkUnless result Fault.Write }
 {
-    let description = describe(meta, bytes);
+    let description = describe_for(ipv6, meta, bytes);
     if shown.len() > MOST_SHOWN_CLASSED {
         let behind = Behind::Described(description);
         return put_long_packet(writer, line, form, &behind, n, meta, shown);
@@ -102,28 +118,26 @@ fn put_classed_packet<W: Sink>(
     put_all(writer, line.as_slice())
 }
 
-// Writes the packet number n, from 1, in a form, with at most `most` of its captured bytes, and with what it is by
-// itself if that is asked for.
+// Writes the packet number n, from 1, as the options say.
 #[inline(always)]
 fn put_packet<W: Sink>(
     writer: &mut W,
     line: &mut Line,
-    form: Form,
-    most: u32,
-    classed: bool,
+    options: ListOptions,
     n: u64,
     meta: &Meta,
     bytes: &[u8],
 ) -> Result<(), Fault>
     ensures bytes { IsTrue (W.tells_held writer.old)
         → Puts (W.held writer.old) result (W.held writer.new)
-        (packet_line_by classed form most n meta.now bytes.now) }
+        (packet_line_by options.class options.ipv6 options.form options.most n meta.now bytes.now) }
     ensures writer { WriterKeeps (writer_of W.Sink writer.old) (is_err result) (writer_of W.Sink writer.new) }
     ensures fault { IsOkUnless result Fault.Write }
 {
-    let (shown, _) = bytes.split_at(min(bytes.len(), most as usize));
-    if classed {
-        return put_classed_packet(writer, line, form, n, meta, bytes, shown);
+    let form = options.form;
+    let (shown, _) = bytes.split_at(min(bytes.len(), options.most as usize));
+    if options.class {
+        return put_classed_packet(writer, line, form, options.ipv6, n, meta, bytes, shown);
     }
     if shown.len() > MOST_SHOWN {
         return put_long_packet(writer, line, form, &Behind::LineEnd, n, meta, shown);
@@ -132,19 +146,16 @@ fn put_packet<W: Sink>(
     put_all(writer, line.as_slice())
 }
 
-// Prints the packets that a feed still gives in a form, the first of which has the number 1, with at most `most` bytes
-// of each, and what each is by itself, if that is asked for.
+// Prints the packets that a feed still gives as the options say. The first of them has the number 1.
 fn list_packets<F: PacketFeed, W: Sink>(
     feed: &mut F,
-    form: Form,
-    most: u32,
-    classed: bool,
+    options: ListOptions,
     writer: &mut W,
 ) -> Result<(), Fault>
     requires { (F.feed feed.old).left ≤ 2 ^ 40 }
     ensures text { IsTrue (F.feed feed.old).told → IsTrue (W.tells_held writer.old)
-        → Prints (list_lines (packet_line_by classed form most) 1 (F.feed feed.old).items)
-        (refusal_of (F.feed feed.old).items)
+        → Prints (list_lines (packet_line_by options.class options.ipv6 options.form options.most) 1
+        (F.feed feed.old).items) (refusal_of (F.feed feed.old).items)
         (W.held writer.old) result (W.held writer.new) }
     ensures writer { WriterKeeps (writer_of W.Sink writer.old) (is_write result) (writer_of W.Sink writer.new) }
     ensures walks { Walks (F.feed feed.old) result (F.feed feed.new) }
@@ -156,45 +167,46 @@ fn list_packets<F: PacketFeed, W: Sink>(
     let mut number = 1u64;
     while feed.peek()? {
         let packet = feed.packet();
-        put_packet(
-            writer,
-            &mut line,
-            form,
-            most,
-            classed,
-            number,
-            packet,
-            feed.frame(),
-        )?;
+        put_packet(writer, &mut line, options, number, packet, feed.frame())?;
         feed.pass();
         number += 1;
     }
     Ok(())
 }
 
-/// Does what `list_to` or `list_json_to` does, by the form, with at most `most` bytes of each packet; behind them it
-/// also prints what the packet is by itself, as `put_description` does, if `classed` says so. It returns the rest of
-/// the file that was cut and dropped, if it was.
+/// Does what `list_to` or `list_json_to` does, by the form of the options, with at most so many bytes of each packet;
+/// behind them it also prints what the packet is by itself, as `put_description` does, if they say so. It returns the
+/// rest of the file that was cut and dropped, if it was.
 pub(crate) fn list_in<R: Source, W: Sink>(
     alloc: Global,
     source: R,
     tail: Tail,
-    form: Form,
-    most: u32,
-    classed: bool,
+    options: ListOptions,
     writer: &mut W,
 ) -> Result<Option<CutRest>, Fault>
     ensures text { IsTrue (R.tells_coming source) → IsTrue (W.tells_held writer.old)
-        → Prints (list_by classed form most tail (R.coming source)) (list_refusal tail (R.coming source))
-        (W.held writer.old) (done_of result) (W.held writer.new) }
+        → Prints (list_by options.class options.ipv6 options.form options.most tail (R.coming source))
+        (list_refusal tail (R.coming source)) (W.held writer.old) (done_of result) (W.held writer.new) }
     ensures writer { WriterKeeps (writer_of W.Sink writer.old) (is_write result) (writer_of W.Sink writer.new) }
     ensures read { FailsOf (R.can_fail source ∷ []) result }
     ensures cut { IfOk result (λ cut. IsTrue (R.tells_coming source)
         → cut ≡ (file_ending tail 1 (R.coming source)).ending.cut) }
 {
     let mut capture = Capture::new(alloc, source, 1, tail);
-    list_packets(&mut capture, form, most, classed, writer)?;
+    list_packets(&mut capture, options, writer)?;
     Ok(capture.ending(1).cut)
+}
+
+// Lines in a form that show that many bytes of a packet at most, and don't say what it is.
+fn without_classes(form: Form, most: u32) -> ListOptions
+    ensures { result ≡ record { form = form; most = most; class = false; ipv6 = false } }
+{
+    ListOptions {
+        form,
+        most,
+        class: false,
+        ipv6: false,
+    }
 }
 
 /// Prints a line for each packet of a capture file of either format, each as it is found, up to the first refusal,
@@ -212,8 +224,8 @@ pub fn list_to<R: Source, W: Sink>(
     ensures writer { WriterKeeps (writer_of W.Sink writer.old) (is_write result) (writer_of W.Sink writer.new) }
     ensures read { FailsOf (R.can_fail source ∷ []) result }
 {
-    let form = Form::Text(TimeForm::Exact);
-    without_cut(list_in(alloc, source, tail, form, 16, false, writer))
+    let options = without_classes(Form::Text(TimeForm::Exact), 16);
+    without_cut(list_in(alloc, source, tail, options, writer))
 }
 
 /// Prints a JSON object on a line of its own for each packet of a capture file of either format, each as it is found,
@@ -232,6 +244,6 @@ pub fn list_json_to<R: Source, W: Sink>(
     ensures writer { WriterKeeps (writer_of W.Sink writer.old) (is_write result) (writer_of W.Sink writer.new) }
     ensures read { FailsOf (R.can_fail source ∷ []) result }
 {
-    let form = Form::Json(TimeForm::Exact);
-    without_cut(list_in(alloc, source, tail, form, shown, false, writer))
+    let objects = without_classes(Form::Json(TimeForm::Exact), shown);
+    without_cut(list_in(alloc, source, tail, objects, writer))
 }

@@ -1,6 +1,6 @@
 -- Runs whose packets have clocks of the same times, and the same interfaces, units, lengths and bytes, have the same
 -- report, but for the lines of the files: what is reported of files and of places in them may differ.
-use Rattle.std.proofs.Common.{arith, ◌≡◌, ℕ, ◌+◌, List, ◌∷◌, ◌++◌, length, refl, ◌∙◌, ap, Option}
+use Rattle.std.proofs.Common.{arith, ◌≡◌, ℕ, ◌+◌, Bool, true, false, List, [], ◌∷◌, ◌++◌, length, refl, ◌∙◌, ap, Option}
 use Rattle.std.proofs.lemmas.List.Elements.{length_all_zip}
 use Rattle.std.specs.List.{AllZip}
 use Rattle.std.specs.Prelude.{nat_lt, if◌then◌else◌}
@@ -14,16 +14,18 @@ use Rattle.cap_join.specs.declared.datagrams.Stamped.{Stamped}
 use Rattle.cap_merge.specs.inner.Clocks.{clock_total}
 use Rattle.cap_merge.specs.Run.{Clocked}
 use Rattle.cap_source.specs.Feed.{Item, packet, refused}
-use Rattle.cap_class.specs.Classes.{classes, classes_in, groups_of}
-use Rattle.cap_talks.specs.table.CountedUnits.{first_unit, unit_by, unit_at, listed, counted_units}
+use Rattle.cap_class.specs.Classes.{class_by, classes, classes_in, groups_of}
+use Rattle.cap_talks.specs.table.CountedUnits.{first_unit, unit_by, unit_at, unit_seen, listed}
 use Rattle.cap_class.specs.Runs.{with_item, taken_after}
-use Rattle.cap_talks.specs.table.TakenText.{body_text, body_text_in, taken_bytes, truncated_of}
+use Rattle.cap_print.specs.declared.forms.Form.TheVariants.{Text}
+use Rattle.cap_print.specs.declared.forms.TimeForm.TheVariants.{Exact}
+use Rattle.cap_talks.specs.table.TakenText.{taken_bytes, truncated_of}
 use Rattle.cap_class.specs.Taken.{Taken, Classification, plain, datagram, fragment, classify, events_classified}
-use Rattle.cap_class.specs.Taken.{events_of}
+use Rattle.cap_class.specs.Taken.{events_of, stamped_of}
 use Rattle.cap_time.specs.declared.stamps.Stamp.{Stamp}
 use Rattle.cap_laws.proofs.LikeReports.{LikeItems, RunsLike, refusals-like}
 use Rattle.cap_laws.specs.Reports.{SameReport}
-use Rattle.cap_class.specs.Ipv6.{report_classes}
+use Rattle.cap_class.specs.Ipv6.{class_seen, classes_seen, ipv6_read, report_classes}
 use Rattle.cap_talks.specs.table.CountedUnits.{unit_for, units_for}
 use Rattle.cap_talks.specs.table.TakenText.{body_for, counts_text_for}
 
@@ -99,10 +101,43 @@ alike-unit : (xs ys : List Taken) (x y : Taken) → AreAlike xs ys → IsAlike x
 unfolding unit_at
 alike-unit xs ys x y h k = grind (arith, alike-length, unit-by, alike-events, alike-classify)
 
-alike-units : (xs ys : List Taken) → AreAlike xs ys → counted_units xs ≡ counted_units ys
-unfolding units_for unit_for
-alike-units (x ∷ xs) (y ∷ ys) h = λ i. alike-units xs ys h.1 i ++ listed (alike-unit xs ys x y h.1 h.0 i)
-alike-units xs ys h = grind arith
+-- ---- where IPv6 packets are read
+
+alike-read : (x y : Taken) → IsAlike x y → ipv6_read x.meta x.frame ≡ ipv6_read y.meta y.frame
+unfolding ipv6_read
+alike-read x y h = grind arith
+
+alike-seen : (groups : List (List Piece)) (xs ys : List Taken) → AreAlike xs ys
+    → classes_seen groups xs ≡ classes_seen groups ys
+alike-seen groups (x ∷ xs) (y ∷ ys) h =
+    λ i. class_seen (alike-read x y h.0 i)
+    (class_by groups (alike-classify (length xs) (length ys) x y (alike-length xs ys h.1) h.0 i))
+    ∷ alike-seen groups xs ys h.1 i
+alike-seen groups xs ys h = grind arith
+
+alike-classes_for : (reads : Bool) (xs ys : List Taken) → AreAlike xs ys
+    → report_classes reads xs ≡ report_classes reads ys
+unfolding report_classes
+alike-classes_for false xs ys h = alike-classes xs ys h
+alike-classes_for true xs ys h =
+    ap (λ groups. classes_seen groups xs) (alike-groups xs ys h) ∙ alike-seen (groups_of ys) xs ys h
+
+alike-stamped : (n m : ℕ) (x y : Taken) → n ≡ m → IsAlike x y → stamped_of n x.meta ≡ stamped_of m y.meta
+alike-stamped n m x y e h = grind arith
+
+alike-unit_for : (reads : Bool) (xs ys : List Taken) (x y : Taken) → AreAlike xs ys → IsAlike x y
+    → unit_for reads xs x ≡ unit_for reads ys y
+unfolding unit_for
+alike-unit_for false xs ys x y h k = alike-unit xs ys x y h k
+alike-unit_for true xs ys x y h k =
+    λ i. unit_seen (alike-read x y k i) (alike-stamped (length xs) (length ys) x y (alike-length xs ys h) k i)
+    (alike-unit xs ys x y h k i)
+
+alike-units : (reads : Bool) (xs ys : List Taken) → AreAlike xs ys → units_for reads xs ≡ units_for reads ys
+unfolding units_for
+alike-units reads (x ∷ xs) (y ∷ ys) h =
+    λ i. alike-units reads xs ys h.1 i ++ listed (alike-unit_for reads xs ys x y h.1 h.0 i)
+alike-units reads xs ys h = grind arith
 
 -- ---- the lines
 
@@ -115,16 +150,17 @@ alike-truncated (x ∷ xs) (y ∷ ys) h = λ i. alike-truncated xs ys h.1 i +
     (if nat_lt (length (h.0.frame i)) (h.0.original i) then 1 else 0)
 alike-truncated xs ys h = grind arith
 
-alike-body : (xs ys : List Taken) → AreAlike xs ys → body_text xs ≡ body_text ys
-unfolding body_for counts_text_for report_classes
-alike-body xs ys h =
+alike-body : (reads : Bool) (xs ys : List Taken) → AreAlike xs ys
+    → body_for reads (Text Exact) xs ≡ body_for reads (Text Exact) ys
+unfolding body_for counts_text_for
+alike-body reads xs ys h =
     let n = alike-length xs ys h in
     let b = alike-bytes xs ys h in
     let t = alike-truncated xs ys h in
-    let k = alike-classes xs ys h in
+    let k = alike-classes_for reads xs ys h in
     let g = alike-groups xs ys h in
     let up = (same-groups open_limit (events_of xs) (events_of ys) (alike-events xs ys h)).given_up in
-    let u = alike-units xs ys h in
+    let u = alike-units reads xs ys h in
     cc
 
 -- ---- runs
@@ -152,4 +188,9 @@ runs-like (a ∷ as_) (b ∷ bs) h = (like-items a.clock b.clock a.item b.item h
 runs-like as_ bs h = grind arith
 
 pub same-report : (run again : List (Clocked Item)) → RunsAlike again run → SameReport run again
-same-report run again h = search (alike-body, taken-alike, refusals-like, runs-like)
+same-report run again h =
+    let taken = taken-alike again run [] [] h tt in
+    record {
+      lines = λ reads. alike-body reads (taken_after [] again) (taken_after [] run) taken;
+      refused = λ reads. refusals-like reads again run [] [] (runs-like again run h) tt;
+    }

@@ -1,6 +1,6 @@
 -- The lines of faults, and of what explains them, are texts of JSON.
 use Rattle.std.proofs.Common.{◌≡◌, ◌<◌, ◌^◌, ℕ, List, [], ◌∷◌, ◌++◌, refl, sym, ap, ◌∙◌, arith, append_assoc, Some}
-use Rattle.std.proofs.Common.{None}
+use Rattle.std.proofs.Common.{None, true, false}
 use Rattle.std.specs.Prelude.{chars, codes, decimal, flat_map, map, pos, Option, option_to_list}
 use lib.Utf8.{encode}
 use Rattle.cap_bytes.specs.Rules.{rule_name, rule_number}
@@ -17,7 +17,11 @@ use Rattle.cap_laws.proofs.JsonNumbers.{decimal-whole}
 use Rattle.cap_laws.proofs.JsonStrings.{string-then}
 use Rattle.cap_laws.specs.JsonFaults.{IsCutLine, IsHintLine, IsListLine, IsNetworkLine, IsOpenLine, IsReadLine}
 use Rattle.cap_laws.specs.JsonFaults.{IsRefusedLine}
-use Rattle.cap_laws.specs.JsonLines.{JsonValue, string, whole, whole_text}
+use Rattle.cap_laws.specs.JsonLines.{JsonValue, json_text, object, string, whole, whole_text}
+use Rattle.cap_print.specs.declared.forms.Form.TheVariants.{Json}
+use Rattle.cap_print.specs.declared.forms.TimeForm.{TimeForm}
+use Rattle.cap_talks.specs.declared.table.others.OtherCounts.{OtherCounts}
+use Rattle.cap_tool.specs.NetworkLine.{networks_in}
 use Rattle.cap_tool.specs.Objects.{escaped_character, path_json}
 
 -- the name of a rule has no character that is escaped
@@ -131,6 +135,9 @@ read-line file offset path small few =
     ∙ sym (object-first 1 (codes "type", string (codes "fault"))
     ((codes "fault", string (codes "read")) ∷ number ∷ place ∷ behind) (codes "\n"))
 
+parts-5 : (a b c d e rest : List ℕ) → (a ++ b ++ c ++ d ++ e) ++ rest ≡ a ++ (b ++ (c ++ (d ++ (e ++ rest))))
+parts-5 a b c d e rest = append_assoc (a ++ b ++ c ++ d) e rest ∙ parts-4 a b c d (e ++ rest)
+
 parts-6 : (a b c d e f rest : List ℕ)
     → (a ++ b ++ c ++ d ++ e ++ f) ++ rest ≡ a ++ (b ++ (c ++ (d ++ (e ++ (f ++ rest)))))
 parts-6 a b c d e f rest =
@@ -173,9 +180,16 @@ list-line line small =
     ∙ sym (object-first 1 (codes "type", string (codes "fault"))
     ((codes "fault", string (codes "list")) ∷ number ∷ []) (codes "\n"))
 
-pub network-line : IsNetworkLine
+-- of a report that doesn't read IPv6 packets
+abbrev IsIpv4Line : OtherCounts → TimeForm → Type 0
+IsIpv4Line n times = networks_in false (Json times) n
+    ≡ json_text 2 (object ((codes "type", string (codes "not_ipv4")) ∷ (codes "ipv6", whole (pos n.ipv6))
+    ∷ (codes "arp", whole (pos n.arp)) ∷ (codes "other", whole (pos n.other)) ∷ [])) ++ codes "\n"
+
+ipv4-line : (times : TimeForm) (n : OtherCounts) → n.ipv6 < 10 ^ 64 → n.arp < 10 ^ 64 → n.other < 10 ^ 64
+    → IsIpv4Line n times
 unfolding encode after-commas
-network-line times n small few some =
+ipv4-line times n small few some =
     let six : List ℕ × JsonValue 1 = (codes "ipv6", whole (pos n.ipv6)) in
     let arp : List ℕ × JsonValue 1 = (codes "arp", whole (pos n.arp)) in
     let other : List ℕ × JsonValue 1 = (codes "other", whole (pos n.other)) in
@@ -191,6 +205,28 @@ network-line times n small few some =
     (sym (comma-then 1 arp (other ∷ []) (codes "}\n")))
     ∙ ap (λ l. left ++ l) (sym (comma-then 1 six (arp ∷ other ∷ []) (codes "}\n")))
     ∙ sym (object-first 1 (codes "type", string (codes "not_ipv4")) (six ∷ arp ∷ other ∷ []) (codes "\n"))
+
+-- of one that does
+abbrev IsIpLine : OtherCounts → TimeForm → Type 0
+IsIpLine n times = networks_in true (Json times) n
+    ≡ json_text 2 (object ((codes "type", string (codes "not_ip")) ∷ (codes "arp", whole (pos n.arp))
+    ∷ (codes "other", whole (pos n.other)) ∷ [])) ++ codes "\n"
+
+ip-line : (times : TimeForm) (n : OtherCounts) → n.arp < 10 ^ 64 → n.other < 10 ^ 64 → IsIpLine n times
+unfolding encode after-commas
+ip-line times n few some =
+    let arp : List ℕ × JsonValue 1 = (codes "arp", whole (pos n.arp)) in
+    let other : List ℕ × JsonValue 1 = (codes "other", whole (pos n.other)) in
+    let left : List ℕ = codes "{\"type\":\"not_ip\"" in
+    parts-5 left (codes ",\"arp\":") (decimal n.arp) (codes ",\"other\":") (decimal n.other) (codes "}\n")
+    ∙ (λ i. left ++ (codes ",\"arp\":" ++ (decimal-whole n.arp few i ++ (codes ",\"other\":"
+    ++ (decimal-whole n.other some i ++ codes "}\n")))))
+    ∙ ap (λ l. left ++ (codes ",\"arp\":" ++ (whole_text (pos n.arp) ++ l))) (sym (comma-then 1 other [] (codes "}\n")))
+    ∙ ap (λ l. left ++ l) (sym (comma-then 1 arp (other ∷ []) (codes "}\n")))
+    ∙ sym (object-first 1 (codes "type", string (codes "not_ip")) (arp ∷ other ∷ []) (codes "\n"))
+
+pub network-line : IsNetworkLine
+network-line times n small few some = (ipv4-line times n small few some, ip-line times n few some)
 
 pub refused-line : IsRefusedLine
 unfolding encode

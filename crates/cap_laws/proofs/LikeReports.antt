@@ -2,7 +2,8 @@
 -- the forms of times.
 use Rattle.std.proofs.lemmas.Bool.Decides.{nat_tests}
 use Rattle.std.proofs.lemmas.Grind.{common_steps}
-use Rattle.std.proofs.Common.{arith, ◌≡◌, ℕ, ◌+◌, ◌++◌, Bool, false, List, [], ◌∷◌, length, refl, sym, Option}
+use Rattle.std.proofs.Common.{arith, ◌≡◌, ℕ, ◌+◌, ◌++◌, Bool, true, false, List, [], ◌∷◌, length, refl, sym, subst}
+use Rattle.std.proofs.Common.{Option, Some, None}
 use Rattle.std.proofs.lemmas.List.Elements.{length_all_zip}
 use Rattle.std.specs.List.{AllZip}
 use Rattle.std.specs.Option.{option_map_or}
@@ -22,26 +23,31 @@ use Rattle.cap_source.specs.Feed.{Item, packet, refused}
 use Rattle.cap_class.specs.Counting.{counts_of}
 use Rattle.cap_class.specs.Classes.{class_by, class_in, class_of, classes, classes_in, group_class}
 use Rattle.cap_class.specs.Classes.{groups_of, has_place}
-use Rattle.cap_talks.specs.table.CountedUnits.{unit_by, unit_at, listed, counted_units, is_limit_at, counted_in}
+use Rattle.cap_ipv6.specs.Read.{Reading}
+use Rattle.cap_talks.specs.table.CountedUnits.{unit_by, unit_at, unit_seen, ipv6_unit, listed, is_limit_for, counted_in}
 use Rattle.cap_class.specs.Runs.{with_item, taken_after}
-use Rattle.cap_talks.specs.talks.ReportText.{refusal_here}
-use Rattle.cap_talks.specs.table.TakenText.{body_text_in, taken_bytes, truncated_of, total_text, frames_text}
+use Rattle.cap_print.specs.Facts.{line_in}
+use Rattle.cap_print.specs.declared.forms.Form.TheVariants.{Text}
+use Rattle.cap_print.specs.declared.forms.TimeForm.TheVariants.{Exact}
+use Rattle.cap_talks.specs.talks.ReportText.{refusal_here_for}
+use Rattle.cap_talks.specs.table.TakenText.{frames_facts_for, taken_bytes, truncated_of, total_text}
 use Rattle.cap_talks.specs.table.TakenText.{joined_text}
 use Rattle.cap_talks.specs.table.TalkLines.{talks_text}
 use Rattle.cap_talks.specs.table.Rows.{is_refused, talk_limit}
 use Rattle.cap_class.specs.Taken.{Taken, Classification, plain, datagram, fragment, classify_at, classify}
 use Rattle.cap_class.specs.Taken.{events_classified}
-use Rattle.cap_class.specs.Taken.{events_of}
+use Rattle.cap_class.specs.Taken.{events_of, stamped_of}
 use Rattle.cap_talks.specs.table.Conversations.{talk_key, rows_of}
 use Rattle.cap_class.specs.declared.classes.Class.TheVariants as class
 use Rattle.cap_talks.specs.declared.table.units.CountedUnit.{CountedUnit}
 use Rattle.cap_time.specs.declared.stamps.Stamp.{Stamp}
 use Rattle.cap_laws.proofs.LikePieces.{IsLike, IsLikeFrame, Like, LikeEvent, data-like, events-groups, header-like}
 use Rattle.cap_laws.proofs.LikePieces.{pieces-alike, place-like}
-use Rattle.cap_laws.proofs.LikeUnits.{LikeUnit, LikeUnits, first_unit-like, key-like, refused-like, rows-like}
+use Rattle.cap_laws.proofs.LikeUnits.{LikeUnit, LikeUnits, between, first_unit-like, key-like, refused-like, rows-like}
+use Rattle.cap_laws.proofs.LikeUnits.{timed_frame-like}
 use Rattle.cap_laws.specs.Forms.{BodyParts, IsSameTalk, SameButForms, counts_text}
 use Rattle.cap_laws.specs.Reports.{Place, refusal_place_or, refused_after}
-use Rattle.cap_class.specs.Ipv6.{report_classes}
+use Rattle.cap_class.specs.Ipv6.{class_seen, classes_seen, ipv6_read, report_classes}
 use Rattle.cap_talks.specs.table.CountedUnits.{unit_for, units_for}
 use Rattle.cap_talks.specs.table.TakenText.{body_for, counts_text_for}
 
@@ -166,14 +172,61 @@ unit-at xs ys x y h k = grind (arith, taken-length, unit-by, classify-like, even
 listed-like : (u v : Option CountedUnit) → LikeUnit u v → LikeUnits (listed u) (listed v)
 listed-like u v h = grind arith
 
-units-like : (xs ys : List Taken) → LikeTaken xs ys → LikeUnits (counted_units xs) (counted_units ys)
-unfolding units_for unit_for
-units-like (x ∷ xs) (y ∷ ys) h = search (units-like xs ys h.1, zip-both, listed, listed-like, unit-at)
-units-like xs ys h = grind arith
+-- ---- where IPv6 packets are read
 
-talks-like : (xs ys : List Taken) → LikeTaken xs ys
-    → AllZip IsSameTalk (rows_of (counted_units xs)) (rows_of (counted_units ys))
-talks-like xs ys h = rows-like (counted_units xs) (counted_units ys) (units-like xs ys h)
+read-like : (x y : Taken) → IsLikeTaken x y → ipv6_read x.meta x.frame ≡ ipv6_read y.meta y.frame
+unfolding ipv6_read
+read-like x y h = grind arith
+
+seen-like : (gs ks : List (List Piece)) (xs ys : List Taken) → AllZip Like gs ks → LikeTaken xs ys
+    → classes_seen gs xs ≡ classes_seen ks ys
+seen-like gs ks (x ∷ xs) (y ∷ ys) g h =
+    λ i. class_seen (read-like x y h.0 i)
+    (class-by gs ks (classify (length xs) x) (classify (length ys) y) g
+    (classify-like (length xs) (length ys) x y (taken-length xs ys h.1) h.0) i)
+    ∷ seen-like gs ks xs ys g h.1 i
+seen-like gs ks xs ys g h = grind arith
+
+classes-for : (reads : Bool) (xs ys : List Taken) → LikeTaken xs ys → report_classes reads xs ≡ report_classes reads ys
+unfolding report_classes
+classes-for false xs ys h = classes-like xs ys h
+classes-for true xs ys h = seen-like (groups_of xs) (groups_of ys) xs ys (groups-like xs ys h) h
+
+ipv6-like : (r : Reading) (s t : Stamped) → IsLikeFrame s t → LikeUnit (ipv6_unit r s) (ipv6_unit r t)
+ipv6-like (Reading.datagram header captured) s t h = grind (arith, between, timed_frame-like)
+ipv6-like r s t h = tt
+
+unit_seen-like : (r : Option Reading) (s t : Stamped) (u v : Option CountedUnit) → IsLikeFrame s t → LikeUnit u v
+    → LikeUnit (unit_seen r s u) (unit_seen r t v)
+unit_seen-like None s t u v h k = k
+unit_seen-like (Some r) s t u v h k = ipv6-like r s t h
+
+stamped-like : (n m : ℕ) (x y : Taken) → n ≡ m → IsLikeTaken x y
+    → IsLikeFrame (stamped_of n x.meta) (stamped_of m y.meta)
+stamped-like n m x y e h = grind arith
+
+unit-for : (reads : Bool) (xs ys : List Taken) (x y : Taken) → LikeTaken xs ys → IsLikeTaken x y
+    → LikeUnit (unit_for reads xs x) (unit_for reads ys y)
+unfolding unit_for
+unit-for false xs ys x y h k = unit-at xs ys x y h k
+unit-for true xs ys x y h k =
+    subst (λ r. LikeUnit (unit_for true xs x) (unit_seen r (stamped_of (length ys) y.meta) (unit_at ys y)))
+    (read-like x y k)
+    (unit_seen-like (ipv6_read x.meta x.frame) (stamped_of (length xs) x.meta) (stamped_of (length ys) y.meta)
+    (unit_at xs x) (unit_at ys y) (stamped-like (length xs) (length ys) x y (taken-length xs ys h) k)
+    (unit-at xs ys x y h k))
+
+units-like : (reads : Bool) (xs ys : List Taken) → LikeTaken xs ys → LikeUnits (units_for reads xs) (units_for reads ys)
+unfolding units_for
+units-like reads (x ∷ xs) (y ∷ ys) h =
+    zip-both _ (units_for reads xs) (units_for reads ys) (listed (unit_for reads xs x)) (listed (unit_for reads ys y))
+    (units-like reads xs ys h.1)
+    (listed-like (unit_for reads xs x) (unit_for reads ys y) (unit-for reads xs ys x y h.1 h.0))
+units-like reads xs ys h = grind arith
+
+talks-like : (reads : Bool) (xs ys : List Taken) → LikeTaken xs ys
+    → AllZip IsSameTalk (rows_of (units_for reads xs)) (rows_of (units_for reads ys))
+talks-like reads xs ys h = rows-like (units_for reads xs) (units_for reads ys) (units-like reads xs ys h)
 
 -- ---- the lines
 
@@ -186,37 +239,38 @@ truncated-like (x ∷ xs) (y ∷ ys) h = λ i. truncated-like xs ys h.1 i +
     (if nat_lt (length (h.0.frame i)) (h.0.original i) then 1 else 0)
 truncated-like xs ys h = grind arith
 
-lines-like : (xs ys : List Taken) → LikeTaken xs ys → counts_text xs ≡ counts_text ys
-lines-like xs ys h =
+lines-like : (reads : Bool) (xs ys : List Taken) → LikeTaken xs ys → counts_text reads xs ≡ counts_text reads ys
+lines-like reads xs ys h =
     let groups = events-groups open_limit (events_of xs) (events_of ys) (events-like xs ys h) in
-    let rows = length_all_zip IsSameTalk (rows_of (counted_units xs)) (rows_of (counted_units ys))
-    (talks-like xs ys h) in
+    let rows = length_all_zip IsSameTalk (rows_of (units_for reads xs)) (rows_of (units_for reads ys))
+    (talks-like reads xs ys h) in
     λ i. total_text (taken-length xs ys h i) (bytes-like xs ys h i) (truncated-like xs ys h i)
-    ++ frames_text (counts_of (classes-like xs ys h i))
+    ++ line_in (Text Exact) (frames_facts_for reads (counts_of (classes-for reads xs ys h i)))
     ++ joined_text (counted-like (groups_of xs) (groups_of ys) groups.completed i) (groups.given_up i)
     ++ talks_text (rows i)
 
 pub body-parts : BodyParts
-unfolding body_for counts_text_for report_classes
-body-parts xs = refl
+unfolding body_for counts_text_for
+body-parts reads xs = refl
 
 -- ---- refusals
 
-limit-by : (xs ys : List Taken) (u v : Option CountedUnit) → LikeTaken xs ys → LikeUnit u v
-    → option_map_or (λ unit. is_refused talk_limit (rows_of (counted_units xs)) (talk_key unit)) u false
-    ≡ option_map_or (λ unit. is_refused talk_limit (rows_of (counted_units ys)) (talk_key unit)) v false
-limit-by xs ys u v h k = grind (arith, refused-like, key-like, talks-like)
+limit-by : (reads : Bool) (xs ys : List Taken) (u v : Option CountedUnit) → LikeTaken xs ys → LikeUnit u v
+    → option_map_or (λ unit. is_refused talk_limit (rows_of (units_for reads xs)) (talk_key unit)) u false
+    ≡ option_map_or (λ unit. is_refused talk_limit (rows_of (units_for reads ys)) (talk_key unit)) v false
+limit-by reads xs ys u v h k = grind (arith, refused-like, key-like, talks-like)
 
-limit-like : (xs ys : List Taken) (x y : Taken) → LikeTaken xs ys → IsLikeTaken x y
-    → is_limit_at xs x ≡ is_limit_at ys y
-unfolding unit_for unit_at
-limit-like xs ys x y h k = limit-by xs ys (unit_at xs x) (unit_at ys y) h (unit-at xs ys x y h k)
+limit-like : (reads : Bool) (xs ys : List Taken) (x y : Taken) → LikeTaken xs ys → IsLikeTaken x y
+    → is_limit_for reads xs x ≡ is_limit_for reads ys y
+limit-like reads xs ys x y h k =
+    limit-by reads xs ys (unit_for reads xs x) (unit_for reads ys y) h (unit-for reads xs ys x y h k)
 
-refused-here : (c d : Option Stamp) (a b : Item) (xs ys : List Taken) (p q : Option Place) → LikeItems c d a b
-    → LikeTaken xs ys → p ≡ q
-    → refusal_place_or (length xs) (refusal_here xs c a) p ≡ refusal_place_or (length ys) (refusal_here ys d b) q
-refused-here c d (packet m f) (packet n g) xs ys p q h k e = grind (arith, limit-like, taken-length)
-refused-here c d a b xs ys p q h k e = grind arith
+refused-here : (reads : Bool) (c d : Option Stamp) (a b : Item) (xs ys : List Taken) (p q : Option Place)
+    → LikeItems c d a b → LikeTaken xs ys → p ≡ q
+    → refusal_place_or (length xs) (refusal_here_for reads xs c a) p
+    ≡ refusal_place_or (length ys) (refusal_here_for reads ys d b) q
+refused-here reads c d (packet m f) (packet n g) xs ys p q h k e = grind (arith, limit-like, taken-length)
+refused-here reads c d a b xs ys p q h k e = grind arith
 
 -- ---- runs
 
@@ -234,22 +288,20 @@ taken-like (a ∷ as_) (b ∷ bs) xs ys h k = grind (
 )
 taken-like as_ bs xs ys h k = grind arith
 
-pub refusals-like : (as_ bs : List (Clocked Item)) (xs ys : List Taken) → RunsLike as_ bs → LikeTaken xs ys
-    → refused_after xs as_ ≡ refused_after ys bs
+pub refusals-like : (reads : Bool) (as_ bs : List (Clocked Item)) (xs ys : List Taken) → RunsLike as_ bs
+    → LikeTaken xs ys → refused_after reads xs as_ ≡ refused_after reads ys bs
 unfolding refused_after
-refusals-like (a ∷ as_) (b ∷ bs) xs ys h k = search (
-  refusals-like as_ bs (with_item a.clock a.item xs) (with_item b.clock b.item ys) h.1
-      (with-like a.clock b.clock a.item b.item xs ys h.0 k),
-  refused-here,
-  with-like,
-)
-refusals-like as_ bs xs ys h k = grind arith
+refusals-like reads (a ∷ as_) (b ∷ bs) xs ys h k =
+    refused-here reads a.clock b.clock a.item b.item xs ys _ _ h.0 k
+    (refusals-like reads as_ bs (with_item a.clock a.item xs) (with_item b.clock b.item ys) h.1
+    (with-like a.clock b.clock a.item b.item xs ys h.0 k))
+refusals-like reads as_ bs xs ys h k = grind arith
 
 pub same-but-forms : (run again : List (Clocked Item)) → RunsLike run again → SameButForms run again
 same-but-forms run again h =
     let taken = taken-like run again [] [] h tt in
     record {
-      lines = sym (lines-like (taken_after [] run) (taken_after [] again) taken);
-      talks = talks-like (taken_after [] run) (taken_after [] again) taken;
-      refused = sym (refusals-like run again [] [] h tt);
+      lines = λ reads. sym (lines-like reads (taken_after [] run) (taken_after [] again) taken);
+      talks = λ reads. talks-like reads (taken_after [] run) (taken_after [] again) taken;
+      refused = λ reads. sym (refusals-like reads run again [] [] h tt);
     }

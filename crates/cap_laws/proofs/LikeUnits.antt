@@ -39,7 +39,7 @@ LikeTimed None (Some b) = ⊥
 LikeTimed (Some a) None = ⊥
 LikeTimed (Some a) (Some b) = (clock_cmp (Some a.time) (Some b.time) ≡ Equal) × (a.place ≡ b.place)
 
-timed_frame-like : (a b : Option Stamped) → LikeFrames a b → LikeTimed (timed_frame a) (timed_frame b)
+pub timed_frame-like : (a b : Option Stamped) → LikeFrames a b → LikeTimed (timed_frame a) (timed_frame b)
 timed_frame-like a b h = grind arith
 
 -- ---- units
@@ -60,7 +60,7 @@ LikeUnit None (Some v) = ⊥
 LikeUnit (Some u) None = ⊥
 LikeUnit (Some u) (Some v) = IsLikeUnit u v
 
-between : (ends : Option (Endpoint × Endpoint)) (protocol frames frames_again bytes bytes_again : ℕ)
+pub between : (ends : Option (Endpoint × Endpoint)) (protocol frames frames_again bytes bytes_again : ℕ)
     (first first_again last last_again : Option TimedFrame)
     → frames ≡ frames_again → bytes ≡ bytes_again → LikeTimed first first_again → LikeTimed last last_again
     → LikeUnit (option_map (unit_of protocol frames bytes first last) ends)

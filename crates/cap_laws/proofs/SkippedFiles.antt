@@ -128,7 +128,7 @@ does-text : (task : Task) (ignored : Ignored) (tail : Tail) (form : Form) (shown
     (order : Order) (to : Option OutputFormat) (shares digests skips : Bool) (fails : List Bool) (files : List (List ℕ))
     (old new : List ℕ) → IsTrue (is_skipping task skips)
     → DoesTask task ignored tail form shown classed order to shares digests fails files Nothing old (Ok tt) new
-    → new ≡ old ++ printed_text task form shown.top tail files
+    → new ≡ old ++ printed_text task form shown tail files
 does-text tasks.List ignored tail form shown classed order to shares digests skips fails files old new is does =
     absurd (cc)
 does-text tasks.Blocks ignored tail form shown classed order to shares digests skips fails files old new is does =
@@ -166,7 +166,8 @@ module _ (job : Job) (skips : IsTrue (is_skipping job.task job.skips)) (fails : 
     (old : List ℕ) (done : Result DroppedInfo RunStop) (new waiting : List ℕ) where
   ran-by : (answer : Result Finding Fault) → Does job fails files (found_in answer) old (done_of answer) new
       → EndsBy answer waiting done → ended_as done ≡ Ok tt
-      → new ≡ old ++ printed_text job.task (form_by job.json job.time) job.top (tail_of job.allow_cut) files
+      → new ≡ old ++ printed_text job.task (form_by job.json job.time) (job_shows job)
+      (tail_of job.allow_cut) files
   ran-by (Ok Nothing) does ends ok =
       does-text job.task job.ignored (tail_of job.allow_cut) (form_by job.json job.time) (job_shows job) job.class
       job.order (output_of job) job.shares job.digests job.skips fails files old new skips does
@@ -178,7 +179,8 @@ module _ (job : Job) (skips : IsTrue (is_skipping job.task job.skips)) (fails : 
   ran-by (Err fault) does (inr e) ok = absurd (cc)
 
   ran-text : RunsJob job fails files old done new waiting → ended_as done ≡ Ok tt
-      → new ≡ old ++ printed_text job.task (form_by job.json job.time) job.top (tail_of job.allow_cut) files
+      → new ≡ old ++ printed_text job.task (form_by job.json job.time) (job_shows job)
+      (tail_of job.allow_cut) files
   ran-text ran ok = ran-by ran.answer ran.does ran.ends ok
 
   whole-by : (answer : Result Finding Fault) → IfOk answer (Finds job files) → EndsBy answer waiting done

@@ -1,15 +1,17 @@
 -- What `list --class` says of a packet, beside the report.
-use Rattle.std.specs.Prelude.{◌≡◌, ℕ, List, map}
+use Rattle.std.specs.Prelude.{◌≡◌, ℕ, Bool, List, map}
 use Rattle.cap_class.specs.Taken.{Taken}
 use Rattle.cap_laws.specs.InOrder.{classes_at}
 use Rattle.cap_laws.specs.Sums.{parts_among}
 use Rattle.cap_source.specs.declared.packets.Meta.{Meta}
-use Rattle.cap_class.specs.Classes.{lone_class}
-use Rattle.cap_talks.specs.table.Descriptions.{describe_of, described_class}
+use Rattle.cap_class.specs.Ipv6.{lone_class_for}
+use Rattle.cap_talks.specs.table.Descriptions.{describe_for, describe_of, described_class}
 
--- It is the class that the packet has in a report over it alone.
+-- It is the class that the packet has in a report over it alone, whether both read IPv6 packets or not.
 abbrev pub DescribedAlone : Type 0
-DescribedAlone = (meta : Meta) (frame : List ℕ) → described_class (describe_of meta frame) ≡ lone_class meta frame
+DescribedAlone =
+    (reads : Bool) (meta : Meta) (frame : List ℕ)
+    → described_class (describe_for reads meta frame) ≡ lone_class_for reads meta frame
 
 -- If none of some packets is a fragment, it is the class that each has in the report over all of them.
 abbrev pub DescribedTogether : Type 0

@@ -1,5 +1,5 @@
 -- What stays of the report when packets are written with their times in another form.
-use Rattle.std.specs.Prelude.{◌≡◌, ℕ, ◌≤◌, ◌^◌, List, [], ◌∷◌, ◌++◌, length, Option, None}
+use Rattle.std.specs.Prelude.{◌≡◌, ℕ, ◌≤◌, ◌^◌, Bool, List, [], ◌∷◌, ◌++◌, length, Option, None}
 use Rattle.std.specs.List.{AllZip}
 use Rattle.std.specs.declared.cmp.Ordering.TheVariants.{Equal}
 use Rattle.cap_blocks.specs.Split.{AreBytes}
@@ -11,10 +11,14 @@ use Rattle.cap_merge.specs.Run.{Clocked}
 use Rattle.cap_source.specs.Feed.{Item}
 use Rattle.cap_source.specs.Items.{file_first, file_items}
 use Rattle.cap_class.specs.Counting.{counts_of}
-use Rattle.cap_class.specs.Classes.{classes}
-use Rattle.cap_talks.specs.table.CountedUnits.{counted_units, joined_in, given_up_in}
+use Rattle.cap_class.specs.Ipv6.{report_classes}
+use Rattle.cap_print.specs.Facts.{line_in}
+use Rattle.cap_print.specs.declared.forms.Form.TheVariants.{Text}
+use Rattle.cap_print.specs.declared.forms.TimeForm.TheVariants.{Exact}
+use Rattle.cap_talks.specs.table.CountedUnits.{joined_in, given_up_in, units_for}
 use Rattle.cap_class.specs.Runs.{taken_after}
-use Rattle.cap_talks.specs.table.TakenText.{body_text, taken_bytes, truncated_of, total_text, frames_text, joined_text}
+use Rattle.cap_talks.specs.table.TakenText.{body_for, frames_facts_for, joined_text, taken_bytes, total_text}
+use Rattle.cap_talks.specs.table.TakenText.{truncated_of}
 use Rattle.cap_talks.specs.table.TalkLines.{talk_texts, talks_text}
 use Rattle.cap_class.specs.Taken.{Taken}
 use Rattle.cap_talks.specs.table.Conversations.{Conversation, rows_of}
@@ -35,24 +39,28 @@ pub record IsSameTalk (talk again : Conversation) : Type 0 where
   pub last : clock_cmp talk.1.last again.1.last ≡ Equal
   pub last_place : talk.1.last_place ≡ again.1.last_place
 
--- the lines `total`, `frames`, `joined` and `talks` of a report
-abbrev pub counts_text : List Taken → List ℕ
-counts_text xs =
-    total_text (length xs) (taken_bytes xs) (truncated_of xs) ++ frames_text (counts_of (classes xs))
+-- the lines `total`, `frames`, `joined` and `talks` of a report, which reads IPv6 packets or not
+abbrev pub counts_text : Bool → List Taken → List ℕ
+counts_text reads xs =
+    total_text (length xs) (taken_bytes xs) (truncated_of xs)
+    ++ line_in (Text Exact) (frames_facts_for reads (counts_of (report_classes reads xs)))
     ++ joined_text (joined_in xs) (given_up_in xs)
-    ++ talks_text (length (rows_of (counted_units xs)))
+    ++ talks_text (length (rows_of (units_for reads xs)))
 
 -- All lines but those of the files are these, and then those of the conversations.
 abbrev pub BodyParts : Type 0
-BodyParts = (xs : List Taken) → body_text xs ≡ counts_text xs ++ talk_texts (rows_of (counted_units xs))
+BodyParts =
+    (reads : Bool) (xs : List Taken)
+    → body_for reads (Text Exact) xs ≡ counts_text reads xs ++ talk_texts (rows_of (units_for reads xs))
 
 -- The reports of two runs have the same such lines, and `talk` lines of the same conversations, one by one, or are
--- refused at the same place by the same rule.
+-- refused at the same place by the same rule, whether they read IPv6 packets or not.
 pub record SameButForms (run again : List (Clocked Item)) : Type 0 where
-  pub lines : counts_text (taken_after [] again) ≡ counts_text (taken_after [] run)
-  pub talks : AllZip IsSameTalk (rows_of (counted_units (taken_after [] run)))
-      (rows_of (counted_units (taken_after [] again)))
-  pub refused : refused_at again ≡ refused_at run
+  pub lines : (reads : Bool) → counts_text reads (taken_after [] again) ≡ counts_text reads (taken_after [] run)
+  pub talks : (reads : Bool)
+      → AllZip IsSameTalk (rows_of (units_for reads (taken_after [] run)))
+      (rows_of (units_for reads (taken_after [] again)))
+  pub refused : (reads : Bool) → refused_at reads again ≡ refused_at reads run
 
 -- The pcap file that is written of one file, in whatever unit, if nothing is refused and it is at most 2^40 bytes long,
 -- has the file's report, but for the forms of times.

@@ -1,5 +1,6 @@
 -- What is printed with `--json` of a run that fails, and of what explains it, as texts of JSON.
 use Rattle.std.specs.Prelude.{◌≡◌, ◌<◌, ◌^◌, ℕ, pos, List, [], ◌∷◌, ◌++◌, chars, codes, map, Option, option_to_list}
+use Rattle.std.specs.Prelude.{true, false}
 use Rattle.cap_bytes.specs.Rules.{rule_name, rule_number}
 use Rattle.cap_bytes.specs.declared.faults.Refusal.{Refusal}
 use Rattle.cap_bytes.specs.declared.stops.CutRest.{CutRest}
@@ -48,13 +49,16 @@ IsListLine =
     ≡ json_text 2 (object ((codes "type", string (codes "fault")) ∷ (codes "fault", string (codes "list"))
     ∷ (codes "line", whole (pos line)) ∷ [])) ++ codes "\n"
 
--- So is the line of the networks of the packets that a report counts as `not-ipv4`.
+-- So is the line of the networks of the packets that a report counts as `not-ipv4`, and as `not-ip`.
 abbrev pub IsNetworkLine : Type 0
 IsNetworkLine =
     (times : TimeForm) (n : OtherCounts) → n.ipv6 < 10 ^ 64 → n.arp < 10 ^ 64 → n.other < 10 ^ 64
-    → networks_in (Json times) n
+    → (networks_in false (Json times) n
     ≡ json_text 2 (object ((codes "type", string (codes "not_ipv4")) ∷ (codes "ipv6", whole (pos n.ipv6))
-    ∷ (codes "arp", whole (pos n.arp)) ∷ (codes "other", whole (pos n.other)) ∷ [])) ++ codes "\n"
+    ∷ (codes "arp", whole (pos n.arp)) ∷ (codes "other", whole (pos n.other)) ∷ [])) ++ codes "\n")
+    × (networks_in true (Json times) n
+    ≡ json_text 2 (object ((codes "type", string (codes "not_ip")) ∷ (codes "arp", whole (pos n.arp))
+    ∷ (codes "other", whole (pos n.other)) ∷ [])) ++ codes "\n")
 
 -- So is the line of a rest of a file that was cut and dropped.
 abbrev pub IsCutLine : Type 0

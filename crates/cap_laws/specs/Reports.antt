@@ -1,5 +1,5 @@
 -- What stays of the report when the packets of files are written as one file.
-use Rattle.std.specs.Prelude.{◌≡◌, ℕ, ◌≤◌, ◌^◌, List, [], ◌∷◌, length, Option, Some, None, option_map}
+use Rattle.std.specs.Prelude.{◌≡◌, ℕ, ◌≤◌, ◌^◌, Bool, List, [], ◌∷◌, length, Option, Some, None, option_map}
 use Rattle.std.specs.List.{AllByRecursion}
 use Rattle.cap_blocks.specs.Split.{AreBytes}
 use Rattle.cap_bytes.specs.declared.faults.Refusal.{Refusal}
@@ -11,8 +11,10 @@ use Rattle.cap_merge.specs.Run.{Clocked}
 use Rattle.cap_source.specs.Feed.{Item}
 use Rattle.cap_source.specs.Items.{file_first, file_items}
 use Rattle.cap_class.specs.Runs.{taken_after, with_item}
-use Rattle.cap_talks.specs.talks.ReportText.{refusal_here, report_refusal}
-use Rattle.cap_talks.specs.table.TakenText.{body_text}
+use Rattle.cap_print.specs.declared.forms.Form.TheVariants.{Text}
+use Rattle.cap_print.specs.declared.forms.TimeForm.TheVariants.{Exact}
+use Rattle.cap_talks.specs.talks.ReportText.{refusal_here_for, report_refusal_for}
+use Rattle.cap_talks.specs.table.TakenText.{body_for}
 use Rattle.cap_class.specs.Taken.{Taken}
 use Rattle.cap_write.specs.Texts.{merged_bytes, merged_refusal, pcapng_bytes, pcapng_refusal}
 
@@ -26,25 +28,28 @@ abbrev pub refusal_place_or : ℕ → Option Refusal → Option Place → Option
 refusal_place_or taken None later = later
 refusal_place_or taken (Some refusal) later = Some (record { taken = taken; rule = refusal.rule })
 
--- where a run is refused first, after the packets that were taken
-unfoldable pub refused_after : List Taken → List (Clocked Item) → Option Place
-refused_after xs [] = None
-refused_after xs (x ∷ run) = refusal_place_or (length xs) (refusal_here xs x.clock x.item)
-    (refused_after (with_item x.clock x.item xs) run)
+-- where a run is refused first, after the packets that were taken, by a report that reads IPv6 packets or not
+unfoldable pub refused_after : Bool → List Taken → List (Clocked Item) → Option Place
+refused_after reads xs [] = None
+refused_after reads xs (x ∷ run) = refusal_place_or (length xs) (refusal_here_for reads xs x.clock x.item)
+    (refused_after reads (with_item x.clock x.item xs) run)
 
-abbrev pub refused_at : List (Clocked Item) → Option Place
-refused_at run = refused_after [] run
+abbrev pub refused_at : Bool → List (Clocked Item) → Option Place
+refused_at reads run = refused_after reads [] run
 
 -- The rule of that place is the rule of the refusal that is returned instead of a report.
 abbrev pub RuleLaw : Type 0
-RuleLaw = (run : List (Clocked Item)) → option_map (λ place. place.rule) (refused_at run)
-    ≡ option_map (λ refusal. refusal.rule) (report_refusal run)
+RuleLaw =
+    (reads : Bool) (run : List (Clocked Item))
+    → option_map (λ place. place.rule) (refused_at reads run)
+    ≡ option_map (λ refusal. refusal.rule) (report_refusal_for reads run)
 
 -- The reports of two runs have the same lines, but for those of the files, or are refused at the same place by the same
--- rule.
+-- rule, whether they read IPv6 packets or not.
 pub record SameReport (run again : List (Clocked Item)) : Type 0 where
-  pub lines : body_text (taken_after [] again) ≡ body_text (taken_after [] run)
-  pub refused : refused_at again ≡ refused_at run
+  pub lines : (reads : Bool)
+      → body_for reads (Text Exact) (taken_after [] again) ≡ body_for reads (Text Exact) (taken_after [] run)
+  pub refused : (reads : Bool) → refused_at reads again ≡ refused_at reads run
 
 -- The file that a merge of some files writes, if nothing is refused and it is at most 2^40 bytes long, has the report
 -- of the files.

@@ -5,7 +5,7 @@ use Rattle.std.specs.List.{AllByRecursion}
 use Rattle.cap_bytes.specs.declared.faults.Refusal.{Refusal}
 use Rattle.cap_bytes.specs.declared.faults.Tail.{Tail}
 use Rattle.cap_check.specs.Checking.{Opened}
-use Rattle.cap_commands.specs.Jobs.{form_by, tail_of}
+use Rattle.cap_commands.specs.Jobs.{JobShows, form_by, job_shows, tail_of}
 use Rattle.cap_commands.specs.Skipping.{is_any_refused, kept_of, left_out_lines, refusals_from}
 use Rattle.cap_commands.specs.declared.left.DroppedInfo.{DroppedInfo}
 use Rattle.cap_line.specs.Jobs.{is_skipping}
@@ -15,7 +15,7 @@ use Rattle.cap_line.specs.declared.jobs.Task.TheVariants as tasks
 use Rattle.cap_merge.specs.Files.{clocked_run, endings_of_files}
 use Rattle.cap_print.specs.declared.forms.Form.{Form}
 use Rattle.cap_talks.specs.talks.InfoText.{first_refusal, info_text_in}
-use Rattle.cap_talks.specs.talks.ReportText.{report_shown_in}
+use Rattle.cap_talks.specs.talks.ReportText.{report_for}
 use Rattle.cap_tool.specs.Runs.{SkipsJob, ended_as}
 use Rattle.cap_tool.specs.Skipped.{AreRefusals}
 use Rattle.cap_tool.specs.declared.outcomes.Outcome.TheVariants as outcomes
@@ -37,17 +37,17 @@ KeepsWhole =
     × (left_out_lines form (refusals_from tail 1 files) ≡ []))
 
 -- what `info` or `report` prints of one or more files, if none is refused
-abbrev pub printed_text : Task → Form → Option ℕ → Tail → List (List ℕ) → List ℕ
-printed_text tasks.Info form top tail files = info_text_in form tail files
-printed_text tasks.Report form top tail files =
-    report_shown_in form top (length files) (endings_of_files tail files) (clocked_run tail files)
-printed_text _ form top tail files = []
+abbrev pub printed_text : Task → Form → JobShows → Tail → List (List ℕ) → List ℕ
+printed_text tasks.Info form shown tail files = info_text_in form tail files
+printed_text tasks.Report form shown tail files =
+    report_for shown.ipv6 form shown.top (length files) (endings_of_files tail files) (clocked_run tail files)
+printed_text _ form shown tail files = []
 
 -- what a job prints of some files; nothing of none
 abbrev pub job_text : Job → List (List ℕ) → List ℕ
 job_text job [] = []
-job_text job (bytes ∷ files) = printed_text job.task (form_by job.json job.time) job.top (tail_of job.allow_cut)
-    (bytes ∷ files)
+job_text job (bytes ∷ files) = printed_text job.task (form_by job.json job.time) (job_shows job)
+    (tail_of job.allow_cut) (bytes ∷ files)
 
 -- A job that leaves out files that are refused is done over some files, which have the same bytes when those that are
 -- kept are opened once more. Those that are refused are left out, and no others. If the run is done, none is refused,

@@ -217,7 +217,7 @@ pub fn json_cuts()
 {}
 
 /// The line of the networks of the packets that a report counts as `not-ipv4` is the text of a value of JSON
-/// (RFC 8259).
+/// (RFC 8259), and so is that of `not-ip`.
 pub fn json_networks()
     ensures { IsNetworkLine }
 {}

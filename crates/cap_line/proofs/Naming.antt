@@ -1,6 +1,6 @@
 -- The files that a task is given, by their own names or by a file that has these.
 use Rattle.std.proofs.Common.{◌≡◌, ◌⊎◌, ◌≤◌, ℕ, List, Option, Some}
-use Rattle.std.proofs.Common.{None, Result, Ok, Err, length, arith, IsTrue, IsSome}
+use Rattle.std.proofs.Common.{None, Result, Ok, Err, length, arith, inl, inr, IsTrue, IsSome}
 use Rattle.clap.specs.Words.{Row, Text}
 use Rattle.cap_line.specs.CommandLine.{CannotVerify, IsJobBy, files_in, names_file_in, out_in}
 use Rattle.cap_line.specs.Jobs.{inputs_fault, is_surveying, least_files, most_files, task_by}
@@ -22,7 +22,8 @@ pub named-refused : (task : Task) (name : Text) (rows : List Row) (fault : LineF
     ⊎ (inputs_fault task (files_in rows) (names_file_in rows) (out_in rows) ≡ Err fault)
     → IsJobBy name rows (Err fault)
 named-refused task name rows faults.Help is why = grind arith
-named-refused task name rows faults.Line is why = grind arith
+named-refused task name rows faults.Line is (inl why) = inr (inr (inr (inr (inr (inr (inl why.1))))))
+named-refused task name rows faults.Line is (inr why) = inr (inr (inr (inr (inr (inr (inr (task, is, why)))))))
 named-refused task name rows faults.Files is why = grind arith
 named-refused task name rows faults.Input is why = grind arith
 named-refused task name rows faults.Output is why = grind arith

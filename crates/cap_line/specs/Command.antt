@@ -156,10 +156,11 @@ pub record IsTimed (make : ArgumentNames → App) (app : App) : Type 0 where
   pub times_are : AreTimes times
   pub app_is : app ≡ make times
 
--- `list [--time FORM] [--class] [--data N] FILE`
+-- `list [--time FORM] [--class] [--ipv6] [--data N] FILE`
 abbrev pub list_app : ArgumentNames → App
 list_app times =
-    with_rule (with_rule (with_rule (timing_app (codes "list") times) (flag_rule (codes "class"))) data_rule) file_rule
+    with_rule (with_rule (with_rule (with_rule (timing_app (codes "list") times) (flag_rule (codes "class")))
+    (flag_rule (codes "ipv6"))) data_rule) file_rule
 
 -- `blocks FILE`
 abbrev pub blocks_app : App
@@ -197,9 +198,10 @@ skipping_app before = with_rule (with_rule before (flag_rule (codes "skip-refuse
 abbrev pub info_app : ArgumentNames → App
 info_app times = skipping_app (timing_app (codes "info") times)
 
--- `report [--time FORM] [--top N] [--skip-refused] FILE..`
+-- `report [--time FORM] [--top N] [--ipv6] [--skip-refused] FILE..`
 abbrev pub report_app : ArgumentNames → App
-report_app times = skipping_app (with_rule (timing_app (codes "report") times) top_rule)
+report_app times =
+    skipping_app (with_rule (with_rule (timing_app (codes "report") times) top_rule) (flag_rule (codes "ipv6")))
 
 -- the subcommand of that name with `[--order ORDER] [--unit UNIT] -o OUT [--whole]`, before its files
 abbrev pub writing_app : Text → ArgumentNames → ArgumentNames → App

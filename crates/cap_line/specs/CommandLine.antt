@@ -8,8 +8,9 @@ use Rattle.clap.specs.declared.error.kind.ErrorKind.TheVariants as kind
 use Rattle.cap_line.specs.Command.{IsCapt}
 use Rattle.cap_bytes.specs.declared.formats.Format.{Format}
 use Rattle.cap_time.specs.declared.stamps.Unit.{Unit as Fraction}
-use Rattle.cap_line.specs.Jobs.{IsShownJob, IsWholeJob, can_have_unit, can_replace, can_share, can_show, can_skip}
-use Rattle.cap_line.specs.Jobs.{can_verify, data_by, format_by, ignored_by, inputs_fault, is_whole_task, order_by}
+use Rattle.cap_line.specs.Jobs.{IsShownJob, IsWholeJob, can_have_unit, can_read_ipv6, can_replace, can_share, can_show}
+use Rattle.cap_line.specs.Jobs.{can_skip, can_verify, data_by, format_by, ignored_by, inputs_fault, is_whole_task}
+use Rattle.cap_line.specs.Jobs.{order_by}
 use Rattle.cap_line.specs.Jobs.{task_by, time_by, top_by, unit_by}
 use Rattle.cap_line.specs.declared.jobs.Job.{Job}
 use Rattle.cap_line.specs.declared.jobs.Task.{Task}
@@ -93,12 +94,18 @@ abbrev pub CannotSkip : List Row → Type 0
 CannotSkip rows =
     (skips : Bool) × Flags skips (codes "skip-refused") rows × IsFalse (can_skip skips (files_in rows))
 
--- What is to be shown is no number of bytes or of conversations, or a task can't show it.
+-- What is to be shown is no number of bytes or of conversations, or a task can't show it, or can't read the packets.
+abbrev pub IsUnshown : Task → Bool → Bool → Bool → List Row → Type 0
+IsUnshown task json class ipv6 rows =
+    (data_in rows ≡ Err Line) ⊎ (top_in rows ≡ Err Line)
+    ⊎ ((count : Option ℕ) × (data_in rows ≡ Ok count) × IsFalse (can_show task json count))
+    ⊎ IsFalse (can_read_ipv6 task class ipv6)
+
+-- The same of the task of that name, and the flags that were given.
 abbrev pub CannotShow : Text → List Row → Type 0
 CannotShow name rows =
-    (data_in rows ≡ Err Line) ⊎ (top_in rows ≡ Err Line)
-    ⊎ ((task : Task) × (json : Bool) × (count : Option ℕ) × (task_by name ≡ Some task)
-    × Flags json (codes "json") rows × (data_in rows ≡ Ok count) × IsFalse (can_show task json count))
+    (task : Task) × (json class ipv6 : Bool) × (task_by name ≡ Some task) × Flags json (codes "json") rows
+    × Flags class (codes "class") rows × Flags ipv6 (codes "ipv6") rows × IsUnshown task json class ipv6 rows
 
 -- The files or the output are refused by that fault.
 abbrev pub RefusesFiles : Text → List Row → LineFault → Type 0
@@ -119,6 +126,7 @@ pub record HasRows (task : Task) (rows : List Row) (job : Job) : Type 0 where
   pub whole : Flags job.whole (codes "whole") rows
   pub json : Flags job.json (codes "json") rows
   pub class : Flags job.class (codes "class") rows
+  pub ipv6 : Flags job.ipv6 (codes "ipv6") rows
   pub digests : Flags job.digests (codes "digest") rows
   pub names : Flags job.names (codes "names") rows
   pub shares : Flags job.shares (codes "share-interfaces") rows

@@ -207,6 +207,11 @@ abbrev pub can_show : Task → Bool → Option ℕ → Bool
 can_show task json None = not json || is_printing task
 can_show task json (Some count) = json && is_listing task
 
+-- whether a task can read IPv6 packets, if that is asked for: `list` looks into no packet unless it says its class
+abbrev pub can_read_ipv6 : Task → Bool → Bool → Bool
+can_read_ipv6 tasks.List class ipv6 = class || not ipv6
+can_read_ipv6 _ class ipv6 = true
+
 -- the file that names the captures of a job, in place of its own files: one whose lines are verified, or a list of them
 abbrev pub names_file : Job → Option (List ℕ)
 names_file job = option_or (option_map (λ v. v.now) job.verify) (option_map (λ l. l.now) job.list)
@@ -223,7 +228,8 @@ pub record IsWholeJob (job : Job) : Type 0 where
   pub skipped : IsTrue (can_skip job.skips (map (λ f. f.now) job.files.items))
   pub in_unit : IsTrue (can_have_unit job.unit job.to)
 
--- A job's task can show what is asked for, and at most 262,144 bytes of each packet.
+-- A job's task can show what is asked for, at most 262,144 bytes of each packet, and can read what it is to read.
 pub record IsShownJob (job : Job) : Type 0 where
   pub shown : IsTrue (can_show job.task job.json job.data)
+  pub read : IsTrue (can_read_ipv6 job.task job.class job.ipv6)
   pub most : IfSome job.data (λ count. count ≤ 262144)

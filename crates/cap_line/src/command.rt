@@ -80,6 +80,14 @@ fn class<'a>(alloc: Global) -> Arg<'a>
     flag(alloc, "class", texts::CLASS_HELP)
 }
 
+// `--ipv6`
+fn ipv6<'a>(alloc: Global) -> Arg<'a>
+    ensures rule { rule_of result ≡ flag_rule (codes "ipv6") }
+    ensures local { result.global ≡ false }
+{
+    flag(alloc, "ipv6", texts::IPV6_HELP)
+}
+
 // `--digest`
 fn digests<'a>(alloc: Global) -> Arg<'a>
     ensures rule { rule_of result ≡ flag_rule (codes "digest") }
@@ -391,7 +399,7 @@ fn list<'a>(alloc: Global) -> Result<Command<'a>, AllocError>
     ensures local { IfOk result (λ c. (fields_of c).has_globals ≡ false) }
 {
     let before = timing(alloc, "list", texts::LIST_ABOUT, texts::LIST_HELP);
-    let classed = with_argument(before, class(alloc));
+    let classed = with_argument(with_argument(before, class(alloc)), ipv6(alloc));
     with_argument(with_argument(classed, data(alloc)), file(alloc))
 }
 
@@ -484,7 +492,8 @@ fn report<'a>(alloc: Global) -> Result<Command<'a>, AllocError>
     ensures local { IfOk result (λ c. (fields_of c).has_globals ≡ false) }
 {
     let before = timing(alloc, "report", texts::REPORT_ABOUT, texts::REPORT_HELP);
-    skipping(alloc, with_argument(before, top(alloc)))
+    let topped = with_argument(before, top(alloc));
+    skipping(alloc, with_argument(topped, ipv6(alloc)))
 }
 
 // `convert`

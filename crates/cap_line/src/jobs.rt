@@ -3,7 +3,8 @@ ghost use Rattle.std.specs.Prelude.{◌≡◌, map, count_by, codes, false, opti
 ghost use Rattle.std.specs.Char.{is_ascii_digit};
 ghost use Rattle.std.specs.List.{list_all, list_any};
 ghost use Rattle.std.specs.Str.{bytes_eq};
-ghost use Rattle.cap_line.specs.Jobs.{can_have_unit, can_replace, can_share, can_show, can_skip, can_verify, count_in};
+ghost use Rattle.cap_line.specs.Jobs.{can_have_unit, can_read_ipv6, can_replace, can_share, can_show, can_skip};
+ghost use Rattle.cap_line.specs.Jobs.{can_verify, count_in};
 ghost use Rattle.cap_line.specs.Jobs.{data_by, files_fault, format_by, ignored_by, inputs_fault, is_also_file};
 ghost use Rattle.cap_line.specs.Jobs.{is_digits, is_skipping, is_surveying, is_whole_task, most_files, number_in};
 ghost use Rattle.cap_line.specs.Jobs.{order_by, task_by, time_by, top_by, unit_by};
@@ -106,6 +107,8 @@ pub struct Job<'a> {
     pub ignored: Ignored,
     /// Whether each line of `List` says of which class its packet is, and why.
     pub class: bool,
+    /// Whether `Report` and the classes of `List` read IPv6 packets.
+    pub ipv6: bool,
     /// Whether each line of `Check` has the digest of its file's packets.
     pub digests: bool,
     /// Whether each line of `Digest` and `Check` names its file, also in text.
@@ -138,6 +141,7 @@ impl<'a> Job<'a> {
             top: self.top,
             ignored: self.ignored,
             class: self.class,
+            ipv6: self.ipv6,
             digests: self.digests,
             names: self.names,
             shares: self.shares,
@@ -339,6 +343,18 @@ pub fn can_show(task: Task, json: bool, count: Option<u32>) -> bool
         Task::List | Task::Diff => json || count.is_none(),
         Task::Blocks | Task::Digest | Task::Check | Task::Info | Task::Report => count.is_none(),
         Task::Convert | Task::Merge | Task::Join => !json && count.is_none(),
+    }
+}
+
+/// Whether a task can read IPv6 packets, if that is asked for: `list` looks into no packet unless it is to say of which
+/// class each is. No other task but `report` is asked for it.
+pub fn can_read_ipv6(task: Task, class: bool, ipv6: bool) -> bool
+    ensures { result ≡ can_read_ipv6 task class ipv6 }
+{
+    match task {
+        Task::List => class || !ipv6,
+        Task::Blocks | Task::Diff | Task::Digest | Task::Check | Task::Info | Task::Report => true,
+        Task::Convert | Task::Merge | Task::Join => true,
     }
 }
 

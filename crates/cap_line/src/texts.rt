@@ -28,6 +28,10 @@ standard error counts the IPv6, the ARP and the other packets of not-ipv4.
 With --top N, only the N conversations with the most bytes, both ways, have a
 talk line, the greatest first; of equal bytes, the one that began first. C
 counts all.
+With --ipv6, the conversations of IPv6 have lines too, the class not-ipv4 is
+not-ip, and link type 229 is looked into. An end of IPv6 is [2001:db8::1]:1000,
+or 2001:db8::1 without a port. Fragments of IPv6 aren't joined: each counts in
+unjoined.
 With --skip-refused, each capture that is refused is left out. The first lines
 say which, by their place I on the command line, and why:
   left out I offset O rule R NAME
@@ -75,6 +79,8 @@ With --class, one of these follows X, as report counts the packet by itself:
   class bad reason R       R names what is wrong with its headers
   class cut reason R       R names what wasn't captured
   class other-link, class not-ipv4, class short
+With --ipv6 too, IPv6 packets are of these classes, as of report --ipv6, and
+not-ipv4 is not-ip.
 
 Examples: capt list --allow-cut trace.pcap
           set -o pipefail; capt list --class trace.pcap | grep 'class bad'
@@ -228,6 +234,8 @@ pub(crate) const JSON_HELP: &str = "Print JSON Lines: the same facts, an object 
 pub(crate) const NAMES_HELP: &str = "Name each file at the end of its line";
 
 pub(crate) const CLASS_HELP: &str = "Say of which class each packet is, and why";
+
+pub(crate) const IPV6_HELP: &str = "Read IPv6 packets too";
 
 pub(crate) const DIGESTS_HELP: &str = "Print the SHA-256 of each capture's packets too";
 

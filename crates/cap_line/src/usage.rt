@@ -4,10 +4,11 @@
 pub const USAGE: &str = "Reads packet captures, pcap 2.4 and pcapng 1.0 and 1.2, reports on them,
 compares and checks them, and converts, merges and joins them.
 
-Usage: capt report [--allow-cut] [--json] [--time FORM] [--top N]
+Usage: capt report [--allow-cut] [--ipv6] [--json] [--time FORM] [--top N]
             [--skip-refused] FILE...
        capt info [--allow-cut] [--json] [--time FORM] [--skip-refused] FILE...
-       capt list [--allow-cut] [--class] [--json [--data N]] [--time FORM] FILE
+       capt list [--allow-cut] [--class [--ipv6]] [--json [--data N]]
+            [--time FORM] FILE
        capt blocks [--allow-cut] [--json] FILE
        capt diff [--allow-cut] [--ignore KIND]... [--json [--data N]]
             [--time FORM] A B
@@ -57,6 +58,7 @@ Options:
                  Of diff: let packets differ in KIND, which is time, link or
                  original
       --class    Of list: say of which class each packet is, and why
+      --ipv6     Of report, and of list with --class: read IPv6 packets too
       --digest   Of check: print the SHA-256 of the packets too
       --names    Of digest and check: name each file at the end of its line
       --files0-from LIST
@@ -106,6 +108,12 @@ For more information, try '--help'.
 // What is printed for `--top` with what isn't a number that it takes.
 pub(crate) const TOP_NUMBER: &str =
     "error: invalid value for '--top <N>': no number from 1 to 4294967295
+
+For more information, try '--help'.
+";
+
+// What is printed for `list --ipv6` without `--class`.
+pub(crate) const IPV6_ALONE: &str = "error: the argument '--ipv6' cannot be used without '--class'
 
 For more information, try '--help'.
 ";

@@ -1,25 +1,26 @@
 //! What the words of the command line ask for.
-ghost use Rattle.std.specs.Prelude.{◌≡◌, ◌≢◌, ◌⊎◌, ◌++◌, All, chars, string_bytes, IfSome, IsSome, ◌↔◌, map, codes};
+ghost use Rattle.std.specs.Prelude.{◌≡◌, ◌≢◌, ◌≤◌, ◌⊎◌, ◌++◌, All, chars, string_bytes, IfSome, IsSome, ◌↔◌, map};
+ghost use Rattle.std.specs.Prelude.{codes};
 ghost use Rattle.std.specs.Prelude.{option_map, IsTrue, IfErr, IfOk, OnOk, Some};
 ghost use Rattle.clap.specs.Values.{kind_of};
 ghost use Rattle.clap.specs.Words.{first_of, rows_of, found_of, subcommand_rows_of};
-ghost use Rattle.cap_line.specs.Jobs.{IsShownJob, IsWholeJob, ignored_by, inputs_fault};
+ghost use Rattle.cap_line.specs.Jobs.{IsShownJob, IsWholeJob, can_read_ipv6, can_show, ignored_by, inputs_fault};
 ghost use Rattle.cap_line.specs.CommandLine.{fault_by, files_in, names_in, IsJobBy, IsJobOf, IsNoJob, IsRefused};
-ghost use Rattle.cap_line.specs.CommandLine.{CannotVerify, Parses, names_file_in, out_in};
+ghost use Rattle.cap_line.specs.CommandLine.{CannotVerify, IsUnshown, Parses, data_in, names_file_in, out_in, top_in};
 ghost use Rattle.cap_line.specs.Shown.{IsSeenOrLine};
 
 use crate::command::capt;
 use crate::faults::LineFault;
 use crate::jobs::{
-    Ignored, Job, NOTHING_IGNORED, Task, can_have_unit, can_replace, can_share, can_show, can_skip,
-    can_verify, check_inputs, data_of, format_of, ignored_of, is_whole, order_of, task_of, time_of,
-    top_of, unit_of,
+    Ignored, Job, NOTHING_IGNORED, Task, can_have_unit, can_read_ipv6, can_replace, can_share,
+    can_show, can_skip, can_verify, check_inputs, data_of, format_of, ignored_of, is_whole,
+    order_of, task_of, time_of, top_of, unit_of,
 };
 use crate::shown::{escape, escape_lines};
 use crate::usage::{
-    DATA_ALONE, DATA_NUMBER, FILES_BESIDE_LIST, FILES_BESIDE_VERIFY, LIST_BESIDE_VERIFY,
-    NAMES_BESIDE_VERIFY, NO_FILES, SHARE_PCAP, TALKS_TIP, TOP_NUMBER, UNIT_PCAPNG, WHOLE_DASH,
-    WRITE_TIP,
+    DATA_ALONE, DATA_NUMBER, FILES_BESIDE_LIST, FILES_BESIDE_VERIFY, IPV6_ALONE,
+    LIST_BESIDE_VERIFY, NAMES_BESIDE_VERIFY, NO_FILES, SHARE_PCAP, TALKS_TIP, TOP_NUMBER,
+    UNIT_PCAPNG, WHOLE_DASH, WRITE_TIP,
 };
 use clap::error::ErrorKind;
 use clap::{ArgMatches, Error};
@@ -100,8 +101,8 @@ fn said_by<S: AsStr>(alloc: Global, error: Error, words: &[S]) -> Option<String>
 
 // What is wrong with a line that clap takes and that gives no job, by the matches of its subcommand: the text of
 // `--data` is no number, or is one without `--json`; that of `--top` is no number; a pcap file is to share interfaces;
-// a pcapng file is to have a unit; standard output can't take its name once all is done; `--verify` has beside it what
-// it can't have; there are files beside a list of them; or there is neither.
+// a pcapng file is to have a unit; standard output can't take its name once all is done; `--ipv6` is without `--class`;
+// `--verify` has beside it what it can't have; there are files beside a list of them; or there is neither.
 fn line_text(matches: &ArgMatches<'_>) -> &'static str {
     if let Some(text) = text_of(matches, "data") {
         return if data_of(Some(text)).is_ok() {
@@ -122,6 +123,9 @@ fn line_text(matches: &ArgMatches<'_>) -> &'static str {
     }
     if is_set(text_of(matches, "whole")) {
         return WHOLE_DASH;
+    }
+    if is_set(text_of(matches, "ipv6")) {
+        return IPV6_ALONE;
     }
     match (text_of(matches, "verify"), text_of(matches, "files0-from")) {
         (Some(_), Some(_)) => LIST_BESIDE_VERIFY,
@@ -219,6 +223,28 @@ fn check_named(task: Task, files: &[&str], matches: &ArgMatches<'_>) -> Result<(
     check_inputs(task, files, verify.or(list), text_of(matches, "out"))
 }
 
+// How many bytes of a packet and how many conversations are shown, if a task can show them and can read the packets.
+fn shown_of(
+    task: Task,
+    json: bool,
+    class: bool,
+    ipv6: bool,
+    matches: &ArgMatches<'_>,
+) -> Result<(Option<u32>, Option<u32>), LineFault>
+    ensures shown { IfOk result (λ shown. (data_in (rows_of (found_of matches.now)) ≡ Ok shown.0)
+        × (top_in (rows_of (found_of matches.now)) ≡ Ok shown.1) × IsTrue (can_show task json shown.0)
+        × IsTrue (can_read_ipv6 task class ipv6) × IfSome shown.0 (λ count. count ≤ 262144)) }
+    ensures refused { IfErr result (λ fault. (fault ≡ LineFault.Line)
+        × IsUnshown task json class ipv6 (rows_of (found_of matches.now))) }
+{
+    let data = data_of(text_of(matches, "data"))?;
+    let top = top_of(text_of(matches, "top"))?;
+    if !can_show(task, json, data) || !can_read_ipv6(task, class, ipv6) {
+        return Err(LineFault::Line);
+    }
+    Ok((data, top))
+}
+
 // The job of a subcommand's name and its matches, or what it is refused by.
 fn job_of<'a>(alloc: Global, name: &str, matches: &ArgMatches<'a>) -> Result<Job<'a>, LineFault>
     ensures { IsJobBy name.now (rows_of (found_of matches.now)) result }
@@ -241,11 +267,9 @@ fn job_of<'a>(alloc: Global, name: &str, matches: &ArgMatches<'a>) -> Result<Job
     if !can_have_unit(unit, to) {
         return Err(LineFault::Line);
     }
-    let data = data_of(text_of(matches, "data"))?;
-    let top = top_of(text_of(matches, "top"))?;
-    if !can_show(task, json, data) {
-        return Err(LineFault::Line);
-    }
+    let class = is_set(text_of(matches, "class"));
+    let ipv6 = is_set(text_of(matches, "ipv6"));
+    let (data, top) = shown_of(task, json, class, ipv6, matches)?;
     check_named(task, files.as_slice(), matches)?;
     let skips = is_set(text_of(matches, "skip-refused"));
     if !can_skip(skips, files.as_slice()) {
@@ -268,7 +292,8 @@ fn job_of<'a>(alloc: Global, name: &str, matches: &ArgMatches<'a>) -> Result<Job
         time: time_of(text_of(matches, "time")),
         top,
         ignored: ignored_in(matches),
-        class: is_set(text_of(matches, "class")),
+        class,
+        ipv6,
         digests: is_set(text_of(matches, "digest")),
         names: is_set(text_of(matches, "names")),
         shares,

@@ -2,8 +2,8 @@
 use crate::checks::same;
 use cap_bytes::Order;
 use cap_line::{
-    Ignored, LineFault, Task, can_have_unit, can_replace, can_share, can_show, can_skip,
-    can_verify, check_files, check_inputs, data_of, files_limit, format_of, ignored_of,
+    Ignored, LineFault, Task, can_have_unit, can_read_ipv6, can_replace, can_share, can_show,
+    can_skip, can_verify, check_files, check_inputs, data_of, files_limit, format_of, ignored_of,
     is_skipping, is_surveying, is_whole, number_of, order_of, standard_inputs, task_of, time_of,
     top_of, unescape, unit_of,
 };
@@ -411,6 +411,18 @@ fn digest_and_check_take_any_number_of_files(rt: HostRuntime) {
         }
     }
     same!(&rt; standard_inputs(&["-", "a", "./-", "-"]), 2, "dashes");
+}
+
+// Which tasks can read IPv6 packets: `list` where it says the class of each.
+#[test]
+fn list_reads_ipv6_for_its_classes(rt: HostRuntime) {
+    for (name, task) in &TASKS {
+        if let Some(task) = task {
+            same!(&rt; can_read_ipv6(*task, false, true), *name != "list", *name);
+            same!(&rt; can_read_ipv6(*task, true, true), true, *name);
+            same!(&rt; can_read_ipv6(*task, false, false), true, *name);
+        }
+    }
 }
 
 // Which tasks leave out files that are refused, if that is asked for; standard input can't be read twice.

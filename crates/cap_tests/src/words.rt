@@ -60,6 +60,19 @@ fn always_memory_captures_are_left_out(rt: HostRuntime) {
     same!(&rt; parse(rt.alloc(), standard.as_slice()).err(), Some(LineFault::Input));
 }
 
+// What is read of a line that asks for IPv6, and what isn't a job of it.
+#[test]
+fn always_memory_ipv6_is_asked_for(rt: HostRuntime) {
+    let words = ["capt", "list", "--class", "--ipv6", "a.pcap"];
+    match parse(rt.alloc(), words.as_slice()) {
+        Ok(job) => same!(&rt; (job.task, job.class, job.ipv6), (Task::List, true, true)),
+        Err(fault) => panic!(&rt; "{fault}"),
+    }
+    let alone = ["capt", "list", "--ipv6", "a.pcap"];
+    same!(&rt; parse(rt.alloc(), alone.as_slice()).err(), Some(LineFault::Line));
+    holds!(&rt; message(rt.alloc(), alone.as_slice()).is_some());
+}
+
 // What is read of a line that asks for a unit, and what isn't a job of it.
 #[test]
 fn always_memory_a_unit_is_asked_for(rt: HostRuntime) {

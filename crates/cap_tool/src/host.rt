@@ -180,7 +180,7 @@ fn tell_networks(
     faults: &mut Tracked<Stderr>,
 ) {
     if let Some(job) = job {
-        let line = network_line(form_of(job.json, job.time), outcome, left);
+        let line = network_line(job.ipv6, form_of(job.json, job.time), outcome, left);
         // a standard error that fails doesn't change how the run ends
         let _ = put_all(faults, line.as_slice());
     }

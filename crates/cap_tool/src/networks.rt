@@ -1,11 +1,11 @@
-//! The line that tells the networks of the packets that a report counts as `not-ipv4`.
+//! The line that tells the networks of the packets that a report counts as `not-ipv4`, or as `not-ip`.
 ghost use Rattle.std.specs.Prelude.{◌≡◌, ◌+◌, ◌*◌, ◌^◌, ◌≤◌, ◌++◌};
 ghost use Rattle.cap_print.specs.Lines.{room_in, text_in};
 ghost use Rattle.cap_print.specs.declared.forms.Form.{Form};
 ghost use Rattle.cap_print.specs.declared.forms.TimeForm.{TimeForm};
 ghost use Rattle.cap_talks.specs.table.OtherNetworks.{sum_of_networks};
-ghost use Rattle.cap_tool.specs.NetworkLine.{networks_in, networks_line, networks_line_if, networks_text};
-ghost use Rattle.cap_tool.specs.NetworkLine.{networks_told};
+ghost use Rattle.cap_tool.specs.NetworkLine.{class_head, class_name, networks_in, networks_line, networks_line_if};
+ghost use Rattle.cap_tool.specs.NetworkLine.{networks_text, networks_told, unread_networks};
 
 use crate::left_out::prepend_class;
 use crate::outcomes::Outcome;
@@ -26,26 +26,65 @@ fn prepend_networks(line: &mut Line, counts: &OtherCounts)
     prepend_class(line, 0, b"ipv6 ", counts.ipv6);
 }
 
-// `not-ipv4: ipv6 24745, arp 12, other 3`
-fn networks_text(counts: OtherCounts) -> Line
-    ensures { text_in result ≡ networks_in (Form.Text TimeForm.Exact) counts }
+// The networks of the packets of the class: where IPv6 packets are read, it has none of them.
+fn unread_networks(reads_ipv6: bool, counts: OtherCounts) -> OtherCounts
+    ensures { result ≡ unread_networks reads_ipv6 counts }
+{
+    if reads_ipv6 {
+        OtherCounts {
+            ipv6: 0,
+            arp: counts.arp,
+            other: counts.other,
+        }
+    } else {
+        counts
+    }
+}
+
+// Puts what the class is called.
+fn prepend_name(line: &mut Line, reads_ipv6: bool)
+    requires { 120 ≤ room_in line.old }
+    ensures { text_in line.new ≡ class_name reads_ipv6 ++ text_in line.old }
+{
+    if reads_ipv6 {
+        line.prepend_text(b"not-ip");
+    } else {
+        line.prepend_text(b"not-ipv4");
+    }
+}
+
+// `not-ipv4: ipv6 24745, arp 12, other 3`, or `not-ip: arp 12, other 3`
+fn networks_text(reads_ipv6: bool, counts: OtherCounts) -> Line
+    ensures { text_in result ≡ networks_in reads_ipv6 (Form.Text TimeForm.Exact) counts }
 {
     let mut line = Line::new();
     line.prepend_text(b"\n");
-    prepend_networks(&mut line, &counts);
-    line.prepend_text(b"not-ipv4");
+    prepend_networks(&mut line, &unread_networks(reads_ipv6, counts));
+    prepend_name(&mut line, reads_ipv6);
     line
 }
 
-// `{"type":"not_ipv4","ipv6":24745,"arp":12,"other":3}`
-fn networks_object(counts: OtherCounts) -> Line
-    ensures { text_in result ≡ networks_in (Form.Json TimeForm.Exact) counts }
+// Puts the beginning of the object.
+fn prepend_head(line: &mut Line, reads_ipv6: bool, counts: &OtherCounts)
+    requires { 120 ≤ room_in line.old }
+    ensures { text_in line.new ≡ class_head reads_ipv6 counts.now ++ text_in line.old }
+{
+    if reads_ipv6 {
+        line.prepend_text(b"{\"type\":\"not_ip\"");
+    } else {
+        line.prepend_field(b"{\"type\":\"not_ipv4\",\"ipv6\":", counts.ipv6);
+    }
+}
+
+// `{"type":"not_ipv4","ipv6":24745,"arp":12,"other":3}`, or `{"type":"not_ip","arp":12,"other":3}`
+fn networks_object(reads_ipv6: bool, counts: OtherCounts) -> Line
+    ensures { text_in result ≡ networks_in reads_ipv6 (Form.Json TimeForm.Exact) counts }
 {
     let mut line = Line::new();
     line.prepend_text(b"}\n");
     line.prepend_field(b",\"other\":", counts.other);
     line.prepend_field(b",\"arp\":", counts.arp);
-    line.prepend_field(b"{\"type\":\"not_ipv4\",\"ipv6\":", counts.ipv6);
+    prepend_head(&mut line, reads_ipv6, &counts);
     line
 }
 
@@ -57,37 +96,39 @@ fn sum_of_networks(counts: OtherCounts) -> u128
 }
 
 // The line in a form, if there is such a packet.
-fn networks_line(form: Form, counts: OtherCounts) -> Line
-    ensures { text_in result ≡ networks_line form counts }
+fn networks_line(reads_ipv6: bool, form: Form, counts: OtherCounts) -> Line
+    ensures { text_in result ≡ networks_line reads_ipv6 form counts }
 {
-    if sum_of_networks(counts) == 0 {
+    if sum_of_networks(unread_networks(reads_ipv6, counts)) == 0 {
         return Line::new();
     }
     match form {
-        Form::Text(_) => networks_text(counts),
-        Form::Json(_) => networks_object(counts),
+        Form::Text(_) => networks_text(reads_ipv6, counts),
+        Form::Json(_) => networks_object(reads_ipv6, counts),
     }
 }
 
 // The line in a form, if packets were counted.
-fn counted_line(form: Form, counts: Option<OtherCounts>) -> Line
-    ensures { text_in result ≡ networks_line_if form counts }
+fn counted_line(reads_ipv6: bool, form: Form, counts: Option<OtherCounts>) -> Line
+    ensures { text_in result ≡ networks_line_if reads_ipv6 form counts }
 {
     match counts {
-        Some(counts) => networks_line(form, counts),
+        Some(counts) => networks_line(reads_ipv6, form, counts),
         None => Line::new(),
     }
 }
 
 /// The line that tells after a run that is done of which networks the packets are that `report` counts as `not-ipv4`:
 /// in text `not-ipv4: ipv6 24745, arp 12, other 3`, without the networks that no packet is of, and in JSON an object of
-/// all three (RFC 8259), `{"type":"not_ipv4","ipv6":24745,"arp":12,"other":3}`. There is no line if there is no such
-/// packet, nor after any other run than one that is done, with or without files that were left out.
-pub fn network_line(form: Form, outcome: &Outcome, left: &DroppedInfo) -> Line
-    ensures { text_in result ≡ networks_told form outcome.now left.now }
+/// all three (RFC 8259), `{"type":"not_ipv4","ipv6":24745,"arp":12,"other":3}`. Where IPv6 packets are read, the class
+/// is `not-ip`, and has none of them: `not-ip: arp 12, other 3` and `{"type":"not_ip","arp":12,"other":3}`. There is no
+/// line if there is no such packet, nor after any other run than one that is done, with or without files that were left
+/// out.
+pub fn network_line(reads_ipv6: bool, form: Form, outcome: &Outcome, left: &DroppedInfo) -> Line
+    ensures { text_in result ≡ networks_told reads_ipv6 form outcome.now left.now }
 {
     match outcome {
-        Outcome::Done | Outcome::NotWhole => counted_line(form, left.not_ipv4),
+        Outcome::Done | Outcome::NotWhole => counted_line(reads_ipv6, form, left.not_ipv4),
         Outcome::Differ
         | Outcome::Line(_)
         | Outcome::Fault(_)

@@ -249,18 +249,56 @@ const TOLD_OF_NETWORKS: [(Outcome, [u64; 3], [&str; 2]); 6] = [
 ];
 
 // What is printed of the packets of networks other than IPv4 in a form.
-fn tells_networks(rt: &impl Abort, form: Form, outcome: &Outcome, numbers: [u64; 3], text: &str) {
+fn tells_networks(
+    rt: &impl Abort,
+    reads_ipv6: bool,
+    form: Form,
+    outcome: &Outcome,
+    numbers: [u64; 3],
+    text: &str,
+) {
     let [ipv6, arp, other] = numbers;
     let mut left = NOTHING_LEFT;
     left.not_ipv4 = Some(OtherCounts { ipv6, arp, other });
-    let line = network_line(form, outcome, &left);
+    let line = network_line(reads_ipv6, form, outcome, &left);
     assert_eq!(rt; line.as_slice(), text.as_bytes());
 }
 
 #[test]
 fn networks_other_than_ipv4_are_told(rt: HostRuntime) {
     for (outcome, numbers, [text, object]) in &TOLD_OF_NETWORKS {
-        tells_networks(&rt, Form::Text(TimeForm::Exact), outcome, *numbers, *text);
-        tells_networks(&rt, Form::Json(TimeForm::Exact), outcome, *numbers, *object);
+        let (as_text, as_object) = (Form::Text(TimeForm::Exact), Form::Json(TimeForm::Exact));
+        tells_networks(&rt, false, as_text, outcome, *numbers, *text);
+        tells_networks(&rt, false, as_object, outcome, *numbers, *object);
+    }
+}
+
+// The same of a report that reads IPv6 packets.
+static TOLD_BESIDE_IPV6: [(Outcome, [u64; 3], [&str; 2]); 3] = [
+    (Outcome::Done, [9, 0, 0], ["", ""]),
+    (
+        Outcome::Done,
+        [9, 1, 0],
+        [
+            "not-ip: arp 1\n",
+            "{\"type\":\"not_ip\",\"arp\":1,\"other\":0}\n",
+        ],
+    ),
+    (
+        Outcome::NotWhole,
+        [0, 2, 7],
+        [
+            "not-ip: arp 2, other 7\n",
+            "{\"type\":\"not_ip\",\"arp\":2,\"other\":7}\n",
+        ],
+    ),
+];
+
+#[test]
+fn networks_other_than_ip_are_told(rt: HostRuntime) {
+    for (outcome, numbers, [text, object]) in &TOLD_BESIDE_IPV6 {
+        let (as_text, as_object) = (Form::Text(TimeForm::Exact), Form::Json(TimeForm::Exact));
+        tells_networks(&rt, true, as_text, outcome, *numbers, *text);
+        tells_networks(&rt, true, as_object, outcome, *numbers, *object);
     }
 }

@@ -218,6 +218,7 @@ fn printing(rt: &impl Abort, alloc: Global, task: Task, allow_cut: bool) -> Job<
         list: None,
         verify: None,
         class: false,
+        ipv6: false,
         digests: false,
         names: false,
         shares: false,
@@ -247,6 +248,38 @@ fn a_job_lists_the_class_of_each_packet(rt: HostRuntime) {
     let answer = does(&rt, alloc, &job, &[CARRY_PCAP], &mut writer);
     let wanted = (Ok(Finding::Nothing), CLASSED_LINE.as_bytes());
     same!(&rt; (answer, writer.bytes()), wanted);
+}
+
+// A datagram of UDP over IPv6, without a link header.
+const IPV6_PCAP: &str =
+    "d4c3b2a1020004000000000000000000000004006500000001000000000000003000000030000000\
+    600000000008114020010db800000000000000000000000120010db800000000000000000000000203e807d0000898b1";
+
+const IPV6_LINE: &str = "packet 1 offset 24 time 1+0/1000000 captured 48 original 48 link 101 \
+    data 600000000008114020010db800000000 class counted udp [2001:db8::1]:1000 [2001:db8::2]:2000\n";
+
+const IPV6_REPORT: &str = "files 1\n\
+    file 1 pcap packets 1 bytes 48 truncated 0 skipped 0 first 1+0/1000000 last 1+0/1000000\n\
+    total packets 1 bytes 48 truncated 0\n\
+    frames other-link 0 not-ip 0 short 0 cut 0 bad 0 unjoined 0 counted 1\n\
+    joined 0 given-up 0\n\
+    talks 1\n\
+    talk udp [2001:db8::1]:1000 [2001:db8::2]:2000 forward 1 48 backward 0 0 first 1+0/1000000 last 1+0/1000000\n";
+
+// What a job prints of that datagram that reads IPv6 packets.
+fn reads_ipv6(rt: &impl Abort, alloc: Global, task: Task, text: &str) {
+    let mut job = printing(rt, alloc, task, false);
+    job.class = true;
+    job.ipv6 = true;
+    let mut writer = room_of(rt, alloc, 1024);
+    let answer = does(rt, alloc, &job, &[IPV6_PCAP], &mut writer);
+    same!(rt; (answer, writer.bytes()), (Ok(Finding::Nothing), text.as_bytes()), task);
+}
+
+#[test]
+fn jobs_read_ipv6(rt: HostRuntime) {
+    reads_ipv6(&rt, rt.alloc(), Task::List, IPV6_LINE);
+    reads_ipv6(&rt, rt.alloc(), Task::Report, IPV6_REPORT);
 }
 
 // What a job of two captures finds: a task, and whether its lines have a digest.
@@ -337,6 +370,7 @@ fn writes(rt: &impl Abort, alloc: Global, row: &Written) {
         list: None,
         verify: None,
         class: false,
+        ipv6: false,
         digests: false,
         names: false,
         shares: false,

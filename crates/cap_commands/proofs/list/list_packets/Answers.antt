@@ -15,7 +15,8 @@ pub returns-in_err-peek-clause-text : goal.returns-in_err-peek-clause-text
 returns-in_err-peek-clause-text g c = λ t w.
     let p = err_from_is_err_and c.from_residual.result c.from_residual.ensures.1 in
     let i = c.loop-feed.invariant.walk in
-    let line = packet_line_by c.args.classed c.args.form c.args.most in
+    let line = packet_line_by c.args.options.class c.args.options.ipv6 c.args.options.form
+    c.args.options.most in
     let n = c.loop-feed.number in
     let mid = g.F.PacketFeed.feed c.loop-feed.feed in
     let shown = g.F.PacketFeed.feed c.peek.new.self in
@@ -38,7 +39,8 @@ returns-in_err-put_packet-clause-text g c = λ t w.
     let shows : ShowsItem mid (Ok (Some meta)) shown =
     found-item mid shown meta (g.met.F.PacketFeed.lawful c.peek.new.self) (e.keeps.told (i.told t))
     (e.items (i.told t)) c.packet-packet.ensures.packet in
-    let line = packet_line_by c.args.classed c.args.form c.args.most in
+    let line = packet_line_by c.args.options.class c.args.options.ipv6 c.args.options.form
+    c.args.options.most in
     let written = line n meta c.frame.result.now in
     let written_is : written ≡ line n meta shown.frame = ap (line n meta) c.frame.ensures.frame in
     let behind = list_lines line (n + 1) (drop 1 mid.items) in
@@ -59,7 +61,8 @@ loop-feed-preserved g c =
     let meta = c.packet-packet.result.now in
     let f = c.in_ok-peek.ensures in
     let e = c.in_ok-put_packet.ensures in
-    let line = packet_line_by c.args.classed c.args.form c.args.most in
+    let line = packet_line_by c.args.options.class c.args.options.ipv6 c.args.options.form
+    c.args.options.most in
     let written = line n meta c.frame.result.now in
     let written_is : written ≡ line n meta shown.frame = ap (line n meta) c.frame.ensures.frame in
     let gives : GivesPacket mid (Ok (Some meta)) shown =
@@ -88,7 +91,8 @@ returns-clause-text g c = λ t w.
     let mid = g.F.PacketFeed.feed c.loop-feed.feed in
     let shown = g.F.PacketFeed.feed c.peek.new.self in
     let e = c.in_ok-peek.ensures in
-    let line = packet_line_by c.args.classed c.args.form c.args.most in
+    let line = packet_line_by c.args.options.class c.args.options.ipv6 c.args.options.form
+    c.args.options.most in
     Prints-end (plan_of line n) _ _ _ _ mid shown (plan_of-is line n) (i.text t) w (i.refusal_same t)
     (found-end mid shown (g.met.F.PacketFeed.lawful c.peek.new.self) (e.keeps.told (i.told t))
     (e.items (i.told t)) (rw c.if-branch.false at e.answer))

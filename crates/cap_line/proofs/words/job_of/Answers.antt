@@ -31,6 +31,7 @@ returns c =
         whole = grind (arith, common_steps);
         json = grind (arith, common_steps);
         class = grind (arith, common_steps);
+        ipv6 = grind (arith, common_steps);
         digests = grind (arith, common_steps);
         names = grind (arith, common_steps);
         shares = grind (arith, common_steps);
