@@ -3,7 +3,7 @@
 # was proved.
 #
 # Use: ./build.sh           (the program)
-#      ./build.sh lib       (the library for C instead: lib/ has libcapt.a, libcapt.so, capt.h and capt.pc)
+#      ./build.sh lib       (the library for C instead: lib/ has libcapt.a, libcapt.so, capt.h, capt_file.h and capt.pc)
 #
 # Each crate is proved by one `rattle build`, over the statements of those below it, once they are built: as many crates at once as
 # there are processors, and a crate by more processes than one if fewer crates can be proved than processors are idle. What `rt ci`

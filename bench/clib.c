@@ -41,7 +41,7 @@ static int by_capt(const char *name, int many, uint64_t *packets, uint64_t *byte
     int file = open(name, O_RDONLY);
     if (file < 0 || fstat(file, &of)) return 1;
     const uint8_t *at = mmap(NULL, (size_t)of.st_size, PROT_READ, MAP_PRIVATE, file, 0);
-    if (at == MAP_FAILED || capt_open(&reader, at, (size_t)of.st_size, false) != CAPT_DONE) return 1;
+    if (at == MAP_FAILED || capt_open(&reader, at, (size_t)of.st_size, 0) != CAPT_DONE) return 1;
     if (many) {
         while ((status = capt_next_many(&reader, some, 256, &count, &place)) == CAPT_PACKET)
             for (size_t i = 0; i < count; i++) add(&some[i], packets, bytes);

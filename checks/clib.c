@@ -1,5 +1,8 @@
-/* A C program over libcapt, for clib.py. It prints what `capt list` prints of a file, by capt_next (`next`), by capt_next_many
- * (`many`), of standard input (`stdin`), or of bytes that are fed, N at a time (`fed N`), what `capt report` prints, step by step (`table`), misuses the library in each way that the header names (`misuse`), and measures what a reader that is fed holds (`memory`), and how much stack the calls take (`stack`). */
+/* A C program over libcapt, for clib.py. It prints what `capt list` prints of a file, by capt_next (`next`), by
+ * capt_next_many (`many`), of standard input (`stdin`), or of bytes that are fed, N at a time (`fed N`), what `capt report`
+ * prints, step by step (`table`, also with `--ipv6`), misuses the library in each way that the header names (`misuse`, and
+ * `flags` for the flags), compares the version's forms (`version`), and measures what a reader that is fed holds
+ * (`memory`), and how much stack the calls take (`stack`). */
 #define _GNU_SOURCE
 #include <capt.h>
 #include <inttypes.h>
@@ -106,14 +109,14 @@ static uint32_t next_fed(capt_reader *reader, capt_bytes *rest, size_t size, cap
     return status;
 }
 
-static int list_fed(capt_bytes rest, size_t size, bool allow_cut) {
+static int list_fed(capt_bytes rest, size_t size, uint32_t flags) {
     capt_reader reader = {0};
     capt_packet packet;
     capt_place place = {0, 0, 0}, again;
     capt_ending ending;
     size_t count;
     uint64_t number = 0;
-    uint32_t status = capt_open_fed(&reader, allow_cut);
+    uint32_t status = capt_open_fed(&reader, flags);
     if (status != CAPT_DONE) return told(status, place);
     while ((status = next_fed(&reader, &rest, size, &packet, &place)) == CAPT_PACKET) print_packet(++number, &packet);
     int code = told(status, place);
@@ -166,11 +169,11 @@ static int fed_memory(void) {
     size_t before = held();
     uint8_t *piece = records(MANY);
     size_t with = held();
-    if (capt_open(&reader, piece, 24 + MANY * 100, false) != CAPT_DONE || read_out(&reader, CAPT_DONE) != MANY) return 45;
+    if (capt_open(&reader, piece, 24 + MANY * 100, 0) != CAPT_DONE || read_out(&reader, CAPT_DONE) != MANY) return 45;
     if (held() - with > MIB) return 46;
     capt_close(&reader);
     /* all but half of the last record */
-    if (capt_open_fed(&reader, false) != CAPT_DONE || capt_feed(&reader, piece, 24 + MANY * 100 - 50) != CAPT_DONE) return 31;
+    if (capt_open_fed(&reader, 0) != CAPT_DONE || capt_feed(&reader, piece, 24 + MANY * 100 - 50) != CAPT_DONE) return 31;
     if (held() - before < 200 * (size_t)MIB * 9 / 10) return 32;
     free(piece);
     if (read_out(&reader, CAPT_MORE) != MANY - 1 || held() - before > 2 * MIB) return 33;
@@ -181,7 +184,7 @@ static int fed_memory(void) {
     capt_close(&reader);
     /* a backlog, and a record more after each that is read */
     piece = records(SOME);
-    if (capt_open_fed(&reader, false) != CAPT_DONE || capt_feed(&reader, piece, 24 + SOME * 100) != CAPT_DONE) return 36;
+    if (capt_open_fed(&reader, 0) != CAPT_DONE || capt_feed(&reader, piece, 24 + SOME * 100) != CAPT_DONE) return 36;
     for (size_t i = 0; i < 2 * SOME; i++) {
         if (capt_next(&reader, &packet, &place) != CAPT_PACKET || capt_feed(&reader, piece + 24, 100) != CAPT_DONE) return 37;
         if (held() - before > (SOME * 100 + 24) * (size_t)6) return 38;
@@ -191,7 +194,7 @@ static int fed_memory(void) {
     capt_close(&reader);
     /* a reader that refuses */
     static uint8_t zeros[16384];
-    if (capt_open_fed(&reader, false) != CAPT_DONE || capt_feed(&reader, zeros, sizeof zeros) != CAPT_DONE) return 40;
+    if (capt_open_fed(&reader, 0) != CAPT_DONE || capt_feed(&reader, zeros, sizeof zeros) != CAPT_DONE) return 40;
     if (read_out(&reader, CAPT_REFUSED) != 0) return 41;
     for (int i = 0; i < 10000; i++)
         if (capt_feed(&reader, zeros, sizeof zeros) != CAPT_DONE) return 42;
@@ -201,11 +204,11 @@ static int fed_memory(void) {
 }
 
 /* The report of a file, step by step, with one after each step that can be written. */
-static int report(capt_bytes file, bool allow_cut) {
+static int report(capt_bytes file, uint32_t flags) {
     capt_table table = {0};
     capt_text text = {0};
     capt_place place = {0, 0, 0}, again;
-    uint32_t status = capt_table_open(&table, &file, 1, allow_cut);
+    uint32_t status = capt_table_open(&table, &file, 1, flags);
     if (status != CAPT_DONE) return told(status, place);
     do {
         uint32_t written = capt_table_write(&table, &text, &again);
@@ -222,6 +225,80 @@ static int report(capt_bytes file, bool allow_cut) {
     return capt_table_step(&table, &again) == CAPT_MISUSE && capt_table_write(&table, &text, &again) == CAPT_MISUSE ? told(status, place) : 8;
 }
 
+typedef uint32_t call_of_one(const uint8_t *, size_t, uint32_t, capt_text *, capt_place *);
+typedef uint32_t call_of_files(const capt_bytes *, size_t, uint32_t, capt_text *, capt_place *);
+typedef uint32_t opening(capt_reader *, capt_bytes *, uint32_t);
+
+static uint32_t open_bytes(capt_reader *reader, capt_bytes *file, uint32_t flags) { return capt_open(reader, file->at, file->len, flags); }
+static uint32_t open_stdin(capt_reader *reader, capt_bytes *file, uint32_t flags) { return (void)file, capt_open_stdin(reader, flags); }
+static uint32_t open_fed(capt_reader *reader, capt_bytes *file, uint32_t flags) { return (void)file, capt_open_fed(reader, flags); }
+static uint32_t open_table(capt_reader *reader, capt_bytes *file, uint32_t flags) { return capt_table_open(reader, file, 1, flags); }
+
+/* A call that makes a text takes these flags and no others; a text that is there stays if it doesn't. */
+static int text_flags(call_of_one *one, call_of_files *many, capt_bytes file, uint32_t flags, bool takes) {
+    capt_text text = {0}, text_before;
+    capt_place place = {1, 2, 3}, place_before;
+    if (capt_info(&file, 1, 0, &text, &place) != CAPT_DONE) return 60;
+    memcpy(&text_before, &text, sizeof text);
+    memcpy(&place_before, &place, sizeof place);
+    uint32_t status = one ? one(file.at, file.len, flags, &text, &place) : many(&file, 1, flags, &text, &place);
+    bool is_same = !memcmp(&text, &text_before, sizeof text) && !memcmp(&place, &place_before, sizeof place);
+    bool is_misused = status == CAPT_MISUSE && is_same && text.len > 8 && !memcmp(text.at, "files 1\n", 8);
+    capt_text_close(&text);
+    return takes ? (status == CAPT_MISUSE ? 61 : 0) : (is_misused ? 0 : 62);
+}
+
+/* A call that opens a handle takes these flags and no others; a reader that is there goes on if it doesn't. */
+static int open_flags(opening *call, capt_bytes file, uint32_t flags, bool takes) {
+    capt_reader reader = {0}, before;
+    capt_packet packet;
+    capt_place place;
+    if (capt_open(&reader, file.at, file.len, 0) != CAPT_DONE || capt_next(&reader, &packet, &place) != CAPT_PACKET) return 63;
+    uint64_t first = packet.offset;
+    memcpy(&before, &reader, sizeof reader);
+    uint32_t status = call(&reader, &file, flags);
+    bool is_same = !memcmp(&reader, &before, sizeof reader);
+    bool is_misused = status == CAPT_MISUSE && is_same && capt_next(&reader, &packet, &place) == CAPT_PACKET && packet.offset > first;
+    capt_close(&reader);
+    return takes ? (status == CAPT_DONE ? 0 : 64) : (is_misused ? 0 : 65);
+}
+
+/* Each call takes the flags that the header lists for it, and refuses each other bit, by itself and beside those. */
+static int flags_refused(const char *name) {
+    const uint32_t cut = CAPT_ALLOW_CUT, form = CAPT_ALLOW_CUT | CAPT_BIG | CAPT_TO_PCAP, report = CAPT_ALLOW_CUT | CAPT_IPV6;
+    struct { call_of_one *one; call_of_files *many; uint32_t takes; } texts[] = {
+        {capt_list, NULL, cut}, {capt_blocks, NULL, cut}, {NULL, capt_info, cut}, {NULL, capt_report, report},
+        {capt_convert, NULL, form}, {NULL, capt_merge, form}, {NULL, capt_join, form}};
+    struct { opening *call; uint32_t takes; } opens[] = {{open_bytes, cut}, {open_stdin, cut}, {open_fed, cut}, {open_table, report}};
+    capt_bytes file = bytes_of(name);
+    int code = 0;
+    for (int bit = 0; bit < 32 && !code; bit++) {
+        uint32_t flag = (uint32_t)1 << bit;
+        for (size_t i = 0; i < sizeof texts / sizeof *texts && !code; i++) {
+            bool takes = texts[i].takes & flag;
+            code = text_flags(texts[i].one, texts[i].many, file, flag, takes);
+            if (!code) code = text_flags(texts[i].one, texts[i].many, file, flag | texts[i].takes, takes);
+        }
+        for (size_t i = 0; i < sizeof opens / sizeof *opens && !code; i++) {
+            bool takes = opens[i].takes & flag;
+            code = open_flags(opens[i].call, file, flag, takes);
+            if (!code) code = open_flags(opens[i].call, file, flag | opens[i].takes, takes);
+        }
+    }
+    free((void *)file.at);
+    return code;
+}
+
+/* The version as a number is that of the header, and has the parts of the text. */
+static int version(void) {
+    char text[16] = "", again[16];
+    uint32_t number = capt_version_number();
+    size_t len = capt_version((uint8_t *)text, sizeof text - 1);
+    if (len >= sizeof text || number != CAPT_VERSION_NUMBER) return 66;
+    snprintf(again, sizeof again, "%" PRIu32 ".%" PRIu32 ".%" PRIu32, number / 10000, number / 100 % 100, number % 100);
+    return strcmp(text, again) ? 67 : 0;
+}
+
 static int misuse(const char *name) {
     capt_reader reader = {0};
     capt_text text = {0};
@@ -235,33 +312,30 @@ static int misuse(const char *name) {
     for (int i = 1; i < 33; i++) files[i] = files[0];
     if (capt_next(&reader, &packet, &place) != CAPT_MISUSE || capt_next_many(&reader, &packet, 1, &count, &place) != CAPT_MISUSE) return 1;
     if (capt_end(&reader, &ending) != CAPT_MISUSE) return 2;
-    uint32_t (*calls[])(const capt_bytes *, size_t, bool, capt_text *, capt_place *) = {capt_info, capt_report};
-    uint32_t (*writers[])(const capt_bytes *, size_t, bool, bool, capt_text *, capt_place *) = {capt_merge, capt_join};
-    for (int i = 0; i < 2; i++) {
-        if (calls[i](files, 0, false, &text, &place) != CAPT_MISUSE || calls[i](files, 33, false, &text, &place) != CAPT_MISUSE) return 3;
-        if (writers[i](files, 0, false, false, &text, &place) != CAPT_MISUSE) return 4;
-        if (writers[i](files, 33, false, false, &text, &place) != CAPT_MISUSE) return 5;
+    call_of_files *calls[] = {capt_info, capt_report, capt_merge, capt_join};
+    for (int i = 0; i < 4; i++) {
+        if (calls[i](files, 0, 0, &text, &place) != CAPT_MISUSE || calls[i](files, 33, 0, &text, &place) != CAPT_MISUSE) return 3;
         if (memcmp(&place, &same, sizeof place) || text.len != 0) return 6;
     }
     capt_table table = {0};
-    if (capt_table_open(&table, files, 0, false) != CAPT_MISUSE || capt_table_open(&table, files, 33, false) != CAPT_MISUSE) return 16;
-    if (capt_table_open(&table, files, 32, false) != CAPT_DONE) return 17;
+    if (capt_table_open(&table, files, 0, 0) != CAPT_MISUSE || capt_table_open(&table, files, 33, 0) != CAPT_MISUSE) return 16;
+    if (capt_table_open(&table, files, 32, 0) != CAPT_DONE) return 17;
     /* a table is no capture that is read, nor is a text */
     if (capt_next(&table, &packet, &place) != CAPT_MISUSE || capt_end(&table, &ending) != CAPT_MISUSE) return 18;
     if (capt_table_step(&table, &place) != CAPT_PACKET) return 19;
     capt_close(&table);
     place = same;
-    if (capt_report(files, 32, false, &text, &place) != CAPT_DONE || text.len == 0) return 7;
+    if (capt_report(files, 32, 0, &text, &place) != CAPT_DONE || text.len == 0) return 7;
     if (capt_next(&text.handle, &packet, &place) != CAPT_MISUSE) return 8;
     capt_text_close(&text);
     capt_text_close(&text);
     if (text.len != 0 || text.at) return 9;
     /* room for no packet, and a reader that is opened again and again */
-    if (capt_open(&reader, files[0].at, files[0].len, false) != CAPT_DONE) return 10;
+    if (capt_open(&reader, files[0].at, files[0].len, 0) != CAPT_DONE) return 10;
     if (capt_next_many(&reader, &packet, 0, &count, &place) != CAPT_MISUSE) return 11;
     if (capt_feed(&reader, files[0].at, 1) != CAPT_MISUSE || capt_feed_end(&reader) != CAPT_MISUSE) return 22;
     for (int i = 0; i < 10000; i++) {
-        if (capt_open(&reader, files[0].at, files[0].len, false) != CAPT_DONE) return 12;
+        if (capt_open(&reader, files[0].at, files[0].len, 0) != CAPT_DONE) return 12;
         if (capt_next(&reader, &packet, &place) != CAPT_PACKET || packet.offset != 24) return 13;
     }
     capt_close(&reader);
@@ -286,23 +360,26 @@ static struct {
 } on;
 
 static void call_none(void) {}
-static void call_list(void) { capt_list(on.files[0].at, on.files[0].len, false, &on.text, &on.place); }
-static void call_blocks(void) { capt_blocks(on.files[0].at, on.files[0].len, false, &on.text, &on.place); }
-static void call_convert(void) { capt_convert(on.files[0].at, on.files[0].len, false, false, false, &on.text, &on.place); }
-static void call_info(void) { capt_info(on.files, 32, false, &on.text, &on.place); }
-static void call_report(void) { capt_report(on.files, 32, false, &on.text, &on.place); }
-static void call_merge(void) { capt_merge(on.files, 32, false, false, &on.text, &on.place); }
-static void call_join(void) { capt_join(on.files, 32, false, false, &on.text, &on.place); }
-static void call_table_open(void) { capt_table_open(&on.table, on.files, 32, false); }
+static void call_list(void) { capt_list(on.files[0].at, on.files[0].len, 0, &on.text, &on.place); }
+static void call_blocks(void) { capt_blocks(on.files[0].at, on.files[0].len, 0, &on.text, &on.place); }
+static void call_convert(void) { capt_convert(on.files[0].at, on.files[0].len, 0, &on.text, &on.place); }
+static void call_info(void) { capt_info(on.files, 32, 0, &on.text, &on.place); }
+static void call_report(void) { capt_report(on.files, 32, 0, &on.text, &on.place); }
+static void call_report_ipv6(void) { capt_report(on.files, 32, CAPT_IPV6, &on.text, &on.place); }
+static void call_merge(void) { capt_merge(on.files, 32, 0, &on.text, &on.place); }
+static void call_merge_pcap(void) { capt_merge(on.files, 32, CAPT_TO_PCAP, &on.text, &on.place); }
+static void call_join(void) { capt_join(on.files, 32, 0, &on.text, &on.place); }
+static void call_join_pcap(void) { capt_join(on.files, 32, CAPT_TO_PCAP, &on.text, &on.place); }
+static void call_table_open(void) { capt_table_open(&on.table, on.files, 32, CAPT_IPV6); }
 static void call_table(void) {
     while (capt_table_step(&on.table, &on.place) == CAPT_PACKET) {}
     capt_table_write(&on.table, &on.text, &on.place);
     capt_close(&on.table);
 }
 static void call_reader(void) {
-    capt_open(&on.reader, on.files[0].at, on.files[0].len, false);
+    capt_open(&on.reader, on.files[0].at, on.files[0].len, 0);
     while (capt_next(&on.reader, &on.packet, &on.place) == CAPT_PACKET) {}
-    capt_open_fed(&on.reader, false);
+    capt_open_fed(&on.reader, 0);
     capt_feed(&on.reader, on.files[0].at, on.files[0].len);
     capt_feed_end(&on.reader);
     while (capt_next(&on.reader, &on.packet, &on.place) == CAPT_PACKET) {}
@@ -333,8 +410,8 @@ static size_t stack_of(void (*call)(void)) {
 
 /* Each call takes at most 48 KiB of stack. */
 static int stack(const char *name) {
-    void (*calls[])(void) = {call_list, call_blocks, call_convert, call_info, call_report, call_merge, call_join, call_table_open,
-                             call_table, call_reader};
+    void (*calls[])(void) = {call_list, call_blocks, call_convert, call_info, call_report, call_report_ipv6, call_merge, call_merge_pcap, call_join,
+                             call_join_pcap, call_table_open, call_table, call_reader};
     for (int i = 0; i < 32; i++) on.files[i] = i ? on.files[0] : bytes_of(name);
     size_t none = stack_of(call_none);
     for (size_t i = 0; i < sizeof calls / sizeof *calls; i++) {
@@ -348,29 +425,35 @@ static int stack(const char *name) {
     return 0;
 }
 
+static uint32_t flag_of(const char *word) {
+    return strcmp(word, "--allow-cut") == 0 ? CAPT_ALLOW_CUT : strcmp(word, "--ipv6") == 0 ? CAPT_IPV6 : 0;
+}
+
 int main(int count, char **words) {
     if (count < 2) return 2;
-    bool allow_cut = count > 2 && strcmp(words[2], "--allow-cut") == 0;
+    uint32_t flags = count > 2 ? flag_of(words[2]) : 0;
     capt_reader reader = {0};
     if (strcmp(words[1], "misuse") == 0) return misuse(words[count - 1]);
+    if (strcmp(words[1], "flags") == 0) return flags_refused(words[count - 1]);
     if (strcmp(words[1], "memory") == 0) return fed_memory();
+    if (strcmp(words[1], "version") == 0) return version();
     if (strcmp(words[1], "stack") == 0) return stack(words[count - 1]);
     if (strcmp(words[1], "stdin") == 0) {
-        uint32_t status = capt_open_stdin(&reader, allow_cut);
+        uint32_t status = capt_open_stdin(&reader, flags);
         return status == CAPT_DONE ? list(&reader, 1) : told(status, (capt_place){0, 0, 0});
     }
     capt_bytes bytes = bytes_of(words[count - 1]);
     if (strcmp(words[1], "fed") == 0 && count > 3) {
-        int code = list_fed(bytes, strtoul(words[2], NULL, 10), count > 4);
+        int code = list_fed(bytes, strtoul(words[2], NULL, 10), count > 4 ? flag_of(words[3]) : 0);
         free((void *)bytes.at);
         return code;
     }
     if (strcmp(words[1], "table") == 0) {
-        int code = report(bytes, allow_cut);
+        int code = report(bytes, flags);
         free((void *)bytes.at);
         return code;
     }
-    uint32_t status = capt_open(&reader, bytes.at, bytes.len, allow_cut);
+    uint32_t status = capt_open(&reader, bytes.at, bytes.len, flags);
     int code = status == CAPT_DONE ? list(&reader, strcmp(words[1], "many") == 0 ? 7 : 1) : told(status, (capt_place){0, 0, 0});
     free((void *)bytes.at);
     return code;

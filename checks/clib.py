@@ -19,7 +19,7 @@ from fractions import Fraction
 from captures import PROGRAM, SECTION, TOP, WRITING, Bench, Count, block, make_shim, packet, pcap_header, record
 
 CRATE = os.path.join(TOP, "crates", "capt_c")
-TASKS = ("list", "blocks", "info", "report", "pcap", "pcapng", "merge", "join")
+TASKS = ("list", "blocks", "info", "report", "pcap", "pcapng", "merge", "merge-pcap", "join", "join-pcap")
 
 
 def build(folder):
@@ -69,6 +69,7 @@ def called(capt, task, content, allow_cut, order):
         "info": lambda: capt.info([content], **how).encode(), "report": lambda: capt.report_text([content], **how).encode(),
         "pcap": lambda: capt.convert(content, "pcap", **how, **big), "pcapng": lambda: capt.convert(content, "pcapng", **how, **big),
         "merge": lambda: capt.merge([content], **how, **big), "join": lambda: capt.join([content], **how, **big),
+        "merge-pcap": lambda: capt.merge([content], to="pcap", **how, **big), "join-pcap": lambda: capt.join([content], to="pcap", **how, **big),
     }
     try:
         return 0, calls[task](), b""
@@ -559,6 +560,93 @@ def check_ends(count, checker, bench, name, content):
             count.check(f"c: fed {end} bytes of {name}", seen == run([checker, "next", *words, path]), seen)
 
 
+def check_other_library(count, folder):
+    """A library of another version, whose calls take other words, is called by nobody."""
+    other = os.path.join(folder, "other.so")
+    subprocess.run(["cc", "-x", "c", "-", "-shared", "-fPIC", "-o", other], input="int capt_open(void) { return 0; }", text=True, check=True)
+    program = "import capt\ntry: capt.report_text(b'')\nexcept OSError as error: print(error)"
+    seen = run([sys.executable, "-B", "-c", program], env={**os.environ, "CAPT_LIBRARY": other})
+    count.check("python: another library", seen[0] == 0 and b"of another version" in seen[1] and not seen[2], seen)
+
+
+def check_header(count, capt, header):
+    """The header's numbers of the rules and of the link types are those of the library, of the pages and of the code."""
+    def numbers(kind):
+        return {name: int(number) for name, number in re.findall(rf"^    CAPT_{kind}_(\w+) = (\d+)\b", header, re.M)}
+
+    rules, links = numbers("RULE"), numbers("LINK")
+    seen = {capt.rule_name(number): number for number in rules.values()}
+    count.check("the header's rules", {name.lower().replace("_", "-"): number for name, number in rules.items()} == seen, rules)
+    with open(os.path.join(TOP, "docs", "RULES.md")) as page:
+        told = {name: int(number) for number, name in re.findall(r"^\| (\d+) `([\w-]+)` \|", page.read(), re.M)}
+    count.check("the page's rules", told == seen and sorted(seen.values()) == list(range(1, 22)) and not capt.rule_name(22), told)
+    with open(os.path.join(TOP, "crates", "cap_link", "src", "links.rt")) as code:
+        told = {name.replace("LINK_", ""): int(number) for name, number in re.findall(r"^const (\w+): u16 = (\d+);", code.read(), re.M)}
+    count.check("the header's link types", links == told and len(links) == 6, links, told)
+    with open(os.path.join(TOP, "README.md")) as page:
+        told = re.search(r"link types other than ([^|]*)", page.read())[1]
+    count.check("the page's link types", set(re.findall(r"\b[A-Z]\w+", told)) == {name.replace("ETHERNET", "Ethernet") for name in links}, told)
+    flags = dict(re.findall(r"^    CAPT_(ALLOW_CUT|BIG|TO_PCAP|IPV6) = (\d+),? +/\*", header, re.M))
+    count.check("the header's flags", {name: str(getattr(capt, f"_{name}")) for name in flags} == flags and len(flags) == 4, flags)
+
+
+# two datagrams of UDP over IPv6, one over IPv4, one of ICMPv6, a fragment, and a packet of another version
+IPV6 = [
+    "60000000000a114020010db800000000000000000000000120010db800000000000000000000000203e807d0000a00006869",
+    "60000000000a114020010db800000000000000000000000220010db800000000000000000000000107d003e8000a00006869",
+    "4500001e00010000401100000a0000010a00000203e807d0000a00006869",
+    "6000000000043a40fe800000000000000000000000000001ff02000000000000000000000000000100000000",
+    "6000000000102c4020010db800000000000000000000000120010db800000000000000000000000211000001000000070000000000000000",
+    "50",
+]
+FILES = """files 1
+file 1 pcap packets 6 bytes 231 truncated 0 skipped 0 first 1+0/1000000 last 6+0/1000000
+total packets 6 bytes 231 truncated 0
+"""
+READS = FILES + """frames other-link 0 not-ip 1 short 0 cut 0 bad 0 unjoined 1 counted 4
+joined 0 given-up 0
+talks 3
+talk udp [2001:db8::1]:1000 [2001:db8::2]:2000 forward 1 50 backward 1 50 first 1+0/1000000 last 2+0/1000000
+talk udp 10.0.0.1:1000 10.0.0.2:2000 forward 1 30 backward 0 0 first 3+0/1000000 last 3+0/1000000
+talk p58 fe80::1 ff02::1 forward 1 44 backward 0 0 first 4+0/1000000 last 4+0/1000000
+"""
+IGNORES = FILES + """frames other-link 0 not-ipv4 5 short 0 cut 0 bad 0 unjoined 0 counted 1
+joined 0 given-up 0
+talks 1
+talk udp 10.0.0.1:1000 10.0.0.2:2000 forward 1 30 backward 0 0 first 3+0/1000000 last 3+0/1000000
+"""
+
+
+def of_ipv6():
+    """A capture of these packets, a second apart."""
+    return pcap_header(101) + b"".join(record(second, bytes.fromhex(data)) for second, data in enumerate(IPV6, 1))
+
+
+def check_ipv6(count, capt, checker, bench):
+    """A report with the conversations of IPv6, worked out by hand, and without them; and a cut end beside the flag."""
+    content = of_ipv6()
+    for name, words, want in ("with", ["--ipv6"], READS), ("without", [], IGNORES):
+        seen = run([checker, "table", *words, bench.name(content)])
+        count.check(f"c: a table {name} IPv6", seen == (0, want.encode(), b""), seen)
+        how = {"ipv6": bool(words)}
+        with capt.Table(content, **how) as table:
+            while table.step():
+                pass
+            seen = capt.report_text(content, **how), capt.report(content, **how).text, table.report().text
+        count.check(f"python: a report {name} IPv6", seen == (want,) * 3, seen)
+        seen = [tried(capt.report_text, content + b"cut", allow_cut, **how) for allow_cut in (False, True)]
+        is_refused = isinstance(seen[0], capt.Refused) and seen[0].name == "cut"
+        count.check(f"python: a cut report {name} IPv6", is_refused and seen[1] == want.replace("+0/1000000\ntotal", "+0/1000000 cut\ntotal"), seen)
+    ends = [(talk.protocol, talk.a, talk.a_port, talk.b, talk.b_port) for talk in capt.report(content, ipv6=True).talks]
+    want = [(17, "2001:db8::1", 1000, "2001:db8::2", 2000), (17, "10.0.0.1", 1000, "10.0.0.2", 2000), (58, "fe80::1", None, "ff02::1", None)]
+    count.check("python: ends of IPv6", ends == want, ends)
+    for word, want in {
+        "[2001:db8::1]:443": ("2001:db8::1", 443), "2001:db8::1": ("2001:db8::1", None), "::": ("::", None), "[::]:0": ("::", 0),
+        "10.0.0.1:53": ("10.0.0.1", 53), "10.0.0.1": ("10.0.0.1", None),
+    }.items():
+        count.check(f"python: the end {word}", capt._end(word) == want, capt._end(word))
+
+
 def check_faults(count, checker, shim, path, content):
     """Each growth of a walk is refused in turn, and each read of standard input fails."""
     for at in range(1, 40):
@@ -603,36 +691,132 @@ def check_example(count, folder, library, shim, bench, content):
     count.check("c: the example, whose read fails", seen[:2] == (1, b"") and b"Input/output error" in seen[2], seen)
 
 
-FAILING = """
-#define _GNU_SOURCE
-#include <errno.h>
+# Lists a file by capt_file.h, by its name or, for `-`, from descriptor 0, for C and for C++. It prints where packets begin, what
+# each call returns that gives none, and errors. Where the descriptor has no bytes yet it says so, and waits.
+READING = """
+#include <capt_file.h>
+#include <inttypes.h>
+#include <poll.h>
 #include <stdio.h>
-#include <unistd.h>
-#include <fcntl.h>
-static int file;
-static ssize_t give(void *cookie, char *bytes, size_t size) {
-    static size_t given;
-    (void)cookie;
-    if (given == 100) return errno = EIO, -1;
-    ssize_t count = read(file, bytes, size < 100 - given ? size : 100 - given);
-    given += count;
-    return count;
+#include <string.h>
+
+static capt_file file;
+
+static uint32_t begin(const char *name, uint32_t flags) {
+    return strcmp(name, "-") ? capt_file_open(&file, name, flags) : capt_file_from(&file, 0, flags);
 }
-FILE *fopen(const char *name, const char *how) {
-    file = open(name, O_RDONLY);
-    return fopencookie(NULL, how, (cookie_io_functions_t){.read = give});
+
+int main(int count, char **words) {
+    struct pollfd input = {0, POLLIN, 0};
+    capt_packet packet;
+    capt_place place = {0, 0, 0}, again;
+    uint32_t status, flags = count > 2 && !strcmp(words[2], "--allow-cut") ? CAPT_ALLOW_CUT : 0;
+    int failed = 0;
+    if (count < 2 || capt_file_next(&file, &packet, &place) != CAPT_MISUSE) return 20;
+    if (begin(words[1], CAPT_BIG) != CAPT_MISUSE || file.reader.is_open) return 21;
+    status = begin(words[1], flags);
+    if (status == CAPT_READ) printf("open: %s\\n", strerror(file.error));
+    if (status != CAPT_DONE) return capt_file_next(&file, &packet, &place) == CAPT_MISUSE ? 3 : 22;
+    for (;;) {
+        status = capt_file_next(&file, &packet, &place);
+        if (status == CAPT_PACKET) {
+            printf("%" PRIu64 " %" PRIu32 "\\n", packet.offset, packet.captured);
+        } else if (status == CAPT_MORE) {
+            printf("more\\n");
+            fflush(stdout);
+            poll(&input, 1, -1);
+        } else if (status == CAPT_READ) {
+            printf("read: %s at %" PRIu64 " of %" PRIu32 "\\n", strerror(file.error), place.offset, place.file);
+            if (++failed > 2) return capt_file_close(&file), 4;
+        } else if (status == CAPT_MEMORY) {
+            printf("memory\\n");
+            if (++failed > 9) return capt_file_close(&file), 5;
+        } else {
+            break;
+        }
+    }
+    /* flags that aren't taken leave it open, and the end and a refusal come again */
+    if (begin(words[1], CAPT_TO_PCAP) != CAPT_MISUSE) return 23;
+    if (capt_file_next(&file, &packet, &again) != status || memcmp(&place, &again, sizeof place)) return 24;
+    printf("status %" PRIu32 " rule %" PRIu32 " offset %" PRIu64 "\\n", status, place.rule, place.offset);
+    /* a file that is opened again begins anew, and its descriptor isn't kept */
+    for (int turn = 0; turn < 3 && strcmp(words[1], "-"); turn++) {
+        int last = file.descriptor;
+        uint32_t opened = begin(words[1], flags);
+        if (opened == CAPT_MEMORY) return capt_file_close(&file), 6;
+        if (opened != CAPT_DONE || file.descriptor > last + 1) return 25;
+        if (capt_file_next(&file, &packet, &place) == CAPT_PACKET && packet.offset < 24) return 26;
+    }
+    int last = file.descriptor, owned = file.owns;
+    capt_file_close(&file);
+    capt_file_close(&file);
+    if (file.reader.is_open || (fcntl(last, F_GETFD) < 0) != (owned != 0)) return 27;
+    return capt_file_next(&file, &packet, &again) == CAPT_MISUSE ? (int)status : 28;
 }
 """
 
 
-def make_failing(folder):
-    """A library whose files fail after 100 bytes, for LD_PRELOAD: that of faults.c doesn't see the reads of <stdio.h>."""
-    failing = os.path.join(folder, "failing.so")
-    subprocess.run(["cc", "-x", "c", "-", "-shared", "-fPIC", "-o", failing], input=FAILING, text=True, check=True)
-    return failing
+def check_reading(count, folder, library, shim, content):
+    """What capt_file.h reads, in C and in C++: a file, a pipe, one that doesn't wait, reads that fail or are interrupted, and refused growths."""
+    path, cut = os.path.join(folder, "read.pcap"), os.path.join(folder, "read-cut.pcap")
+    for name, bytes_ in (path, content), (cut, content[:-1]):
+        with open(name, "wb") as out:
+            out.write(bytes_)
+    whole, packets, refused = b"status 0 rule 0 offset 0\n", [b"24 60\n", b"100 60\n", b"176 60\n"], b"status 2 rule 3 offset 176\n"
+    all_of = b"".join(packets) + whole
+    for language, *compiler in ("c", "cc", "-std=gnu11"), ("c++", "c++", "-std=c++11"):
+        if not shutil.which(compiler[0]):
+            continue
+        reader = os.path.join(folder, f"reading-{len(language)}")
+        warns = ["-Wall", "-Wextra", "-Werror", "-Wconversion", "-Wshadow"]
+        subprocess.run([*compiler, *warns, "-x", language, "-", "-I", library, "-o", reader, "-x", "none", os.path.join(library, "libcapt.a")],
+                       input=READING, text=True, check=True)
+
+        def check(what, want, *words, **how):
+            seen = run([reader, *words], **how)
+            count.check(f"{language}: {what}", seen == (*want, b""), seen)
+
+        check("a file", (0, all_of), path)
+        check("a cut file", (2, b"".join(packets[:2]) + refused), cut)
+        check("a cut file, allowed", (0, b"".join(packets[:2]) + whole), cut, "--allow-cut")
+        check("no file", (3, b"open: No such file or directory\n"), os.path.join(folder, "nothing"))
+        check("a folder", (4, 3 * b"read: Is a directory at 0 of 1\n"), folder)
+        check("a pipe", (0, all_of), "-", input=content)
+        check("an empty pipe", (2, b"status 2 rule 3 offset 0\n"), "-", input=b"")
+        for piece in 1, 7, 100:
+            environment = {**os.environ, "LD_PRELOAD": shim, "FAULT_PIECE": str(piece)}
+            check(f"a file by {piece}", (0, all_of), path, env=environment)
+            # the fourth read is interrupted, and the third fails once: the one after it goes on
+            check(f"an interrupted read by {piece}", (0, all_of), "-", input=content, env={**environment, "FAULT_READ": "0-4"})
+            done = [it for it, end in zip(packets, (100, 176, 252)) if end <= 2 * piece]
+            failed = b"read: Input/output error at %d of 1\n" % min(2 * piece, 252)
+            told = b"".join(done) + failed + b"".join(packets[len(done):]) + whole
+            check(f"a read that fails by {piece}", (0, told), "-", input=content, env={**environment, "FAULT_READ": "0-3"})
+        for at in range(1, 12):
+            environment = {**os.environ, "LD_PRELOAD": shim, "FAULT_PIECE": "50", "FAULT_GROWTHS": f"{at}-{at + 1}"}
+            status, text, error = run([reader, path], env=environment)
+            # of the first call, of one for a packet, or as the file is opened again
+            is_told = (status, text) in ((3, b""), (6, all_of)) or status == 0 and text.replace(b"memory\n", b"", 1) == all_of
+            count.check(f"{language}: a growth refused {at}", is_told and error == b"", status, text)
+        if shutil.which("valgrind"):
+            for name in path, cut:
+                status = run(["valgrind", "-q", "--error-exitcode=99", "--leak-check=full", reader, name])[0]
+                count.check(f"{language}: valgrind: {name}", status in (0, 2), status)
+        receiving, sending = os.pipe()
+        os.set_blocking(receiving, False)
+        with subprocess.Popen([reader, "-"], stdin=receiving, stdout=subprocess.PIPE) as ran:
+            lines = [ran.stdout.readline()]
+            os.write(sending, content[:130])
+            lines += [ran.stdout.readline(), ran.stdout.readline()]
+            os.write(sending, content[130:])
+            os.close(sending)
+            rest = ran.stdout.read()
+        os.close(receiving)
+        seen = ran.returncode, lines, rest.replace(b"more\n", b"")
+        count.check(f"{language}: a pipe that doesn't wait", seen == (0, [b"more\n", packets[0], b"more\n"], b"".join(packets[1:]) + whole), seen)
 
 
-def check_pages(count, folder, library):
+def check_pages(count, folder, library, shim):
     """The programs of docs/LIBRARY.md print what stands below each."""
     with open(os.path.join(TOP, "docs", "LIBRARY.md")) as page:
         blocks = re.findall(r"^```(\w+)\n(.*?)^```", page.read(), re.M | re.S)
@@ -654,8 +838,8 @@ def check_pages(count, folder, library):
         seen = run([*command, example], env=environment)
         count.check(f"pages: {kind}", seen == (0, text.encode(), b""), seen)
         if kind == "c":
-            seen = run([*command, example], env={**environment, "LD_PRELOAD": make_failing(folder)})
-            count.check("pages: c, whose read fails", seen[0] not in (0, None) and b"Input/output error" in seen[2], seen)
+            seen = run([*command, example], env={**environment, "LD_PRELOAD": shim, "FAULT_PIECE": "100", "FAULT_READ": "3-3"})
+            count.check("pages: c, whose read fails", seen[0] == 1 and b"Input/output error" in seen[2], seen)
 
 
 def rust(folder, library, name, program):
@@ -794,6 +978,32 @@ fn main() -> Result<(), Box<dyn Error>> {
     let shown = format!("Refused(Refusal {{ file: 1, offset: 176, rule: 3 }}, {text} bytes)");
     assert_eq!(format!("{error:?}"), shown);
     assert!(format!("{:?}", capt::Fed::open(false)?).starts_with("Fed"));
+    // a report with the conversations of IPv6, and without them
+    let ipv6 = std::fs::read(std::env::args().nth(2).unwrap())?;
+    let [with, without] = [true, false].map(|it| capt::report_with(&[&ipv6], capt::ReportOptions::new().ipv6(it)).unwrap());
+    assert!(with.contains("not-ip 1 ") && with.contains("talk udp [2001:db8::1]:1000 [2001:db8::2]:2000 "), "{with}");
+    assert!(without.contains("not-ipv4 5 ") && !without.contains("2001"), "{without}");
+    assert_eq!(capt::report(&[&ipv6], false)?, without);
+    let cut = &ipv6[..ipv6.len() - 1];
+    assert!(capt::report_with(&[cut], capt::ReportOptions::new().ipv6(true)).is_err());
+    assert!(capt::report_with(&[cut], capt::ReportOptions::new().ipv6(true).allow_cut(true))?.contains("not-ip 0 "));
+    // each flag of a file that is written
+    for (to, order, magic) in [
+        (capt::Format::Pcap, capt::Order::Little, [0xd4, 0xc3, 0xb2, 0xa1]),
+        (capt::Format::Pcap, capt::Order::Big, [0xa1, 0xb2, 0xc3, 0xd4]),
+        (capt::Format::Pcapng, capt::Order::Big, [0x0a, 0x0d, 0x0d, 0x0a]),
+    ] {
+        for written in [
+            capt::convert(&bytes, to, order, false)?,
+            capt::merge_to(&[&bytes], to, order, false)?,
+            capt::join_to(&[&bytes], to, order, false)?,
+        ] {
+            assert!(written.starts_with(&magic));
+        }
+    }
+    assert_eq!(capt::merge(&[&bytes], capt::Order::Big, false)?, capt::merge_to(&[&bytes], capt::Format::Pcapng, capt::Order::Big, false)?);
+    let parts: Vec<u32> = capt::version().split('.').map(|it| it.parse().unwrap()).collect();
+    assert_eq!(capt::version_number(), parts[0] * 10000 + parts[1] * 100 + parts[2]);
     assert_eq!(format!("{:?} {:?} {:?}", capt::Error::Memory, capt::Error::Files, capt::Error::Ended), "Memory Files Ended");
     Ok(())
 }
@@ -811,7 +1021,7 @@ def check_rust(count, folder, library, bench, contents):
         count.check(f"rust: {name}", (status, text, error) == want)
         count.check(f"rust: {name}, fed", run(command, input=content) == want)
         count.check(f"rust: {name}, read", run([*command, "-"], input=content) == want)
-    seen = run([*rust(folder, library, "types", TYPES), bench.name(dict(contents)["monday.pcap"])])
+    seen = run([*rust(folder, library, "types", TYPES), bench.name(dict(contents)["monday.pcap"]), bench.name(of_ipv6())])
     count.check("rust: types", seen == (0, b"", b""), seen)
     check_rust_build(count, folder, library)
 
@@ -883,20 +1093,27 @@ def main():
         check_python_processes(count, folder)
         path = bench.name(example)
         for it in (checker, shared):
-            count.check("c: misuse", run([it, "misuse", path]) == (0, b"", b""), run([it, "misuse", path]))
+            for what in "misuse", "flags", "version":
+                seen = run([it, what, path])
+                count.check(f"c: {what}", seen == (0, b"", b""), seen)
             seen = run([it, "memory"])
             count.check("c: what a fed reader holds", seen == (0, b"", b""), seen)
             for name in "monday.pcap", "tuesday.pcapng":
                 seen = run([it, "stack", bench.name(dict(contents)[name])])
                 count.check("c: the stack of the calls", seen == (0, b"", b""), seen)
         names = subprocess.run(["nm", "-D", "--defined-only", os.environ["CAPT_LIBRARY"]], stdout=subprocess.PIPE, text=True).stdout
-        seen = {line.split()[2].split("@")[0] for line in names.splitlines()} - {"CAPT_0"}
-        with open(os.path.join(library, "capt.h")) as header:
-            declared = set(re.findall(r"^\w+ (capt_\w+)\(", header.read(), re.M))
+        seen = {line.split()[2].split("@")[0] for line in names.splitlines()} - {"CAPT_1"}
+        with open(os.path.join(library, "capt.h")) as file:
+            header = file.read()
+        declared = set(re.findall(r"^\w+ (capt_\w+)\(", header, re.M))
         count.check("the names that are seen", seen == declared, seen ^ declared)
         count.check("the version", run([program, "--version"])[1].decode().split()[:2] == ["capt", capt.version()])
+        check_header(count, capt, header)
+        check_other_library(count, folder)
+        check_ipv6(count, capt, checker, bench)
         check_faults(count, checker, shim, path, example)
         check_example(count, folder, library, shim, bench, example)
+        check_reading(count, folder, library, shim, example)
         for name in "monday.pcap", "tuesday.pcapng":
             check_ends(count, checker, bench, name, dict(contents)[name])
         many = [example] * 32
@@ -912,7 +1129,7 @@ def main():
                 pass
             texts = before.startswith("files 1\nfile 1 - packets 0"), table.report() == capt.report([example])
             count.check("python: table", texts == (True, True), texts)
-        check_pages(count, folder, library)
+        check_pages(count, folder, library, shim)
         check_rust(count, folder, library, bench, contents)
         if shutil.which("valgrind"):
             watch = ["valgrind", "-q", "--error-exitcode=99", "--leak-check=full"]

@@ -54,6 +54,7 @@ Source = Union[Path, int, Buffer, Readable]
 Sources = Union[Source, Iterable[Source]]
 
 _DONE, _PACKET, _REFUSED, _READ, _MEMORY, _MISUSE, _MORE = 0, 1, 2, 3, 5, 6, 7
+_ALLOW_CUT, _BIG, _TO_PCAP, _IPV6 = 1, 2, 4, 8
 _ROOM, _PIECE, _MOST_FILES = 256, 1 << 18, 32
 _NOT_ENDED = "the capture hasn't ended: its packets come first"
 
@@ -85,32 +86,37 @@ class _Bytes(ctypes.Structure):
 def _load() -> ctypes.CDLL:
     beside = os.path.join(os.path.dirname(os.path.abspath(__file__)), "libcapt.so")
     library = ctypes.CDLL(os.environ.get("CAPT_LIBRARY") or (beside if os.path.exists(beside) else "libcapt.so"))
-    pointer, status, size, flag = ctypes.c_void_p, ctypes.c_uint32, ctypes.c_size_t, ctypes.c_bool
+    pointer, status, size, flags = ctypes.c_void_p, ctypes.c_uint32, ctypes.c_size_t, ctypes.c_uint32
     for name, result, *words in [
-        ("capt_open", status, pointer, pointer, size, flag),
-        ("capt_open_fed", status, pointer, flag),
+        ("capt_open", status, pointer, pointer, size, flags),
+        ("capt_open_fed", status, pointer, flags),
         ("capt_feed", status, pointer, pointer, size),
         ("capt_feed_end", status, pointer),
         ("capt_next", status, pointer, pointer, pointer),
         ("capt_next_many", status, pointer, pointer, size, pointer, pointer),
         ("capt_end", status, pointer, pointer),
         ("capt_close", None, pointer),
-        ("capt_table_open", status, pointer, pointer, size, flag),
+        ("capt_table_open", status, pointer, pointer, size, flags),
         ("capt_table_step", status, pointer, pointer),
         ("capt_table_write", status, pointer, pointer, pointer),
-        ("capt_list", status, pointer, size, flag, pointer, pointer),
-        ("capt_blocks", status, pointer, size, flag, pointer, pointer),
-        ("capt_info", status, pointer, size, flag, pointer, pointer),
-        ("capt_report", status, pointer, size, flag, pointer, pointer),
-        ("capt_convert", status, pointer, size, flag, flag, flag, pointer, pointer),
-        ("capt_merge", status, pointer, size, flag, flag, pointer, pointer),
-        ("capt_join", status, pointer, size, flag, flag, pointer, pointer),
+        ("capt_list", status, pointer, size, flags, pointer, pointer),
+        ("capt_blocks", status, pointer, size, flags, pointer, pointer),
+        ("capt_info", status, pointer, size, flags, pointer, pointer),
+        ("capt_report", status, pointer, size, flags, pointer, pointer),
+        ("capt_convert", status, pointer, size, flags, pointer, pointer),
+        ("capt_merge", status, pointer, size, flags, pointer, pointer),
+        ("capt_join", status, pointer, size, flags, pointer, pointer),
         ("capt_text_close", None, pointer),
         ("capt_error_text", size, status, pointer, pointer, size),
         ("capt_rule_name", size, status, pointer, size),
         ("capt_version", size, pointer, size),
+        # the calls of a library without it take other words
+        ("capt_version_number", status),
     ]:
-        call = getattr(library, name)
+        try:
+            call = getattr(library, name)
+        except AttributeError:
+            raise OSError(f"{library._name}: this libcapt is of another version, without {name}")
         call.restype, call.argtypes = result, words
     return library
 
@@ -377,7 +383,8 @@ class _InMemory:
         some = (ctypes.c_uint8 * len(self._some)).from_buffer(self._some)
         self._words = (ctypes.byref(self._reader), ctypes.byref(some), _ROOM, ctypes.byref(self._count),
                        ctypes.byref(self.place))
-        _check(_library.capt_open(self._words[0], self._whole.at, self._whole.len, allow_cut), self.place)
+        _check(_library.capt_open(self._words[0], self._whole.at, self._whole.len, _cut(allow_cut)),
+               self.place)
 
     def more(self, ready: Deque[Packet]) -> int:
         """Puts the next packets behind those that are ready, and returns the status."""
@@ -410,7 +417,7 @@ class _InPieces:
         self._words = ctypes.byref(self._reader), ctypes.byref(packet), ctypes.byref(self.place)
         # where the last packet's bytes end, in a pcap file
         self._past = 24
-        _check(_library.capt_open_fed(self._words[0], allow_cut), self.place)
+        _check(_library.capt_open_fed(self._words[0], _cut(allow_cut)), self.place)
 
     def feed(self, piece: bytes) -> None:
         status = _library.capt_feed(self._words[0], piece, len(piece))
@@ -666,14 +673,19 @@ class Fed(_Packets):
         self._call(self._held.end)
 
 
-def _text(call: Callable[..., int], sources: Sources, map: bool, *words: bool) -> bytes:
+def _cut(allow_cut: bool) -> int:
+    """The flag for it, or none."""
+    return _ALLOW_CUT if allow_cut else 0
+
+
+def _text(call: Callable[..., int], sources: Sources, map: bool, flags: int) -> bytes:
     wholes: List[_Whole] = []
     text, place = _Text(), _Place()
     try:
         for source in _listed(sources):
             wholes.append(_Whole(source, map))
         files = (_Bytes * len(wholes))(*[_Bytes(it.at, it.len) for it in wholes])
-        status = call(files, len(wholes), *words, ctypes.byref(text), ctypes.byref(place))
+        status = call(files, len(wholes), flags, ctypes.byref(text), ctypes.byref(place))
         made = ctypes.string_at(text.at, text.len) if text.len else b""
         _check(status, place, made, [it.path for it in wholes])
         return made
@@ -683,55 +695,62 @@ def _text(call: Callable[..., int], sources: Sources, map: bool, *words: bool) -
             it.close()
 
 
-def _text_of_one(call: Callable[..., int], source: Source, map: bool, *words: bool) -> bytes:
+def _text_of_one(call: Callable[..., int], source: Source, map: bool, flags: int) -> bytes:
     def of_files(files: Sequence[_Bytes], count: int, *rest: Any) -> int:
         return call(files[0].at, files[0].len, *rest)
-    return _text(of_files, [source], map, *words)
+    return _text(of_files, [source], map, flags)
 
 
 def listing(source: Source, allow_cut: bool = False, *, map: bool = False) -> str:
     """What `capt list` prints of a capture."""
-    return _text_of_one(_library.capt_list, source, map, allow_cut).decode()
+    return _text_of_one(_library.capt_list, source, map, _cut(allow_cut)).decode()
 
 
 def blocks(source: Source, allow_cut: bool = False, *, map: bool = False) -> str:
     """What `capt blocks` prints of a pcapng capture."""
-    return _text_of_one(_library.capt_blocks, source, map, allow_cut).decode()
+    return _text_of_one(_library.capt_blocks, source, map, _cut(allow_cut)).decode()
 
 
 def info(sources: Sources, allow_cut: bool = False, *, map: bool = False) -> str:
     """What `capt info` prints of 1 to 32 captures."""
-    return _text(_library.capt_info, sources, map, allow_cut).decode()
+    return _text(_library.capt_info, sources, map, _cut(allow_cut)).decode()
 
 
-def report_text(sources: Sources, allow_cut: bool = False, *, map: bool = False) -> str:
-    """What `capt report` prints of 1 to 32 captures."""
-    return _text(_library.capt_report, sources, map, allow_cut).decode()
+def report_text(sources: Sources, allow_cut: bool = False, *, ipv6: bool = False, map: bool = False) -> str:
+    """What `capt report` prints of 1 to 32 captures. With `ipv6` it also has the conversations of IPv6 packets, and the
+    count `not-ip` in place of `not-ipv4`."""
+    return _text(_library.capt_report, sources, map, _report_flags(allow_cut, ipv6)).decode()
+
+
+def _report_flags(allow_cut: bool, ipv6: bool) -> int:
+    return _cut(allow_cut) | (_IPV6 if ipv6 else 0)
 
 
 def convert(source: Source, to: str, order: str = "little", allow_cut: bool = False, *, map: bool = False) -> bytes:
     """A capture as a file of the format `to`, "pcap" or "pcapng", in that order of bytes, "little" or "big"."""
-    return _text_of_one(_library.capt_convert, source, map, allow_cut, _word(to, "pcapng", "pcap"), _is_big(order))
+    return _text_of_one(_library.capt_convert, source, map, _form_flags(allow_cut, to, order))
 
 
-def merge(sources: Sources, order: str = "little", allow_cut: bool = False, *, map: bool = False) -> bytes:
-    """1 to 32 captures as one pcapng file, sorted by exact time."""
-    return _text(_library.capt_merge, sources, map, allow_cut, _is_big(order))
+def merge(sources: Sources, order: str = "little", allow_cut: bool = False, *, to: str = "pcapng",
+          map: bool = False) -> bytes:
+    """1 to 32 captures as one file of the format `to`, sorted by exact time."""
+    return _text(_library.capt_merge, sources, map, _form_flags(allow_cut, to, order))
 
 
-def join(sources: Sources, order: str = "little", allow_cut: bool = False, *, map: bool = False) -> bytes:
-    """The whole IPv4 datagrams of 1 to 32 captures, fragments joined, as one pcapng file."""
-    return _text(_library.capt_join, sources, map, allow_cut, _is_big(order))
+def join(sources: Sources, order: str = "little", allow_cut: bool = False, *, to: str = "pcapng",
+         map: bool = False) -> bytes:
+    """The whole IPv4 datagrams of 1 to 32 captures, fragments joined, as one file of the format `to`."""
+    return _text(_library.capt_join, sources, map, _form_flags(allow_cut, to, order))
+
+
+def _form_flags(allow_cut: bool, to: str, order: str) -> int:
+    return _cut(allow_cut) | _word(to, "pcapng", "pcap") * _TO_PCAP | _word(order, "little", "big") * _BIG
 
 
 def _word(word: str, no: str, yes: str) -> bool:
     if word not in (no, yes):
         raise ValueError(f"{word!r} is neither {no!r} nor {yes!r}")
     return word == yes
-
-
-def _is_big(order: str) -> bool:
-    return _word(order, "little", "big")
 
 
 class Side(NamedTuple):
@@ -742,7 +761,8 @@ class Side(NamedTuple):
 
 class Talk(NamedTuple):
     """A conversation: its protocol, its two ends, the packets and bytes from a to b (`forward`) and from b to a, and
-    the exact times of its first and last packet, or None. A port is None where the protocol has none."""
+    the exact times of its first and last packet, or None. An address is one of IPv4, as "10.0.0.1", or of IPv6, as
+    "2001:db8::1". A port is None where the protocol has none."""
     protocol: int
     a: str
     a_port: Optional[int]
@@ -763,13 +783,13 @@ class Report(NamedTuple):
 class _Counting:
     """A table of captures that are in memory."""
 
-    def __init__(self, sources: Sources, map: bool, allow_cut: bool):
+    def __init__(self, sources: Sources, map: bool, flags: int):
         self._table, self._place = _Reader(), _Place()
         self._wholes: List[_Whole] = []
         for source in _listed(sources):
             self._wholes.append(_Whole(source, map))
         files = (_Bytes * len(self._wholes))(*[_Bytes(it.at, it.len) for it in self._wholes])
-        status = _library.capt_table_open(ctypes.byref(self._table), files, len(files), allow_cut)
+        status = _library.capt_table_open(ctypes.byref(self._table), files, len(files), flags)
         _check(status, self._place)
 
     def step(self) -> bool:
@@ -796,10 +816,11 @@ class _Counting:
 
 class Table(_Handle):
     """The table of a report over 1 to 32 captures, which takes their packets one by one, in the order of exact time.
-    Besides the bytes of the captures it holds bounded memory. Close it, or use it as a context."""
+    Besides the bytes of the captures it holds bounded memory. Close it, or use it as a context. With `ipv6` it also has
+    the conversations of IPv6 packets."""
 
-    def __init__(self, sources: Sources, allow_cut: bool = False, *, map: bool = False):
-        super().__init__(_Counting(sources, map, allow_cut))
+    def __init__(self, sources: Sources, allow_cut: bool = False, *, ipv6: bool = False, map: bool = False):
+        super().__init__(_Counting(sources, map, _report_flags(allow_cut, ipv6)))
 
     def step(self) -> bool:
         """Takes the next packet; False if none is left."""
@@ -818,9 +839,9 @@ def _time(word: str) -> Optional[Fraction]:
     return int(seconds) + Fraction(int(numerator), int(denominator))
 
 
-def report(sources: Sources, allow_cut: bool = False, *, map: bool = False) -> Report:
-    """The report over 1 to 32 captures."""
-    return _report(report_text(sources, allow_cut, map=map))
+def report(sources: Sources, allow_cut: bool = False, *, ipv6: bool = False, map: bool = False) -> Report:
+    """The report over 1 to 32 captures, with `ipv6` as `report_text` has it."""
+    return _report(report_text(sources, allow_cut, ipv6=ipv6, map=map))
 
 
 def _report(text: str) -> Report:
@@ -828,8 +849,11 @@ def _report(text: str) -> Report:
 
 
 def _end(word: str) -> Tuple[str, Optional[int]]:
-    address, _, port = word.partition(":")
-    return address, int(port) if port else None
+    """The address and the port of an end: `10.0.0.1:53`, `10.0.0.1`, `[2001:db8::1]:53` or `2001:db8::1`."""
+    if word.count(":") > 1 and not word.startswith("["):
+        return word, None
+    address, _, port = word.rpartition(":") if ":" in word else (word, "", "")
+    return address.strip("[]"), int(port) if port else None
 
 
 def _talk(line: str) -> Talk:

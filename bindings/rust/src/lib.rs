@@ -19,6 +19,11 @@ const REFUSED: u32 = 2;
 const MEMORY: u32 = 5;
 const MORE: u32 = 7;
 
+const ALLOW_CUT: u32 = 1;
+const BIG: u32 = 2;
+const TO_PCAP: u32 = 4;
+const IPV6: u32 = 8;
+
 #[repr(C)]
 #[derive(Default)]
 struct RawPlace {
@@ -72,23 +77,24 @@ struct RawBytes {
 }
 
 extern "C" {
-    fn capt_open(reader: *mut RawReader, at: *const u8, len: usize, allow_cut: bool) -> u32;
-    fn capt_open_fed(reader: *mut RawReader, allow_cut: bool) -> u32;
+    fn capt_open(reader: *mut RawReader, at: *const u8, len: usize, flags: u32) -> u32;
+    fn capt_open_fed(reader: *mut RawReader, flags: u32) -> u32;
     fn capt_feed(reader: *mut RawReader, at: *const u8, len: usize) -> u32;
     fn capt_feed_end(reader: *mut RawReader) -> u32;
     fn capt_next(reader: *mut RawReader, packet: *mut RawPacket, place: *mut RawPlace) -> u32;
     fn capt_end(reader: *mut RawReader, ending: *mut RawEnding) -> u32;
     fn capt_close(reader: *mut RawReader);
-    fn capt_list(at: *const u8, len: usize, allow_cut: bool, text: *mut RawText, place: *mut RawPlace) -> u32;
-    fn capt_blocks(at: *const u8, len: usize, allow_cut: bool, text: *mut RawText, place: *mut RawPlace) -> u32;
-    fn capt_info(files: *const RawBytes, count: usize, allow_cut: bool, text: *mut RawText, place: *mut RawPlace) -> u32;
-    fn capt_report(files: *const RawBytes, count: usize, allow_cut: bool, text: *mut RawText, place: *mut RawPlace) -> u32;
-    fn capt_convert(at: *const u8, len: usize, allow_cut: bool, pcap: bool, big: bool, text: *mut RawText, place: *mut RawPlace) -> u32;
-    fn capt_merge(files: *const RawBytes, count: usize, allow_cut: bool, big: bool, text: *mut RawText, place: *mut RawPlace) -> u32;
-    fn capt_join(files: *const RawBytes, count: usize, allow_cut: bool, big: bool, text: *mut RawText, place: *mut RawPlace) -> u32;
+    fn capt_list(at: *const u8, len: usize, flags: u32, text: *mut RawText, place: *mut RawPlace) -> u32;
+    fn capt_blocks(at: *const u8, len: usize, flags: u32, text: *mut RawText, place: *mut RawPlace) -> u32;
+    fn capt_info(files: *const RawBytes, count: usize, flags: u32, text: *mut RawText, place: *mut RawPlace) -> u32;
+    fn capt_report(files: *const RawBytes, count: usize, flags: u32, text: *mut RawText, place: *mut RawPlace) -> u32;
+    fn capt_convert(at: *const u8, len: usize, flags: u32, text: *mut RawText, place: *mut RawPlace) -> u32;
+    fn capt_merge(files: *const RawBytes, count: usize, flags: u32, text: *mut RawText, place: *mut RawPlace) -> u32;
+    fn capt_join(files: *const RawBytes, count: usize, flags: u32, text: *mut RawText, place: *mut RawPlace) -> u32;
     fn capt_text_close(text: *mut RawText);
     fn capt_rule_name(rule: u32, buffer: *mut u8, room: usize) -> usize;
     fn capt_version(buffer: *mut u8, room: usize) -> usize;
+    fn capt_version_number() -> u32;
 }
 
 /// Where and why a capture is refused.
@@ -133,6 +139,12 @@ pub fn rule_name(rule: u32) -> String {
 pub fn version() -> String {
     // SAFETY: the buffer has the room that is told
     text_of(|at, room| unsafe { capt_version(at, room) })
+}
+
+/// The version of the library as a number: 10,000 times its first part, 100 times its second, and its third.
+pub fn version_number() -> u32 {
+    // SAFETY: it takes nothing
+    unsafe { capt_version_number() }
 }
 
 impl fmt::Display for Error {
@@ -325,7 +337,7 @@ impl<'a> Capture<'a> {
         capture.len = bytes.len();
         // SAFETY: the bytes stay as and where they are until the reader is closed, since until then their owner is neither
         // moved, changed nor dropped; the reader begins as zero
-        match unsafe { capt_open(&mut capture.reader, bytes.as_ptr(), bytes.len(), allow_cut) } {
+        match unsafe { capt_open(&mut capture.reader, bytes.as_ptr(), bytes.len(), cut(allow_cut)) } {
             DONE => Ok(capture),
             _ => Err(Error::Memory),
         }
@@ -377,7 +389,7 @@ impl Fed {
     pub fn open(allow_cut: bool) -> Result<Fed, Error> {
         let mut fed = Fed { reader: CLOSED };
         // SAFETY: the reader begins as zero
-        match unsafe { capt_open_fed(&mut fed.reader, allow_cut) } {
+        match unsafe { capt_open_fed(&mut fed.reader, cut(allow_cut)) } {
             DONE => Ok(fed),
             _ => Err(Error::Memory),
         }
@@ -482,6 +494,15 @@ impl<R> fmt::Debug for Reader<R> {
     }
 }
 
+// The flag for it, or none.
+fn cut(allow_cut: bool) -> u32 {
+    if allow_cut {
+        ALLOW_CUT
+    } else {
+        0
+    }
+}
+
 fn made(call: impl FnOnce(*mut RawText, *mut RawPlace) -> u32) -> Result<Vec<u8>, Error> {
     let mut text = RawText { at: std::ptr::null(), len: 0, handle: CLOSED };
     let mut place = RawPlace::default();
@@ -509,24 +530,54 @@ fn lines(bytes: Vec<u8>) -> String {
 /// What `capt list` prints of a capture.
 pub fn list(file: &[u8], allow_cut: bool) -> Result<String, Error> {
     // SAFETY: the bytes are there while the call runs; so in each call below
-    made(|text, place| unsafe { capt_list(file.as_ptr(), file.len(), allow_cut, text, place) }).map(lines)
+    made(|text, place| unsafe { capt_list(file.as_ptr(), file.len(), cut(allow_cut), text, place) }).map(lines)
 }
 
 /// What `capt blocks` prints of a pcapng capture.
 pub fn blocks(file: &[u8], allow_cut: bool) -> Result<String, Error> {
-    made(|text, place| unsafe { capt_blocks(file.as_ptr(), file.len(), allow_cut, text, place) }).map(lines)
+    made(|text, place| unsafe { capt_blocks(file.as_ptr(), file.len(), cut(allow_cut), text, place) }).map(lines)
 }
 
 /// What `capt info` prints of 1 to 32 captures.
 pub fn info(files: &[&[u8]], allow_cut: bool) -> Result<String, Error> {
     let raw = files_of(files);
-    made(|text, place| unsafe { capt_info(raw.as_ptr(), raw.len(), allow_cut, text, place) }).map(lines)
+    made(|text, place| unsafe { capt_info(raw.as_ptr(), raw.len(), cut(allow_cut), text, place) }).map(lines)
 }
 
 /// The report over 1 to 32 captures.
 pub fn report(files: &[&[u8]], allow_cut: bool) -> Result<String, Error> {
+    report_with(files, ReportOptions { allow_cut, ipv6: false })
+}
+
+/// What a report is asked for: `ReportOptions::new().ipv6(true)`.
+#[derive(Clone, Copy, Debug, Default, PartialEq, Eq)]
+pub struct ReportOptions {
+    allow_cut: bool,
+    ipv6: bool,
+}
+
+impl ReportOptions {
+    /// A report of whole captures, which reads IPv4 packets.
+    pub fn new() -> ReportOptions {
+        ReportOptions::default()
+    }
+
+    /// Whether a last record or block that is cut off is dropped.
+    pub fn allow_cut(self, allow_cut: bool) -> ReportOptions {
+        ReportOptions { allow_cut, ..self }
+    }
+
+    /// Whether the report also has the conversations of IPv6 packets, and the count `not-ip` in place of `not-ipv4`.
+    pub fn ipv6(self, ipv6: bool) -> ReportOptions {
+        ReportOptions { ipv6, ..self }
+    }
+}
+
+/// The report over 1 to 32 captures that is asked for.
+pub fn report_with(files: &[&[u8]], options: ReportOptions) -> Result<String, Error> {
     let raw = files_of(files);
-    made(|text, place| unsafe { capt_report(raw.as_ptr(), raw.len(), allow_cut, text, place) }).map(lines)
+    let flags = cut(options.allow_cut) | if options.ipv6 { IPV6 } else { 0 };
+    made(|text, place| unsafe { capt_report(raw.as_ptr(), raw.len(), flags, text, place) }).map(lines)
 }
 
 /// A format of captures.
@@ -548,20 +599,37 @@ pub enum Order {
     Big,
 }
 
+// The flags for a file that is written.
+fn form(to: Format, order: Order, allow_cut: bool) -> u32 {
+    let format = if to == Format::Pcap { TO_PCAP } else { 0 };
+    let order = if order == Order::Big { BIG } else { 0 };
+    cut(allow_cut) | format | order
+}
+
 /// A capture as a file of a format.
 pub fn convert(file: &[u8], to: Format, order: Order, allow_cut: bool) -> Result<Vec<u8>, Error> {
-    let (pcap, big) = (to == Format::Pcap, order == Order::Big);
-    made(|text, place| unsafe { capt_convert(file.as_ptr(), file.len(), allow_cut, pcap, big, text, place) })
+    let flags = form(to, order, allow_cut);
+    made(|text, place| unsafe { capt_convert(file.as_ptr(), file.len(), flags, text, place) })
 }
 
 /// 1 to 32 captures as one pcapng file, sorted by exact time.
 pub fn merge(files: &[&[u8]], order: Order, allow_cut: bool) -> Result<Vec<u8>, Error> {
-    let raw = files_of(files);
-    made(|text, place| unsafe { capt_merge(raw.as_ptr(), raw.len(), allow_cut, order == Order::Big, text, place) })
+    merge_to(files, Format::Pcapng, order, allow_cut)
+}
+
+/// The same as one file of a format.
+pub fn merge_to(files: &[&[u8]], to: Format, order: Order, allow_cut: bool) -> Result<Vec<u8>, Error> {
+    let (raw, flags) = (files_of(files), form(to, order, allow_cut));
+    made(|text, place| unsafe { capt_merge(raw.as_ptr(), raw.len(), flags, text, place) })
 }
 
 /// The whole IPv4 datagrams of 1 to 32 captures, fragments joined, as one pcapng file.
 pub fn join(files: &[&[u8]], order: Order, allow_cut: bool) -> Result<Vec<u8>, Error> {
-    let raw = files_of(files);
-    made(|text, place| unsafe { capt_join(raw.as_ptr(), raw.len(), allow_cut, order == Order::Big, text, place) })
+    join_to(files, Format::Pcapng, order, allow_cut)
+}
+
+/// The same as one file of a format.
+pub fn join_to(files: &[&[u8]], to: Format, order: Order, allow_cut: bool) -> Result<Vec<u8>, Error> {
+    let (raw, flags) = (files_of(files), form(to, order, allow_cut));
+    made(|text, place| unsafe { capt_join(raw.as_ptr(), raw.len(), flags, text, place) })
 }

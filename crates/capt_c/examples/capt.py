@@ -6,6 +6,7 @@ import sys
 U8P = C.POINTER(C.c_uint8)
 ROOM = 1024
 REFUSED = "refused: file %d offset %d rule %d"
+ALLOW_CUT, BIG, TO_PCAP, IPV6 = 1, 2, 4, 8
 
 
 class Place(C.Structure):
@@ -39,10 +40,10 @@ class Fault(Exception):
 
 lib = C.CDLL(sys.argv[1] if __name__ == "__main__" else "./libcapt.so")
 for name, types in {
-    "capt_open": [C.POINTER(Reader), C.c_char_p, C.c_size_t, C.c_bool],
+    "capt_open": [C.POINTER(Reader), C.c_char_p, C.c_size_t, C.c_uint32],
     "capt_next": [C.POINTER(Reader), C.POINTER(Packet), C.POINTER(Place)],
     "capt_next_many": [C.POINTER(Reader), C.POINTER(Packet), C.c_size_t, C.POINTER(C.c_size_t), C.POINTER(Place)],
-    "capt_report": [C.POINTER(Bytes), C.c_size_t, C.c_bool, C.POINTER(Text), C.POINTER(Place)],
+    "capt_report": [C.POINTER(Bytes), C.c_size_t, C.c_uint32, C.POINTER(Text), C.POINTER(Place)],
 }.items():
     getattr(lib, name).argtypes = types
     getattr(lib, name).restype = C.c_uint32
@@ -51,10 +52,10 @@ lib.capt_text_close.argtypes = [C.POINTER(Text)]
 lib.capt_close.restype = lib.capt_text_close.restype = None
 
 
-def packets(data, allow_cut=False):
+def packets(data, flags=0):
     """The packets of a capture in memory; its bytes are good until the next is asked for, or copy them."""
     reader, place = Reader(), Place()
-    if lib.capt_open(reader, data, len(data), allow_cut) != 0:
+    if lib.capt_open(reader, data, len(data), flags) != 0:
         raise MemoryError
     try:
         step = lib.capt_next_many
@@ -68,11 +69,11 @@ def packets(data, allow_cut=False):
         lib.capt_close(reader)
 
 
-def report(*files, allow_cut=False):
+def report(*files, flags=0):
     table = (Bytes * len(files))(*[Bytes(f, len(f)) for f in files])
     text, place = Text(), Place()
     try:
-        status = lib.capt_report(table, len(files), allow_cut, text, place)
+        status = lib.capt_report(table, len(files), flags, text, place)
         if status:
             raise Fault(REFUSED % (place.file, place.offset, place.rule))
         return C.string_at(text.at, text.len).decode()

@@ -16,7 +16,7 @@ struct RawPacket {
 struct RawReader { at: *mut c_void, is_open: bool }
 
 extern "C" {
-    fn capt_open(reader: &mut RawReader, at: *const u8, len: usize, allow_cut: bool) -> u32;
+    fn capt_open(reader: &mut RawReader, at: *const u8, len: usize, flags: u32) -> u32;
     fn capt_next(reader: &mut RawReader, packet: *mut RawPacket, place: &mut Place) -> u32;
     fn capt_close(reader: &mut RawReader);
 }
@@ -33,7 +33,7 @@ pub struct Reader<'b> { raw: Box<RawReader>, bytes: PhantomData<&'b [u8]> }
 impl<'b> Reader<'b> {
     pub fn new(bytes: &'b [u8], allow_cut: bool) -> Option<Reader<'b>> {
         let mut raw = Box::new(RawReader { at: std::ptr::null_mut(), is_open: false });
-        match unsafe { capt_open(&mut raw, bytes.as_ptr(), bytes.len(), allow_cut) } { 0 => Some(Reader { raw, bytes: PhantomData }), _ => None }
+        match unsafe { capt_open(&mut raw, bytes.as_ptr(), bytes.len(), allow_cut as u32) } { 0 => Some(Reader { raw, bytes: PhantomData }), _ => None }
     }
     pub fn next(&mut self) -> Result<Option<Packet<'_>>, Refused> {
         let mut p: RawPacket = unsafe { std::mem::zeroed() };

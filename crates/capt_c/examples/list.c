@@ -75,14 +75,16 @@ static int packets(capt_reader *r) {
 int main(int argc, char **argv) {
     if (argc < 3) return 2;
     const char *what = argv[1];
-    bool cut = false; int first = 2;
-    if (strcmp(argv[2], "--allow-cut") == 0) { cut = true; first = 3; }
+    uint32_t flags = 0; int first = 2;
+    if (strcmp(argv[2], "--allow-cut") == 0) { flags = CAPT_ALLOW_CUT; first = 3; }
+    if (strcmp(argv[2], "--ipv6") == 0) { flags = CAPT_IPV6; first = 3; }
+    if (first == argc) return 2;
     capt_text text = {0}; capt_place place = {0}; uint32_t s;
     if (strcmp(what, "many") == 0) { many = true; what = "packets"; }
     if (strcmp(what, "packets") == 0) {
         capt_reader r = {0};
         capt_bytes b = map(argv[first]);
-        if (capt_open(&r, b.at, b.len, cut) != CAPT_DONE) return 1;
+        if (capt_open(&r, b.at, b.len, flags) != CAPT_DONE) return 1;
         int code = packets(&r);
         capt_close(&r); capt_close(&r);
         capt_packet p;
@@ -94,7 +96,7 @@ int main(int argc, char **argv) {
         capt_reader r = {0};
         int fd = open(argv[first], O_RDONLY);
         dup2(fd, 0);
-        if (capt_open_stdin(&r, cut) != CAPT_DONE) return 1;
+        if (capt_open_stdin(&r, flags) != CAPT_DONE) return 1;
         int code = packets(&r);
         capt_close(&r);
         return code;
@@ -102,14 +104,14 @@ int main(int argc, char **argv) {
     size_t count = (size_t)(argc - first);
     capt_bytes *files = malloc(count * sizeof *files);
     for (size_t i = 0; i < count; i++) files[i] = map(argv[first + (int)i]);
-    if (strcmp(what, "report") == 0) s = capt_report(files, count, cut, &text, &place);
-    else if (strcmp(what, "info") == 0) s = capt_info(files, count, cut, &text, &place);
-    else if (strcmp(what, "merge") == 0) s = capt_merge(files, count, cut, false, &text, &place);
-    else if (strcmp(what, "join") == 0) s = capt_join(files, count, cut, false, &text, &place);
-    else if (strcmp(what, "list") == 0) s = capt_list(files[0].at, files[0].len, cut, &text, &place);
-    else if (strcmp(what, "blocks") == 0) s = capt_blocks(files[0].at, files[0].len, cut, &text, &place);
-    else if (strcmp(what, "convert") == 0) s = capt_convert(files[0].at, files[0].len, cut, false, false, &text, &place);
-    else if (strcmp(what, "convert-pcap") == 0) s = capt_convert(files[0].at, files[0].len, cut, true, false, &text, &place);
+    if (strcmp(what, "report") == 0) s = capt_report(files, count, flags, &text, &place);
+    else if (strcmp(what, "info") == 0) s = capt_info(files, count, flags, &text, &place);
+    else if (strcmp(what, "merge") == 0) s = capt_merge(files, count, flags, &text, &place);
+    else if (strcmp(what, "join") == 0) s = capt_join(files, count, flags, &text, &place);
+    else if (strcmp(what, "list") == 0) s = capt_list(files[0].at, files[0].len, flags, &text, &place);
+    else if (strcmp(what, "blocks") == 0) s = capt_blocks(files[0].at, files[0].len, flags, &text, &place);
+    else if (strcmp(what, "convert") == 0) s = capt_convert(files[0].at, files[0].len, flags, &text, &place);
+    else if (strcmp(what, "convert-pcap") == 0) s = capt_convert(files[0].at, files[0].len, flags | CAPT_TO_PCAP, &text, &place);
     else return 2;
     fwrite(text.at, 1, text.len, stdout);
     int code = told(s, place);

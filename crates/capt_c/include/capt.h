@@ -7,7 +7,8 @@
  *
  * * Handles. A capt_reader, a capt_table or a capt_text belongs to you. Set it to {0} before its first call, let only
  * the library change it, don't copy it, and close it. Closing sets it to {0} again; closing it twice does nothing. A
- * call that fills a handle closes first what it held. A call that opens a handle leaves {0} if it returns CAPT_MEMORY.
+ * call that fills a handle closes first what it held. A call that opens a handle leaves {0} if it returns CAPT_MEMORY,
+ * and what was there if it returns CAPT_MISUSE.
  *
  * * Threads. One call at a time with a handle. Calls with different handles may run at once, also over the same bytes.
  *
@@ -15,6 +16,9 @@
  * capt_close(NULL) is a fault. The library only reads the bytes that you give. Those of capt_open and capt_table_open
  * stay where and as they are until capt_close; those of the other calls, of capt_feed too, until the call returns. A
  * `len` is at most PTRDIFF_MAX, and so is the size in bytes of an array.
+ *
+ * * Flags. A call's `flags` are 0, or flags of enum capt_flag that its comment lists, as CAPT_ALLOW_CUT | CAPT_BIG.
+ * With any other bit, even one that no call takes so far, the call returns CAPT_MISUSE and does nothing.
  *
  * * Objects. The objects that you pass to one call overlap neither each other nor what its handles hold: don't feed a
  * frame to the reader that lent it. A call that returns CAPT_MISUSE changes none of them.
@@ -25,7 +29,7 @@
  * table holds what a reader holds for each of its files, and besides at most 1,024 groups of fragments and 1,048,576
  * conversations. A call that makes a text holds the whole text.
  *
- * * Stack. A call takes at most 48 KiB of stack. capt_table_open takes the most: it was measured to take 39 KiB.
+ * * Stack. A call takes at most 48 KiB of stack. capt_join takes the most: it was measured to take 40 KiB.
  *
  * * No call is to be made from a signal handler. */
 #ifndef CAPT_H
@@ -34,6 +38,10 @@
 #include <stdbool.h>
 #include <stddef.h>
 #include <stdint.h>
+
+/* The version of this header: 10,000 times its first part, 100 times its second, and its third. The library's own is
+ * capt_version_number(). */
+#define CAPT_VERSION_NUMBER 10000
 
 #ifdef __cplusplus
 extern "C" {
@@ -46,9 +54,53 @@ enum capt_status {
     CAPT_REFUSED = 2, /* a capture breaks a rule: capt_place says which, and where */
     CAPT_READ = 3,    /* a read of standard input failed: capt_place says where */
     CAPT_MEMORY = 5,  /* malloc or realloc returned NULL */
-    CAPT_MISUSE = 6,  /* the handle isn't open or is of other calls, there are no files or more than 32, or no room for
-                         a packet */
+    CAPT_MISUSE = 6,  /* the handle isn't open or is of other calls, there are no files or more than 32, there is no
+                         room for a packet, or the call doesn't take a flag */
     CAPT_MORE = 7     /* of a reader that is fed: more bytes are wanted to tell what comes next */
+};
+
+/* What a call is asked for. */
+enum capt_flag {
+    CAPT_ALLOW_CUT = 1, /* a last record or block that is cut off is dropped; without it, it is refused */
+    CAPT_BIG = 2,       /* the numbers of what is written are big-endian; without it, little-endian */
+    CAPT_TO_PCAP = 4,   /* a pcap file is written; without it, a pcapng file of one section */
+    CAPT_IPV6 = 8       /* a report also has the conversations of IPv6, and `not-ip` in place of `not-ipv4` */
+};
+
+/* The rules that a capture can break (docs/RULES.md); capt_rule_name has their names. A later version may have more. */
+enum capt_rule {
+    CAPT_RULE_MAGIC = 1,
+    CAPT_RULE_VERSION = 2,
+    CAPT_RULE_CUT = 3,
+    CAPT_RULE_PACKET_LONG = 4,
+    CAPT_RULE_BLOCK_LENGTH = 5,
+    CAPT_RULE_BLOCK_TRAILER = 6,
+    CAPT_RULE_ORDER_MAGIC = 7,
+    CAPT_RULE_CAPTURED = 8,
+    CAPT_RULE_INTERFACE_UNKNOWN = 9,
+    CAPT_RULE_OPTION_END = 10,
+    CAPT_RULE_OPTION_LENGTH = 11,
+    CAPT_RULE_RESOLUTION = 12,
+    CAPT_RULE_INTERFACE_LIMIT = 13,
+    CAPT_RULE_FILE_LIMIT = 14,
+    CAPT_RULE_OPEN_LIMIT = 15,
+    CAPT_RULE_TALK_LIMIT = 16,
+    CAPT_RULE_NO_TIME = 17,
+    CAPT_RULE_LINK_MIXED = 18,
+    CAPT_RULE_INEXACT = 19,
+    CAPT_RULE_TIME_RANGE = 20,
+    CAPT_RULE_NO_INTERFACE = 21
+};
+
+/* The link types, of the LINKTYPE registry, whose frames capt_report and capt_join look into. A packet can have any
+ * other. */
+enum capt_link {
+    CAPT_LINK_ETHERNET = 1,
+    CAPT_LINK_RAW = 101,
+    CAPT_LINK_LINUX_SLL = 113,
+    CAPT_LINK_IPV4 = 228,
+    CAPT_LINK_IPV6 = 229, /* only with CAPT_IPV6 */
+    CAPT_LINK_LINUX_SLL2 = 276
 };
 
 /* Where a capture is refused, or where a read failed. All are 0 after any other status but CAPT_MISUSE, which leaves
@@ -56,7 +108,7 @@ enum capt_status {
 typedef struct {
     uint64_t offset; /* where the header, the record or the block begins, in bytes */
     uint32_t file;   /* the number of the file, from 1 */
-    uint32_t rule;   /* the rule that is broken, from 1 to 21; 0 after CAPT_READ */
+    uint32_t rule;   /* the rule that is broken, from 1 to 21, of enum capt_rule; 0 after CAPT_READ */
 } capt_place;
 
 /* A packet. Its time is exactly seconds + numerator/denominator since 1970-01-01 00:00 UTC, in the unit of its
@@ -79,7 +131,7 @@ typedef struct {
 typedef struct {
     uint64_t skipped; /* how many blocks are neither sections, interfaces nor packets; 0 in a pcap file */
     bool is_pcapng;   /* whether it is a pcapng file, and no pcap file */
-    bool was_cut;     /* whether a cut rest was dropped, as allow_cut asks */
+    bool was_cut;     /* whether a cut rest was dropped, as CAPT_ALLOW_CUT asks */
 } capt_ending;
 
 /* A capture that is read packet by packet. */
@@ -106,18 +158,18 @@ typedef struct {
     size_t len;
 } capt_bytes;
 
-/* Opens the capture of those bytes. With allow_cut a last record or block that is cut off is dropped; without it, it is
- * refused. Nothing is read yet. The calls for its packets copy the bytes part by part into what the reader holds.
- * CAPT_DONE, or CAPT_MEMORY. */
-uint32_t capt_open(capt_reader *reader, const uint8_t *at, size_t len, bool allow_cut);
+/* Opens the capture of those bytes. Flags: CAPT_ALLOW_CUT. Nothing is read yet. The calls for its packets copy the
+ * bytes part by part into what the reader holds. CAPT_DONE, CAPT_MEMORY or CAPT_MISUSE. */
+uint32_t capt_open(capt_reader *reader, const uint8_t *at, size_t len, uint32_t flags);
 
 /* The same of standard input, read by read(2) until capt_close, past any buffer of <stdio.h>. Any error of read(2) ends
- * it with CAPT_READ, EINTR and EAGAIN too: no read is made again. */
-uint32_t capt_open_stdin(capt_reader *reader, bool allow_cut);
+ * it with CAPT_READ, EINTR and EAGAIN too: no read is made again, unlike those of capt_file.h. Flags:
+ * CAPT_ALLOW_CUT. */
+uint32_t capt_open_stdin(capt_reader *reader, uint32_t flags);
 
-/* Opens a capture whose bytes you feed, in pieces cut anywhere, as they come out of a pipe or a socket. CAPT_DONE, or
- * CAPT_MEMORY. */
-uint32_t capt_open_fed(capt_reader *reader, bool allow_cut);
+/* Opens a capture whose bytes you feed, in pieces cut anywhere, as they come out of a pipe or a socket. Flags:
+ * CAPT_ALLOW_CUT. CAPT_DONE, CAPT_MEMORY or CAPT_MISUSE. */
+uint32_t capt_open_fed(capt_reader *reader, uint32_t flags);
 
 /* Feeds the next bytes of it, which are copied; the frame of the last packet goes. CAPT_DONE; CAPT_MEMORY, after which
  * nothing was fed; or CAPT_MISUSE after capt_feed_end, or if the reader isn't one of capt_open_fed. Ask for packets
@@ -146,9 +198,9 @@ uint32_t capt_end(capt_reader *reader, capt_ending *ending);
 /* Lets go what the reader, or the table, holds. */
 void capt_close(capt_reader *reader);
 
-/* The report of capt_report step by step, in bounded memory. Opens a table of 1 to 32 captures, with allow_cut as of
- * capt_open. CAPT_DONE, CAPT_MEMORY or CAPT_MISUSE. */
-uint32_t capt_table_open(capt_table *table, const capt_bytes *files, size_t count, bool allow_cut);
+/* The report of capt_report step by step, in bounded memory. Opens a table of 1 to 32 captures. Flags: CAPT_ALLOW_CUT
+ * and CAPT_IPV6. CAPT_DONE, CAPT_MEMORY or CAPT_MISUSE. */
+uint32_t capt_table_open(capt_table *table, const capt_bytes *files, size_t count, uint32_t flags);
 
 /* Takes the packet that comes next in the order of exact time. CAPT_PACKET; CAPT_DONE or CAPT_REFUSED, each of which
  * every further call returns again; or CAPT_MEMORY, after which nothing was taken, and the call may be made again. */
@@ -158,23 +210,22 @@ uint32_t capt_table_step(capt_table *table, capt_place *place);
  * no packet was taken has the format `-`, and no line says `cut`. CAPT_DONE, CAPT_MEMORY or CAPT_MISUSE. */
 uint32_t capt_table_write(capt_table *table, capt_text *text, capt_place *place);
 
-/* What the commands of the program capt print, of one file or of 1 to 32 files, byte for byte. CAPT_DONE, CAPT_REFUSED
- * or CAPT_MEMORY; CAPT_MISUSE for no file or more than 32. After CAPT_REFUSED the text of list, blocks, convert, merge
- * and join is what stands before the refusal, and that of report and info is empty. After CAPT_MEMORY it is what was
- * made before, or {0}. */
-uint32_t capt_list(const uint8_t *at, size_t len, bool allow_cut, capt_text *text, capt_place *place);
-uint32_t capt_blocks(const uint8_t *at, size_t len, bool allow_cut, capt_text *text, capt_place *place);
-uint32_t capt_info(const capt_bytes *files, size_t count, bool allow_cut, capt_text *text, capt_place *place);
-uint32_t capt_report(const capt_bytes *files, size_t count, bool allow_cut, capt_text *text, capt_place *place);
+/* What the commands of the program capt print for one file or for 1 to 32 files, byte for byte. Flags: CAPT_ALLOW_CUT,
+ * and for capt_report also CAPT_IPV6. CAPT_DONE, CAPT_REFUSED or CAPT_MEMORY; CAPT_MISUSE for no file or more than 32.
+ * After CAPT_REFUSED the text of capt_list and capt_blocks is what is printed before the refusal, and that of capt_info
+ * and capt_report is empty. After CAPT_MEMORY it is what was made before, or {0}. */
+uint32_t capt_list(const uint8_t *at, size_t len, uint32_t flags, capt_text *text, capt_place *place);
+uint32_t capt_blocks(const uint8_t *at, size_t len, uint32_t flags, capt_text *text, capt_place *place);
+uint32_t capt_info(const capt_bytes *files, size_t count, uint32_t flags, capt_text *text, capt_place *place);
+uint32_t capt_report(const capt_bytes *files, size_t count, uint32_t flags, capt_text *text, capt_place *place);
 
-/* A capture as a pcap file (`pcap`) or as a pcapng file of one section, and 1 to 32 captures merged or joined as one
- * pcapng file: with big-endian numbers (`big`) or little-endian ones. They return what those above return. */
-uint32_t capt_convert(const uint8_t *at, size_t len, bool allow_cut, bool pcap, bool big, capt_text *text,
-                      capt_place *place);
-uint32_t capt_merge(const capt_bytes *files, size_t count, bool allow_cut, bool big, capt_text *text,
-                    capt_place *place);
-uint32_t capt_join(const capt_bytes *files, size_t count, bool allow_cut, bool big, capt_text *text,
-                   capt_place *place);
+/* What the commands convert, merge and join write: a capture in the other format or in the same, and 1 to 32 captures
+ * as one, with their packets in the order of exact time or with their IPv4 datagrams. Flags: CAPT_ALLOW_CUT, CAPT_BIG
+ * and CAPT_TO_PCAP. They return what those above return. After CAPT_REFUSED the text is what is written before the
+ * refusal. */
+uint32_t capt_convert(const uint8_t *at, size_t len, uint32_t flags, capt_text *text, capt_place *place);
+uint32_t capt_merge(const capt_bytes *files, size_t count, uint32_t flags, capt_text *text, capt_place *place);
+uint32_t capt_join(const capt_bytes *files, size_t count, uint32_t flags, capt_text *text, capt_place *place);
 
 /* Lets go a text. */
 void capt_text_close(capt_text *text);
@@ -183,10 +234,13 @@ void capt_text_close(capt_text *text);
  * text is. capt_error_text puts the line that capt prints for CAPT_REFUSED, CAPT_READ or CAPT_MEMORY, with its end, as
  * "refused: file 1 offset 24 rule 6 block-trailer\n". For every other status of enum capt_status, CAPT_MISUSE too, and
  * for CAPT_REFUSED with no rule in `place`, it puts nothing and returns 0. capt_rule_name puts the name of a rule, as
- * "block-trailer", or returns 0 if there is no such rule; capt_version puts the version of the library. */
+ * "block-trailer", or returns 0 if there is no such rule; capt_version puts the version of the library, as "1.0.0". */
 size_t capt_error_text(uint32_t status, const capt_place *place, uint8_t *buffer, size_t room);
 size_t capt_rule_name(uint32_t rule, uint8_t *buffer, size_t room);
 size_t capt_version(uint8_t *buffer, size_t room);
+
+/* The version of the library as a number, in the form of CAPT_VERSION_NUMBER. */
+uint32_t capt_version_number(void);
 
 #ifdef __cplusplus
 }

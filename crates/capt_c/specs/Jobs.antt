@@ -1,21 +1,27 @@
 -- What the calls make of files in memory.
-use Rattle.std.specs.Prelude.{◌≡◌, ◌≤◌, ℕ, List, [], length, map, Option, Some, None, Result, Ok, Err, ⊤}
+use Rattle.std.specs.Prelude.{◌≡◌, ◌≤◌, ℕ, List, [], length, map, Option, Some, None, IfSome, Result, Ok, Err, ⊤}
+use Rattle.std.specs.Prelude.{false}
 use Rattle.cap_bytes.specs.Printing.{Prints}
 use Rattle.cap_bytes.specs.declared.faults.Fault.{Fault}
 use Rattle.cap_bytes.specs.declared.faults.Fault.TheVariants.{Refused, Read, Write, Memory}
-use Rattle.cap_bytes.specs.declared.faults.Tail.{Tail}
 use Rattle.cap_merge.specs.Files.{clocked_run, endings_of_files}
 use Rattle.cap_talks.specs.talks.InfoText.{first_refusal, info_text}
-use Rattle.cap_talks.specs.talks.ReportText.{report_refusal, report_text}
+use Rattle.cap_print.specs.declared.forms.Form.TheVariants as forms
+use Rattle.cap_print.specs.declared.forms.TimeForm.TheVariants.{Exact}
+use Rattle.cap_talks.specs.talks.ReportText.{report_refusal_for, report_text_for}
 use Rattle.cap_talks.specs.talks.Telling.{Tells}
 use Rattle.cap_commands.specs.BlockText.{block_list, block_refusal}
 use Rattle.cap_commands.specs.Converted.{convert_refusal, convert_text}
-use Rattle.cap_commands.specs.JoinText.{join_refusal, join_text}
+use Rattle.cap_commands.specs.Jobs.{tail_of}
+use Rattle.cap_commands.specs.JoinText.{join_refusal_in, join_text_in}
 use Rattle.cap_commands.specs.ListText.{list_refusal, list_text}
-use Rattle.cap_commands.specs.MergeText.{merge_refusal, merge_text}
-use Rattle.cap_commands.specs.RunText.{output_format}
-use Rattle.capt_c.specs.Answers.{nowhere, place_of_result, status_of_result, status_of_unit}
+use Rattle.cap_commands.specs.MergeText.{merge_refusal_in, merge_text_in}
+use Rattle.cap_commands.specs.RunText.{output_format, run_form}
+use Rattle.cap_commands.specs.declared.counting.OutputFormat.{OutputFormat}
+use Rattle.capt_c.specs.Answers.{format_of, nowhere, order_of, place_of_result, status_of_result, status_of_unit}
+use Rattle.capt_c.specs.Flags.{cut_alone, cut_and_form, cut_and_ipv6, flags_taken}
 use Rattle.capt_c.specs.declared.answers.CPlace.{CPlace}
+use Rattle.capt_c.specs.declared.flags.Flags.{Flags}
 use Rattle.capt_c.specs.declared.handles.HandleValue.{HandleValue}
 use Rattle.capt_c.specs.declared.handles.HandleValue.TheVariants as helds
 use denote.RawPtr.{null_ptr}
@@ -70,35 +76,63 @@ AreFiles count = (1 ≤ count) × (count ≤ 32)
 abbrev pub HasFiles : TextTask → Type 0
 HasFiles (tasks.List bytes) = ⊤
 HasFiles (tasks.Blocks bytes) = ⊤
-HasFiles (tasks.Convert bytes order format) = ⊤
+HasFiles (tasks.Convert bytes) = ⊤
 HasFiles (tasks.Info files) = AreFiles (length files.now)
 HasFiles (tasks.Report files) = AreFiles (length files.now)
-HasFiles (tasks.Merge files order) = AreFiles (length files.now)
-HasFiles (tasks.Join files order) = AreFiles (length files.now)
+HasFiles (tasks.Merge files) = AreFiles (length files.now)
+HasFiles (tasks.Join files) = AreFiles (length files.now)
 
--- What a task writes and returns is what the command of its name does.
-abbrev pub Makes : TextTask → Tail → List ℕ → Result Unit Fault → List ℕ → Type 0
-Makes (tasks.List bytes) tail = Prints (list_text tail bytes.now) (list_refusal tail bytes.now)
-Makes (tasks.Blocks bytes) tail = Prints (block_list tail bytes.now) (block_refusal tail bytes.now)
-Makes (tasks.Convert bytes order format) tail =
-    Prints (convert_text (output_format format None) order tail bytes.now)
-    (convert_refusal (output_format format None) tail bytes.now)
-Makes (tasks.Info files) tail =
-    Tells (info_text tail (map file_bytes files.now)) (first_refusal tail 1 (map file_bytes files.now))
-Makes (tasks.Report files) tail =
-    Tells (report_text (length files.now) (endings_of_files tail (map file_bytes files.now))
-    (clocked_run tail (map file_bytes files.now))) (report_refusal (clocked_run tail (map file_bytes files.now)))
-Makes (tasks.Merge files order) tail =
-    Prints (merge_text order tail (map file_bytes files.now)) (merge_refusal tail (map file_bytes files.now))
-Makes (tasks.Join files order) tail =
-    Prints (join_text order tail (map file_bytes files.now)) (join_refusal tail (map file_bytes files.now))
+-- the flags that the call for a task takes
+abbrev pub takes_of : TextTask → Flags
+takes_of (tasks.List bytes) = cut_alone
+takes_of (tasks.Blocks bytes) = cut_alone
+takes_of (tasks.Info files) = cut_alone
+takes_of (tasks.Report files) = cut_and_ipv6
+takes_of (tasks.Convert bytes) = cut_and_form
+takes_of (tasks.Merge files) = cut_and_form
+takes_of (tasks.Join files) = cut_and_form
 
--- What a call returns and leaves that makes the text of a task: the text, and how the task ended, and no read fails. If
--- the task lacks its files, the call is misused and changes nothing. `was` and `from` are the caller's text and place
--- before it.
-pub record ShowsTask (task : TextTask) (tail : Tail) (was : Text) (from : CPlace) (status : ℕ) (text : Text)
+-- the format that the flags ask for: a pcap file has the unit of time to which its first interface leads
+abbrev pub format_asked : Flags → OutputFormat
+format_asked flags = output_format (format_of flags.to_pcap) None
+
+-- A task writes and returns what the command of its name does, if that is asked for what the flags ask for.
+abbrev pub Makes : TextTask → Flags → List ℕ → Result Unit Fault → List ℕ → Type 0
+Makes (tasks.List bytes) flags =
+    Prints (list_text (tail_of flags.allow_cut) bytes.now) (list_refusal (tail_of flags.allow_cut) bytes.now)
+Makes (tasks.Blocks bytes) flags =
+    Prints (block_list (tail_of flags.allow_cut) bytes.now) (block_refusal (tail_of flags.allow_cut) bytes.now)
+Makes (tasks.Convert bytes) flags =
+    Prints (convert_text (format_asked flags) (order_of flags.big) (tail_of flags.allow_cut) bytes.now)
+    (convert_refusal (format_asked flags) (tail_of flags.allow_cut) bytes.now)
+Makes (tasks.Info files) flags =
+    Tells (info_text (tail_of flags.allow_cut) (map file_bytes files.now))
+    (first_refusal (tail_of flags.allow_cut) 1 (map file_bytes files.now))
+Makes (tasks.Report files) flags =
+    Tells (report_text_for flags.ipv6 (forms.Text Exact) (length files.now)
+    (endings_of_files (tail_of flags.allow_cut) (map file_bytes files.now))
+    (clocked_run (tail_of flags.allow_cut) (map file_bytes files.now)))
+    (report_refusal_for flags.ipv6 (clocked_run (tail_of flags.allow_cut) (map file_bytes files.now)))
+Makes (tasks.Merge files) flags =
+    Prints (merge_text_in (run_form false (format_asked flags)) (order_of flags.big) (tail_of flags.allow_cut)
+    (map file_bytes files.now))
+    (merge_refusal_in (run_form false (format_asked flags)) (tail_of flags.allow_cut) (map file_bytes files.now))
+Makes (tasks.Join files) flags =
+    Prints (join_text_in (format_asked flags) (order_of flags.big) (tail_of flags.allow_cut) (map file_bytes files.now))
+    (join_refusal_in (format_asked flags) (tail_of flags.allow_cut) (map file_bytes files.now))
+
+-- A call that is misused returns 6, and leaves the caller's text and place as they were.
+abbrev pub ShowsNothing : ℕ → Text → CPlace → Text → CPlace → Type 0
+ShowsNothing status was from text place = (status ≡ 6) × (text ≡ was) × (place ≡ from)
+
+-- What a call returns and leaves that makes the text of a task with the flags that it is passed: the text, and how the
+-- task ended, and no read fails. If the task lacks its files, or the call doesn't take a flag, the call is misused.
+-- `was` and `from` are the caller's text and place before it.
+pub record ShowsTask (task : TextTask) (flags : ℕ) (was : Text) (from : CPlace) (status : ℕ) (text : Text)
     (place : CPlace)
     : Type 0 where
-  pub shown : HasFiles task → JobEnds (Makes task tail) status place text
+  pub shown : HasFiles task
+      → IfSome (flags_taken (takes_of task) flags) (λ set. JobEnds (Makes task set) status place text)
   pub read : status ≡ 3 → ⊥
-  pub misuse : (HasFiles task → ⊥) → (status ≡ 6) × (text ≡ was) × (place ≡ from)
+  pub misuse : (HasFiles task → ⊥) → ShowsNothing status was from text place
+  pub untaken : flags_taken (takes_of task) flags ≡ None → ShowsNothing status was from text place

@@ -1,4 +1,5 @@
 pub mod Answers
+pub mod Flags
 pub mod HandleValue
 pub mod Sources
 pub mod Packets

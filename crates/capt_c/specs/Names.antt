@@ -1,5 +1,5 @@
 -- What a call that puts a text into a caller's buffer does.
-use Rattle.std.specs.Prelude.{◌≡◌, ℕ, List, ◌++◌, length, take, drop}
+use Rattle.std.specs.Prelude.{◌≡◌, ◌==◌, ◌+◌, ◌*◌, ◌-◌, ℕ, List, [], ◌∷◌, ◌++◌, length, take, drop, if◌then◌else◌}
 use Rattle.cap_bytes.specs.Rules.{rule_number, rule_name}
 use Rattle.cap_bytes.specs.declared.faults.Fault.{Fault}
 use Rattle.cap_bytes.specs.declared.faults.Fault.TheVariants.{Refused, Read, Write, Memory}
@@ -24,3 +24,15 @@ TellsFault status place (Refused refusal) =
 TellsFault status place (Read file offset) = (status ≡ 3) × (file ≡ place.file) × (offset ≡ place.offset)
 TellsFault status place Write = status ≡ 4
 TellsFault status place Memory = status ≡ 5
+
+-- The number of a version of which these characters are still to be read. A full stop (46) ends a part, and each part
+-- is two digits of the number. `parts` is the number of the parts before, and `part` what was read of this one.
+abbrev pub version_number_behind : ℕ → ℕ → List ℕ → ℕ
+version_number_behind parts part [] = parts * 100 + part
+version_number_behind parts part (c ∷ cs) =
+    if c == 46 then version_number_behind (parts * 100 + part) 0 cs
+    else version_number_behind parts (part * 10 + (c - 48)) cs
+
+-- a version as a number
+abbrev pub version_number : List ℕ → ℕ
+version_number version = version_number_behind 0 0 version

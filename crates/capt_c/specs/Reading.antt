@@ -18,6 +18,8 @@ use Rattle.cap_source.specs.declared.feeds.Head.{Head}
 use Rattle.cap_source.specs.declared.feeds.Head.TheVariants as heads
 use Rattle.cap_bytes.specs.declared.formats.Format.{Format}
 use Rattle.cap_bytes.specs.declared.formats.Format.TheVariants.{Pcap, Pcapng}
+use Rattle.capt_c.specs.declared.flags.Flags.{Flags}
+use Rattle.capt_c.specs.declared.handles.Handle.{Handle}
 use Rattle.capt_c.specs.declared.handles.HandleValue.{HandleValue}
 use Rattle.capt_c.specs.declared.handles.HandleValue.TheVariants as helds
 use Rattle.capt_c.specs.declared.packets.CPacket.{CPacket}
@@ -43,6 +45,12 @@ OpensCapture feed tail told bytes can_fail status (Some (helds.Fed f)) = ⊥
 OpensCapture feed tail told bytes can_fail status (Some (helds.Capture c)) =
     (status ≡ 0) × ((feed c).known ≡ None) × ((feed c).files ≡ 1 ∷ []) × ((feed c).told ≡ told)
     × ((feed c).items ≡ file_items tail 1 bytes) × ((feed c).can_fail 1 ≡ can_fail)
+
+-- A call that opens a handle does so with the flags that it is passed, if it takes them. Else it is misused: it returns
+-- 6, and leaves the handle as it was.
+abbrev pub OpensWith : Option Flags → (Flags → Type 0) → ℕ → Handle → Handle → Type 0
+OpensWith None Opens status was new = (status ≡ 6) × (new ≡ was)
+OpensWith (Some flags) Opens status was new = Opens flags
 
 -- A call that is misused returns 6, and leaves the handle and the caller's object as they were.
 abbrev pub Misused : {X : Type 0} → ℕ → Option HandleValue → Option HandleValue → X → X → Type 0

@@ -1,5 +1,5 @@
 -- What the calls do to a table that a caller holds.
-use Rattle.std.specs.Prelude.{◌≡◌, ℕ, List, [], true, false, Option, Some, None, Result, length, map}
+use Rattle.std.specs.Prelude.{◌≡◌, ℕ, List, [], Bool, true, false, Option, Some, None, Result, length, map}
 use Rattle.cap_bytes.specs.Printing.{Prints}
 use Rattle.cap_bytes.specs.declared.faults.Fault.{Fault}
 use Rattle.cap_bytes.specs.declared.faults.Tail.{Tail}
@@ -13,7 +13,7 @@ use Rattle.cap_talks.specs.table.TakenText.{text_for}
 use Rattle.cap_talks.specs.declared.table.tables.Step.{Step}
 use Rattle.cap_talks.specs.declared.table.tables.Step.TheVariants.{Took, Done}
 use Rattle.capt_c.specs.Answers.{status_of_result, place_of_result}
-use Rattle.capt_c.specs.Jobs.{JobEnds, file_bytes}
+use Rattle.capt_c.specs.Jobs.{JobEnds, ShowsNothing, file_bytes}
 use Rattle.capt_c.specs.declared.answers.CPlace.{CPlace}
 use Rattle.capt_c.specs.declared.handles.HandleValue.{HandleValue}
 use Rattle.capt_c.specs.declared.handles.HandleValue.TheVariants as helds
@@ -25,16 +25,17 @@ use Rattle.capt_c.specs.declared.jobs.Text.{Text}
 abbrev pub reader_of_file : Bytes → ReaderFacts
 reader_of_file file = record { told = true; can_fail = false; bytes = file_bytes file }
 
--- A table of those files is open: it has taken no packet, and doesn't read IPv6 packets. Or no memory was found.
-abbrev pub OpensTable : Tail → List Bytes → ℕ → Option HandleValue → Type 0
-OpensTable tail files status None = status ≡ 5
-OpensTable tail files status (Some (helds.Capture c)) = ⊥
-OpensTable tail files status (Some (helds.Fed f)) = ⊥
-OpensTable tail files status (Some (helds.Text text)) = ⊥
-OpensTable tail files status (Some (helds.Table t)) =
+-- A table of those files is open: it has taken no packet, and reads IPv6 packets if `reads` is true. Or no memory was
+-- found.
+abbrev pub OpensTable : Tail → Bool → List Bytes → ℕ → Option HandleValue → Type 0
+OpensTable tail reads files status None = status ≡ 5
+OpensTable tail reads files status (Some (helds.Capture c)) = ⊥
+OpensTable tail reads files status (Some (helds.Fed f)) = ⊥
+OpensTable tail reads files status (Some (helds.Text text)) = ⊥
+OpensTable tail reads files status (Some (helds.Table t)) =
     (status ≡ 0) × IsUnreadRun tail (map reader_of_file files) (table_of t.value).parts
     × TableStands (table_of t.value) [] × ((table_of t.value).done ≡ false)
-    × ((table_of t.value).tally.reads ≡ false)
+    × ((table_of t.value).tally.reads ≡ reads)
 
 -- That is true of the table that is held.
 abbrev pub LeavesTable : Option HandleValue → (TableState → Type 0) → Type 0
@@ -59,10 +60,6 @@ StepsTable (Some (helds.Table t)) from status place new =
     (answer : Result Step Fault) × (status ≡ status_of_result status_of_step answer)
     × (place ≡ place_of_result answer)
     × LeavesTable new (λ later. TableSteps (table_of t.value) answer later × StepKeeps (table_of t.value) later)
-
--- A call that is misused returns 6, and leaves the caller's text and place as they were.
-abbrev pub ShowsNothing : ℕ → Text → CPlace → Text → CPlace → Type 0
-ShowsNothing status was from text place = (status ≡ 6) × (text ≡ was) × (place ≡ from)
 
 -- What a call returns that shows the report over the packets that were taken; `was` and `from` are the caller's text
 -- and place before it.

@@ -28,7 +28,8 @@ pub const MEMORY: u32 = 5;
 /// A capture that is fed needs more bytes.
 pub const MORE: u32 = 7;
 
-/// The call is misused: its handle isn't open or is for other calls, or it has no file, more than 32, or no room.
+/// The call is misused: its handle isn't open or is for other calls, it has no file, more than 32, or no room, or it
+/// doesn't take a flag.
 pub const MISUSE: u32 = 6;
 
 /// Where a capture is refused, or where a read failed.

@@ -3,11 +3,14 @@ ghost use Rattle.std.specs.Prelude.{◌≡◌, Some};
 ghost use Rattle.cap_source.specs.inner.FedStates.{GivesFed};
 ghost use Rattle.cap_commands.specs.Jobs.{tail_of};
 ghost use Rattle.capt_c.specs.Feeding.{EndsHeld, FeedsHeld, OpensFed, StepsFedCapture, WritesFed, status_of_fed};
+ghost use Rattle.capt_c.specs.Flags.{cut_alone, flags_taken};
 ghost use Rattle.capt_c.specs.HandleValue.{IsClosed};
+ghost use Rattle.capt_c.specs.Reading.{OpensWith};
 
 use crate::answers::{
     CPlace, DONE, MISUSE, MORE, PACKET, Success, status_and_place, status_of_result, tail_of,
 };
+use crate::flags::{CUT_ALONE, flags_taken};
 use crate::handles::{Handle, HandleValue, with_open};
 use crate::packets::{CPacket, packet_of};
 use cap_bytes::Fault;
@@ -47,11 +50,15 @@ pub fn step_fed(fed: &mut FedCapture, packet: &mut CPacket, place: &mut CPlace) 
 
 /// Opens a capture whose bytes `capt_feed` feeds. What the handle held is closed.
 #[unsafe(no_mangle)]
-pub extern "C" fn capt_open_fed(alloc: Global, reader: &mut Handle, allow_cut: bool) -> u32
+pub extern "C" fn capt_open_fed(alloc: Global, reader: &mut Handle, flags: u32) -> u32
     ensures closed { result ≡ 5 → IsClosed reader.new.kept.value reader.new.kept.at reader.new.is_open }
-    ensures opens { OpensFed (tail_of allow_cut) result reader.new.kept.value }
+    ensures opens { OpensWith (flags_taken cut_alone flags)
+        (λ set. OpensFed (tail_of set.allow_cut) result reader.new.kept.value) result reader.old reader.new }
 {
-    let fed = FedCapture::new(alloc, 1, tail_of(allow_cut));
+    let Some(set) = flags_taken(CUT_ALONE, flags) else {
+        return MISUSE;
+    };
+    let fed = FedCapture::new(alloc, 1, tail_of(set.allow_cut));
     status_of_result(reader.hold(alloc, HandleValue::Fed(fed)))
 }
 

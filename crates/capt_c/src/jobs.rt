@@ -1,20 +1,31 @@
 //! What `capt` makes of captures in memory: a text that the caller holds.
-ghost use Rattle.std.specs.Prelude.{◌≡◌, ◌≤◌, ◌↔◌, IfOk, IsOkUnless, IsTrue, length, map};
+ghost use Rattle.std.specs.Prelude.{◌≡◌, ◌≤◌, ◌↔◌, IfOk, IsOkUnless, IsTrue, false, length, map, vec_len};
+ghost use Rattle.std.specs.List.{list_all};
 ghost use denote.RawPtr.{null_ptr};
-ghost use Rattle.cap_bytes.specs.Printing.{IsReadFault};
-ghost use Rattle.cap_commands.specs.Jobs.{tail_of};
-ghost use Rattle.capt_c.specs.Answers.{order_of, format_of};
+ghost use Rattle.cap_bytes.specs.Printing.{IsReadFault, Prints};
+ghost use Rattle.cap_source.specs.ReadFaults.{FailsOf};
+ghost use Rattle.cap_merge.specs.Files.{clocked_run, endings_of_files};
+ghost use Rattle.cap_talks.specs.talks.ReportText.{report_refusal_for, report_text_for};
+ghost use Rattle.cap_talks.specs.talks.Telling.{Tells};
+ghost use Rattle.cap_commands.specs.JoinText.{join_refusal_in, join_text_in};
+ghost use Rattle.cap_commands.specs.MergeText.{merge_refusal_in, merge_text_in};
+ghost use Rattle.cap_commands.specs.RunText.{run_form};
 ghost use Rattle.capt_c.specs.Jobs.{AreFiles, HasFiles, IsTextClosed, Makes, Shown, ShowsTask, by_memory, file_bytes};
+ghost use Rattle.capt_c.specs.Jobs.{takes_of};
 ghost use Rattle.capt_c.specs.Sources.{rest_of};
 
 use crate::answers::{CPlace, MISUSE, format_of, order_of, status_and_place, tail_of};
+use crate::flags::{CUT_ALONE, CUT_AND_FORM, CUT_AND_IPV6, Flags, flags_taken};
 use crate::handles::{Handle, HandleValue};
 use crate::sinks::VecSink;
 use crate::sources::Slice;
-use cap_bytes::{Fault, Order, Sink, Tail};
-use cap_commands::{blocks_to, convert_to, join_to, list_to, merge_to, output_format};
-use cap_source::Format;
-use cap_talks::{file_lines, report};
+use cap_bytes::{Fault, Order, Sink, Source, Tail};
+use cap_commands::{
+    OutputFormat, blocks_to, convert_to, join_to, join_to_pcap, list_to, merge_to, merge_to_pcap,
+    output_format,
+};
+use cap_print::{Form, TimeForm};
+use cap_talks::{ReportOptions, file_lines, report_with};
 use std::alloc::Global;
 use std::ptr::null;
 
@@ -109,15 +120,26 @@ pub(crate) enum TextTask<'a> {
     /// A line for each block.
     Blocks(&'a [u8]),
     /// A file of a format.
-    Convert(&'a [u8], Order, Format),
+    Convert(&'a [u8]),
     /// A line for each file.
     Info(&'a [Bytes<'a>]),
     /// The report.
     Report(&'a [Bytes<'a>]),
     /// One file of all packets.
-    Merge(&'a [Bytes<'a>], Order),
+    Merge(&'a [Bytes<'a>]),
     /// One file of the datagrams.
-    Join(&'a [Bytes<'a>], Order),
+    Join(&'a [Bytes<'a>]),
+}
+
+// The flags that the call for a task takes.
+fn takes_of(task: TextTask<'_>) -> Flags
+    ensures { result ≡ takes_of task.entry }
+{
+    match task {
+        TextTask::List(_) | TextTask::Blocks(_) | TextTask::Info(_) => CUT_ALONE,
+        TextTask::Report(_) => CUT_AND_IPV6,
+        TextTask::Convert(_) | TextTask::Merge(_) | TextTask::Join(_) => CUT_AND_FORM,
+    }
 }
 
 // Whether a task has its file, or as many files as a call takes.
@@ -125,31 +147,110 @@ fn has_files(task: TextTask<'_>) -> bool
     ensures { IsTrue result ↔ HasFiles task.entry }
 {
     match task {
-        TextTask::List(_) | TextTask::Blocks(_) | TextTask::Convert(..) => true,
+        TextTask::List(_) | TextTask::Blocks(_) | TextTask::Convert(_) => true,
         TextTask::Info(files) | TextTask::Report(files) => are_files(files.len()),
-        TextTask::Merge(files, _) | TextTask::Join(files, _) => are_files(files.len()),
+        TextTask::Merge(files) | TextTask::Join(files) => are_files(files.len()),
     }
 }
 
-// Writes the text of a task.
-fn make(alloc: Global, task: TextTask<'_>, tail: Tail, sink: &mut VecSink) -> Result<(), Fault>
+// Writes the report over 1 to 32 captures.
+fn write_report<R: Source, W: Sink>(
+    alloc: Global,
+    sources: Vec<R>,
+    tail: Tail,
+    ipv6: bool,
+    writer: &mut W,
+) -> Result<(), Fault>
+    requires some { 1 ≤ vec_len sources }
+    requires most { vec_len sources ≤ 32 }
+    ensures text { IsTrue (list_all R.tells_coming sources.items) → IsTrue (W.tells_held writer.old)
+        → Tells (report_text_for ipv6 (Form.Text TimeForm.Exact) (length sources.items)
+        (endings_of_files tail (map R.coming sources.items)) (clocked_run tail (map R.coming sources.items)))
+        (report_refusal_for ipv6 (clocked_run tail (map R.coming sources.items)))
+        (W.held writer.old) result (W.held writer.new) }
+    ensures read { FailsOf (map R.can_fail sources.items) result }
+{
+    let options = ReportOptions {
+        form: Form::Text(TimeForm::Exact),
+        top: None,
+        counts: false,
+        ipv6,
+    };
+    report_with(alloc, sources, tail, options, writer).and(Ok(()))
+}
+
+// Writes 1 to 32 captures as one, sorted by exact time.
+fn write_merged<R: Source, W: Sink>(
+    alloc: Global,
+    sources: Vec<R>,
+    tail: Tail,
+    order: Order,
+    format: OutputFormat,
+    writer: &mut W,
+) -> Result<(), Fault>
+    requires some { 1 ≤ vec_len sources }
+    requires most { vec_len sources ≤ 32 }
+    ensures text { IsTrue (list_all R.tells_coming sources.items) → IsTrue (W.tells_held writer.old)
+        → Prints (merge_text_in (run_form false format) order tail (map R.coming sources.items))
+        (merge_refusal_in (run_form false format) tail (map R.coming sources.items))
+        (W.held writer.old) result (W.held writer.new) }
+    ensures read { FailsOf (map R.can_fail sources.items) result }
+{
+    match format {
+        OutputFormat::Pcap(unit) => merge_to_pcap(alloc, sources, tail, order, unit, writer),
+        OutputFormat::Pcapng => merge_to(alloc, sources, tail, order, writer),
+    }
+}
+
+// Writes the IPv4 datagrams of 1 to 32 captures as one.
+fn write_joined<R: Source, W: Sink>(
+    alloc: Global,
+    sources: Vec<R>,
+    tail: Tail,
+    order: Order,
+    format: OutputFormat,
+    writer: &mut W,
+) -> Result<(), Fault>
+    requires some { 1 ≤ vec_len sources }
+    requires most { vec_len sources ≤ 32 }
+    ensures text { IsTrue (list_all R.tells_coming sources.items) → IsTrue (W.tells_held writer.old)
+        → Prints (join_text_in format order tail (map R.coming sources.items))
+        (join_refusal_in format tail (map R.coming sources.items))
+        (W.held writer.old) result (W.held writer.new) }
+    ensures read { FailsOf (map R.can_fail sources.items) result }
+{
+    match format {
+        OutputFormat::Pcap(unit) => join_to_pcap(alloc, sources, tail, order, unit, writer),
+        OutputFormat::Pcapng => join_to(alloc, sources, tail, order, writer),
+    }
+}
+
+// Writes the text of a task, as the flags say that are set.
+fn make(alloc: Global, task: TextTask<'_>, set: Flags, sink: &mut VecSink) -> Result<(), Fault>
     requires { HasFiles task }
-    ensures text { Makes task.entry tail (⟦<VecSink as Sink>⟧.held sink.old) result
+    ensures text { Makes task.entry set (⟦<VecSink as Sink>⟧.held sink.old) result
         (⟦<VecSink as Sink>⟧.held sink.new) }
     ensures read { IsReadFault result → ⊥ }
 {
+    let tail = tail_of(set.allow_cut);
+    let order = order_of(set.big);
+    let format = output_format(format_of(set.to_pcap), None);
     match task {
         TextTask::List(bytes) => list_to(alloc, Slice::new(bytes), tail, sink),
         TextTask::Blocks(bytes) => blocks_to(alloc, Slice::new(bytes), tail, sink),
-        TextTask::Convert(bytes, order, format) => {
-            let source = Slice::new(bytes);
-            let format = output_format(format, None);
-            convert_to(alloc, source, tail, order, format, sink)
+        TextTask::Convert(bytes) => {
+            convert_to(alloc, Slice::new(bytes), tail, order, format, sink)
         }
         TextTask::Info(files) => file_lines(alloc, slices(alloc, files)?, tail, sink),
-        TextTask::Report(files) => report(alloc, slices(alloc, files)?, tail, sink),
-        TextTask::Merge(files, order) => merge_to(alloc, slices(alloc, files)?, tail, order, sink),
-        TextTask::Join(files, order) => join_to(alloc, slices(alloc, files)?, tail, order, sink),
+        TextTask::Report(files) => {
+            write_report(alloc, slices(alloc, files)?, tail, set.ipv6, sink)
+        }
+        TextTask::Merge(files) => {
+            write_merged(alloc, slices(alloc, files)?, tail, order, format, sink)
+        }
+        TextTask::Join(files) => {
+            write_joined(alloc, slices(alloc, files)?, tail, order, format, sink)
+        }
     }
 }
 
@@ -157,17 +258,20 @@ fn make(alloc: Global, task: TextTask<'_>, tail: Tail, sink: &mut VecSink) -> Re
 fn show_task(
     alloc: Global,
     task: TextTask<'_>,
-    allow_cut: bool,
+    flags: u32,
     text: &mut Text,
     place: &mut CPlace,
 ) -> u32
-    ensures { ShowsTask task.entry (tail_of allow_cut) text.old place.old result text.new place.new }
+    ensures { ShowsTask task.entry flags text.old place.old result text.new place.new }
 {
+    let Some(set) = flags_taken(takes_of(task), flags) else {
+        return MISUSE;
+    };
     if !has_files(task) {
         return MISUSE;
     }
     let mut sink = VecSink::new(alloc);
-    let answer = make(alloc, task, tail_of(allow_cut), &mut sink);
+    let answer = make(alloc, task, set, &mut sink);
     show(alloc, text, sink, answer, place)
 }
 
@@ -176,13 +280,13 @@ fn show_task(
 pub extern "C" fn capt_report(
     alloc: Global,
     files: &[Bytes<'_>],
-    allow_cut: bool,
+    flags: u32,
     text: &mut Text,
     place: &mut CPlace,
 ) -> u32
-    ensures { ShowsTask (TextTask.Report files.entry) (tail_of allow_cut) text.old place.old result text.new place.new }
+    ensures { ShowsTask (TextTask.Report files.entry) flags text.old place.old result text.new place.new }
 {
-    show_task(alloc, TextTask::Report(files), allow_cut, text, place)
+    show_task(alloc, TextTask::Report(files), flags, text, place)
 }
 
 /// The lines of 1 to 32 captures.
@@ -190,47 +294,41 @@ pub extern "C" fn capt_report(
 pub extern "C" fn capt_info(
     alloc: Global,
     files: &[Bytes<'_>],
-    allow_cut: bool,
+    flags: u32,
     text: &mut Text,
     place: &mut CPlace,
 ) -> u32
-    ensures { ShowsTask (TextTask.Info files.entry) (tail_of allow_cut) text.old place.old result text.new place.new }
+    ensures { ShowsTask (TextTask.Info files.entry) flags text.old place.old result text.new place.new }
 {
-    show_task(alloc, TextTask::Info(files), allow_cut, text, place)
+    show_task(alloc, TextTask::Info(files), flags, text, place)
 }
 
-/// 1 to 32 captures as one pcapng file, sorted by exact time.
+/// 1 to 32 captures as one file, sorted by exact time.
 #[unsafe(no_mangle)]
 pub extern "C" fn capt_merge(
     alloc: Global,
     files: &[Bytes<'_>],
-    allow_cut: bool,
-    big: bool,
+    flags: u32,
     text: &mut Text,
     place: &mut CPlace,
 ) -> u32
-    ensures { ShowsTask (TextTask.Merge files.entry (order_of big)) (tail_of allow_cut) text.old place.old
-        result text.new place.new }
+    ensures { ShowsTask (TextTask.Merge files.entry) flags text.old place.old result text.new place.new }
 {
-    let task = TextTask::Merge(files, order_of(big));
-    show_task(alloc, task, allow_cut, text, place)
+    show_task(alloc, TextTask::Merge(files), flags, text, place)
 }
 
-/// The IPv4 datagrams of 1 to 32 captures as one pcapng file.
+/// The IPv4 datagrams of 1 to 32 captures as one file.
 #[unsafe(no_mangle)]
 pub extern "C" fn capt_join(
     alloc: Global,
     files: &[Bytes<'_>],
-    allow_cut: bool,
-    big: bool,
+    flags: u32,
     text: &mut Text,
     place: &mut CPlace,
 ) -> u32
-    ensures { ShowsTask (TextTask.Join files.entry (order_of big)) (tail_of allow_cut) text.old place.old
-        result text.new place.new }
+    ensures { ShowsTask (TextTask.Join files.entry) flags text.old place.old result text.new place.new }
 {
-    let task = TextTask::Join(files, order_of(big));
-    show_task(alloc, task, allow_cut, text, place)
+    show_task(alloc, TextTask::Join(files), flags, text, place)
 }
 
 /// A line for each packet of a capture.
@@ -238,13 +336,13 @@ pub extern "C" fn capt_join(
 pub extern "C" fn capt_list(
     alloc: Global,
     bytes: &[u8],
-    allow_cut: bool,
+    flags: u32,
     text: &mut Text,
     place: &mut CPlace,
 ) -> u32
-    ensures { ShowsTask (TextTask.List bytes.entry) (tail_of allow_cut) text.old place.old result text.new place.new }
+    ensures { ShowsTask (TextTask.List bytes.entry) flags text.old place.old result text.new place.new }
 {
-    show_task(alloc, TextTask::List(bytes), allow_cut, text, place)
+    show_task(alloc, TextTask::List(bytes), flags, text, place)
 }
 
 /// A line for each block of a pcapng capture.
@@ -252,13 +350,13 @@ pub extern "C" fn capt_list(
 pub extern "C" fn capt_blocks(
     alloc: Global,
     bytes: &[u8],
-    allow_cut: bool,
+    flags: u32,
     text: &mut Text,
     place: &mut CPlace,
 ) -> u32
-    ensures { ShowsTask (TextTask.Blocks bytes.entry) (tail_of allow_cut) text.old place.old result text.new place.new }
+    ensures { ShowsTask (TextTask.Blocks bytes.entry) flags text.old place.old result text.new place.new }
 {
-    show_task(alloc, TextTask::Blocks(bytes), allow_cut, text, place)
+    show_task(alloc, TextTask::Blocks(bytes), flags, text, place)
 }
 
 /// A capture as a file of the other format, or of the same.
@@ -266,17 +364,13 @@ pub extern "C" fn capt_blocks(
 pub extern "C" fn capt_convert(
     alloc: Global,
     bytes: &[u8],
-    allow_cut: bool,
-    pcap: bool,
-    big: bool,
+    flags: u32,
     text: &mut Text,
     place: &mut CPlace,
 ) -> u32
-    ensures { ShowsTask (TextTask.Convert bytes.entry (order_of big) (format_of pcap)) (tail_of allow_cut)
-        text.old place.old result text.new place.new }
+    ensures { ShowsTask (TextTask.Convert bytes.entry) flags text.old place.old result text.new place.new }
 {
-    let task = TextTask::Convert(bytes, order_of(big), format_of(pcap));
-    show_task(alloc, task, allow_cut, text, place)
+    show_task(alloc, TextTask::Convert(bytes), flags, text, place)
 }
 
 /// Closes a text. It may be closed already.

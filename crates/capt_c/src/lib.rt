@@ -4,6 +4,7 @@
 mod answers;
 mod batches;
 mod feeding;
+mod flags;
 mod handles;
 mod jobs;
 mod names;

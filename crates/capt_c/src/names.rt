@@ -3,7 +3,7 @@ ghost use Rattle.std.specs.Prelude.{◌≡◌, ◌<◌, ◌⊎◌, IfSome, None,
 ghost use Rattle.cap_bytes.specs.Rules.{rule_number};
 ghost use Rattle.cap_bytes.specs.declared.faults.Fault.{Fault};
 ghost use Rattle.cap_commands.specs.FaultText.{fault_text};
-ghost use Rattle.capt_c.specs.Names.{NamesRule, PutsText, TellsFault};
+ghost use Rattle.capt_c.specs.Names.{NamesRule, PutsText, TellsFault, version_number};
 
 use crate::answers::{CPlace, MEMORY, READ, REFUSED, WRITE};
 use cap_bytes::{Fault, Refusal, Rule};
@@ -12,6 +12,9 @@ use std::cmp::min;
 
 // The version of the library.
 const VERSION: &str = "1.0.0";
+
+// The same as a number, in which each part is two digits.
+const VERSION_NUMBER: u32 = 10_000;
 
 // The rule of a number.
 fn rule_of(number: u32) -> Option<Rule>
@@ -116,4 +119,12 @@ pub extern "C" fn capt_version(buffer: &mut [u8]) -> usize
     ensures { PutsText (codes "1.0.0") result buffer.old buffer.new }
 {
     put(VERSION.as_bytes(), buffer)
+}
+
+/// The version as a number: 10,000 times its first part, 100 times its second, and its third.
+#[unsafe(no_mangle)]
+pub extern "C" fn capt_version_number() -> u32
+    ensures { result ≡ version_number (codes "1.0.0") }
+{
+    VERSION_NUMBER
 }

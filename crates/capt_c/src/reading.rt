@@ -4,10 +4,11 @@ ghost use Rattle.cap_source.specs.Feed.{GivesHead, FeedKeeps};
 ghost use Rattle.cap_bytes.specs.declared.faults.Fault.{Fault};
 ghost use Rattle.cap_source.specs.declared.feeds.Head.{Head};
 ghost use Rattle.cap_commands.specs.Jobs.{tail_of};
+ghost use Rattle.capt_c.specs.Flags.{cut_alone, flags_taken};
 ghost use Rattle.capt_c.specs.HandleValue.{IsClosed};
 ghost use Rattle.capt_c.specs.Packets.{StepsPacket};
 ghost use Rattle.capt_c.specs.Sources.{tells_of, input_coming, input_can_fail};
-ghost use Rattle.capt_c.specs.Reading.{Batch, EndTold, Misused, Nexts, NextsMany, OpensCapture, TellsEnd};
+ghost use Rattle.capt_c.specs.Reading.{Batch, EndTold, Misused, Nexts, NextsMany, OpensCapture, OpensWith, TellsEnd};
 ghost use Rattle.capt_c.specs.Reading.{status_of_found};
 
 use crate::answers::{
@@ -15,6 +16,7 @@ use crate::answers::{
 };
 use crate::batches::step_many;
 use crate::feeding::step_fed;
+use crate::flags::{CUT_ALONE, flags_taken};
 use crate::handles::{Handle, HandleValue, with_open};
 use crate::packets::{CPacket, packet_of};
 use crate::sources::{CaptureInput, Slice};
@@ -73,12 +75,17 @@ pub struct End {
 }
 
 // Opens a capture over `input`. What the handle held is closed.
-fn open(alloc: Global, reader: &mut Handle, input: CaptureInput, allow_cut: bool) -> u32
+fn open(alloc: Global, reader: &mut Handle, input: CaptureInput, flags: u32) -> u32
     ensures closed { result ≡ 5 → IsClosed reader.new.kept.value reader.new.kept.at reader.new.is_open }
-    ensures opens { OpensCapture (λ c. ⟦<Capture<CaptureInput> as PacketFeed>⟧.feed c) (tail_of allow_cut)
-        (tells_of input) (input_coming input) (input_can_fail input) result reader.new.kept.value }
+    ensures opens { OpensWith (flags_taken cut_alone flags) (λ set.
+        OpensCapture (λ c. ⟦<Capture<CaptureInput> as PacketFeed>⟧.feed c) (tail_of set.allow_cut)
+        (tells_of input) (input_coming input) (input_can_fail input) result reader.new.kept.value)
+        result reader.old reader.new }
 {
-    let capture = Capture::new(alloc, input, 1, tail_of(allow_cut));
+    let Some(set) = flags_taken(CUT_ALONE, flags) else {
+        return MISUSE;
+    };
+    let capture = Capture::new(alloc, input, 1, tail_of(set.allow_cut));
     status_of_result(reader.hold(alloc, HandleValue::Capture(capture)))
 }
 
@@ -88,18 +95,15 @@ pub extern "C" fn capt_open(
     alloc: Global,
     reader: &mut Handle,
     bytes: &'static [u8],
-    allow_cut: bool,
+    flags: u32,
 ) -> u32
     ensures closed { result ≡ 5 → IsClosed reader.new.kept.value reader.new.kept.at reader.new.is_open }
-    ensures opens { OpensCapture (λ c. ⟦<Capture<CaptureInput> as PacketFeed>⟧.feed c) (tail_of allow_cut)
-        true bytes.now false result reader.new.kept.value }
+    ensures opens { OpensWith (flags_taken cut_alone flags) (λ set.
+        OpensCapture (λ c. ⟦<Capture<CaptureInput> as PacketFeed>⟧.feed c) (tail_of set.allow_cut)
+        true bytes.now false result reader.new.kept.value) result reader.old reader.new }
 {
-    open(
-        alloc,
-        reader,
-        CaptureInput::Memory(Slice::new(bytes)),
-        allow_cut,
-    )
+    let input = CaptureInput::Memory(Slice::new(bytes));
+    open(alloc, reader, input, flags)
 }
 
 /// Opens a capture over standard input, which is read until it is closed. What the handle held is closed.
@@ -108,18 +112,15 @@ pub extern "C" fn capt_open_stdin(
     alloc: Global,
     stdin: Stdin,
     reader: &mut Handle,
-    allow_cut: bool,
+    flags: u32,
 ) -> u32
     ensures closed { result ≡ 5 → IsClosed reader.new.kept.value reader.new.kept.at reader.new.is_open }
-    ensures opens { OpensCapture (λ c. ⟦<Capture<CaptureInput> as PacketFeed>⟧.feed c) (tail_of allow_cut)
-        false [] true result reader.new.kept.value }
+    ensures opens { OpensWith (flags_taken cut_alone flags) (λ set.
+        OpensCapture (λ c. ⟦<Capture<CaptureInput> as PacketFeed>⟧.feed c) (tail_of set.allow_cut)
+        false [] true result reader.new.kept.value) result reader.old reader.new }
 {
-    open(
-        alloc,
-        reader,
-        CaptureInput::Standard(Tracked::new(stdin)),
-        allow_cut,
-    )
+    let input = CaptureInput::Standard(Tracked::new(stdin));
+    open(alloc, reader, input, flags)
 }
 
 /// Writes the next packet of a capture, and advances past it.

@@ -2,18 +2,21 @@
 ghost use Rattle.std.specs.Prelude.{◌≡◌, ◌≤◌, IsOkUnless, OnErr, Some, length};
 ghost use Rattle.cap_commands.specs.Jobs.{tail_of};
 ghost use Rattle.capt_c.specs.Answers.{status_of_result, status_of_unit};
+ghost use Rattle.capt_c.specs.Flags.{cut_and_ipv6, flags_taken};
 ghost use Rattle.capt_c.specs.HandleValue.{IsClosed};
 ghost use Rattle.capt_c.specs.Jobs.{AreFiles};
+ghost use Rattle.capt_c.specs.Reading.{OpensWith};
 ghost use Rattle.capt_c.specs.Tables.{OpensTable, StepsTable, WritesTable, status_of_step};
 
 use crate::answers::{
     CPlace, DONE, MISUSE, PACKET, Success, status_and_place, status_of_result, tail_of,
 };
+use crate::flags::{CUT_AND_IPV6, Flags, flags_taken};
 use crate::handles::{Handle, HandleValue, with_open};
 use crate::jobs::{Bytes, Text, are_files, show, slices};
 use crate::sinks::VecSink;
 use crate::sources::Slice;
-use cap_bytes::{Fault, Tail};
+use cap_bytes::Fault;
 use cap_merge::merge_files;
 use cap_source::Capture;
 use cap_talks::{Step, Table};
@@ -24,19 +27,20 @@ fn open_table(
     alloc: Global,
     table: &mut Handle,
     files: &[Bytes<'static>],
-    tail: Tail,
+    set: Flags,
 ) -> Result<(), Fault>
     requires some { 1 ≤ length files.now }
     requires most { length files.now ≤ 32 }
-    ensures opens { OpensTable tail files.now (status_of_result status_of_unit result) table.new.kept.value }
+    ensures opens { OpensTable (tail_of set.allow_cut) set.ipv6 files.now
+        (status_of_result status_of_unit result) table.new.kept.value }
     ensures closed { OnErr result (IsClosed table.new.kept.value table.new.kept.at table.new.is_open) }
     ensures fault { IsOkUnless result Fault.Memory }
 {
     // dropping what was held closes it, and frees its memory for the table
     let _ = table.take(alloc);
     let sources = slices(alloc, files)?;
-    let merged = merge_files(alloc, sources, tail)?;
-    let opened = Box::new(alloc, Table::new(alloc, merged))?;
+    let merged = merge_files(alloc, sources, tail_of(set.allow_cut))?;
+    let opened = Box::new(alloc, Table::reading(alloc, merged, set.ipv6))?;
     table.hold(alloc, HandleValue::Table(opened))
 }
 
@@ -47,18 +51,21 @@ pub extern "C" fn capt_table_open(
     alloc: Global,
     table: &mut Handle,
     files: &[Bytes<'static>],
-    allow_cut: bool,
+    flags: u32,
 ) -> u32
-    ensures opens { AreFiles (length files.now)
-        → OpensTable (tail_of allow_cut) files.now result table.new.kept.value }
+    ensures opens { AreFiles (length files.now) → OpensWith (flags_taken cut_and_ipv6 flags) (λ set.
+        OpensTable (tail_of set.allow_cut) set.ipv6 files.now result table.new.kept.value)
+        result table.old table.new }
     ensures closed { result ≡ 5 → IsClosed table.new.kept.value table.new.kept.at table.new.is_open }
-    ensures misuse { (AreFiles (length files.now) → ⊥)
-        → (result ≡ 6) × (table.new.kept.value ≡ table.old.kept.value) }
+    ensures misuse { (AreFiles (length files.now) → ⊥) → (result ≡ 6) × (table.new ≡ table.old) }
 {
+    let Some(set) = flags_taken(CUT_AND_IPV6, flags) else {
+        return MISUSE;
+    };
     if !are_files(files.len()) {
         return MISUSE;
     }
-    status_of_result(open_table(alloc, table, files, tail_of(allow_cut)))
+    status_of_result(open_table(alloc, table, files, set))
 }
 
 impl Success for Step {

@@ -2,6 +2,7 @@ use Rattle.std.proofs.Common.{◌≡◌, ℕ, Bool, Option, Some, None, Result, 
 use denote.RawPtr.{Ptr}
 use Rattle.cap_bytes.specs.declared.faults.Fault.{Fault}
 use Rattle.cap_bytes.specs.declared.faults.Fault.TheVariants.{Memory}
+use Rattle.cap_commands.specs.Jobs.{tail_of}
 use Rattle.capt_c.specs.Answers.{status_of_result, status_of_unit}
 use Rattle.capt_c.specs.HandleValue.{IsClosed}
 use Rattle.capt_c.specs.Tables.{OpensTable}
@@ -22,15 +23,17 @@ opens-held Opens value (Err f) new address is_open ok closed fault opened none =
 pub returns-clause-opens : goal.returns-clause-opens
 returns-clause-opens c =
     let sources = c.in_ok-sources.sources.items in let after = c.hold.new.self in
-    opens-held (OpensTable c.args.tail c.args.files.now) (helds.Table c.in_ok-opened.opened) c.hold.result
-    after.kept.value after.kept.at after.is_open c.hold.ensures.value c.hold.ensures.closed c.hold.ensures.fault (
+    let Opens = OpensTable (tail_of c.args.set.allow_cut) c.args.set.ipv6 c.args.files.now in
+    opens-held Opens (helds.Table c.in_ok-opened.opened) c.hold.result after.kept.value after.kept.at
+    after.is_open c.hold.ensures.value c.hold.ensures.closed c.hold.ensures.fault (
       refl,
       rw (
+        sym c.tail_of.ensures,
         sym (same-readers sources c.args.files.now c.in_ok-sources.ensures.bytes),
         c.in_ok-opened.ensures.ok,
-        c.new.ensures.parts,
+        c.reading.ensures.parts,
       ) c.in_ok-merged.ensures.unread,
-      rw c.in_ok-opened.ensures.ok c.new.ensures.stands,
-      rw c.in_ok-opened.ensures.ok c.new.ensures.going,
-      rw c.in_ok-opened.ensures.ok c.new.ensures.reads,
+      rw c.in_ok-opened.ensures.ok c.reading.ensures.stands,
+      rw c.in_ok-opened.ensures.ok c.reading.ensures.going,
+      rw c.in_ok-opened.ensures.ok c.reading.ensures.reads,
     ) refl
