@@ -44,8 +44,24 @@ VECTORS = {
 }
 
 
+# The same of IPv6: UDP there and back, once in a tagged frame behind hop-by-hop options, TCP behind destination options and an authentication header, a
+# whole datagram by its fragment header, a fragment, and ICMPv6, between 2001:db8::1 and 2001:db8::2.
+A_TO_B, B_TO_A = ("20010db8000000000000000000000001 20010db8000000000000000000000002", "20010db8000000000000000000000002 20010db8000000000000000000000001")
+IPV6_VECTORS = {
+    "IPV6_FRAMES": [
+        f"{MICRO_LITTLE} 01000000",
+        f"01000000 00000000 40000000 40000000 {TO_2} 86dd 60000000 000a 11 40 {A_TO_B} 03e807d0 000a0000 6869",
+        f"02000000 00000000 4c000000 4c000000 {TO_1} 8100 000a 86dd 60000000 0012 00 40 {B_TO_A} 1100 0104 00000000 07d003e8 000a0000 6869",
+        f"03000000 00000000 6a000000 6a000000 {TO_2} 86dd 60000000 0034 3c 40 {A_TO_B} 3300 010400000000 0604 0000 00000001 00000002 "
+        "0102030405060708090a0b0c 03e807d0 00000001 00000000 50100000 00000000",
+        f"04000000 00000000 48000000 48000000 {TO_2} 86dd 60000000 0012 2c 40 {A_TO_B} 1100 0000 00000007 03e807d0 000a0000 6869",
+        f"05000000 00000000 46000000 46000000 {TO_2} 86dd 60000000 0010 2c 40 {A_TO_B} 1100 0001 00000008 03e807d0 00180000",
+        f"06000000 00000000 42000000 42000000 {TO_1} 86dd 60000000 000c 3a 40 {B_TO_A} 81000000 00010001 61626364"],
+}
+
+
 def vector(name):
-    return bytes.fromhex("".join(VECTORS[name]))
+    return bytes.fromhex("".join({**VECTORS, **IPV6_VECTORS}[name]))
 
 
 def pcap_header(link):
@@ -74,6 +90,26 @@ def datagram(data, start=0, more=False, identification=0, protocol=17, ends=(0x0
 
 def udp(ports, data=b""):
     return struct.pack(">HHHH", *ports, 8 + len(data), 0) + data
+
+
+# 2001:db8::1 and 2001:db8::2
+ENDS_6 = (0x2001_0DB8 << 96 | 1, 0x2001_0DB8 << 96 | 2)
+
+
+def ipv6(data, kind=17, ends=ENDS_6, length=None):
+    """An IPv6 packet, whose next header is of that number, with the length of its payload or another."""
+    head = struct.pack(">IHBB", 6 << 28, len(data) if length is None else length, kind, 64)
+    return head + b"".join(end.to_bytes(16, "big") for end in ends) + data
+
+
+def extension(kind, size=8):
+    """An extension header of that many bytes, by a length in words of 8 bytes, which announces that number."""
+    return bytes([kind, size // 8 - 1]) + bytes(size - 2)
+
+
+def fragment_header(kind, start=0, more=False, identification=0):
+    """The fragment header of an IPv6 packet, which announces that number."""
+    return struct.pack(">BxHI", kind, start | more, identification)
 
 
 def run(words, program=PROGRAM, faults=None, **how):
@@ -130,13 +166,15 @@ WRITING = {"merge": ["merge"], "join": ["join"], "pcap": ["convert", "--to", "pc
 
 # The command of each task that prints, if its name isn't the task's.
 PRINTING = {"classed": ["list", "--class"], "check-digest": ["check", "--digest"], "top": ["report", "--top", "2"],
-            "info-skipping": ["info", "--skip-refused"], "report-skipping": ["report", "--skip-refused"]}
+            "info-skipping": ["info", "--skip-refused"], "report-skipping": ["report", "--skip-refused"],
+            "report-ipv6": ["report", "--ipv6"], "top-ipv6": ["report", "--top", "2", "--ipv6"],
+            "report-skipping-ipv6": ["report", "--ipv6", "--skip-refused"], "classed-ipv6": ["list", "--class", "--ipv6"]}
 
 
 def words_of(task, files, allow_cut=False, order="<", out=None, times="exact"):
     """The command line of a task: a command, `pcap` or `pcapng` for `convert` to that format, `merge-pcap` or `join-pcap`,
-    `pcap-nano` and the like, `merge-shared`, `check-digest`, `classed`, `top`, `info-skipping`, or `report-skipping`;
-    with the form of times, if it isn't the usual one."""
+    `pcap-nano` and the like, `merge-shared`, `check-digest`, `classed`, `top`, `info-skipping`, `report-skipping`,
+    or one of those that read IPv6 packets, as `report-ipv6`; with the form of times, if it isn't the usual one."""
     words, writes = {**WRITING, **PRINTING}.get(task, [task]), task in WRITING
     words = words + ["--time", times] * (times != "exact")
     return words + ["--allow-cut"] * allow_cut + ["--order", "big"] * (writes and order == ">") + ["-o", out] * writes + files

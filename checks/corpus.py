@@ -15,7 +15,7 @@ from concurrent.futures import ThreadPoolExecutor
 from captures import PROGRAM, TOP, WRITING, Bench, Count, make_shim, wanted_of
 
 FOLDER = os.path.join(TOP, "checks", "corpus")
-TASKS = ("list", "classed", "blocks", "info", "report", "top", "info-skipping", "report-skipping", "digest", "check", "check-digest", "pcap", "pcapng", "merge", "join")
+TASKS = ("list", "classed", "blocks", "info", "report", "top", "info-skipping", "report-skipping", "report-ipv6", "classed-ipv6", "digest", "check", "check-digest", "pcap", "pcapng", "merge", "join")
 MOST_BYTES = 300 * 1024
 ANSWERED = re.compile(r"^\$ (capt .*)\n((?:(?!\$ |# ).+\n)*)", re.M)      # a command line of answers.txt, and what follows it
 
@@ -45,8 +45,9 @@ class Case:
         words = line.split()
         self.line, self.answer, self.allow_cut = line, answer, "--allow-cut" in words
         self.order = ">" if "--order" in words and words[words.index("--order") + 1] == "big" else "<"
-        self.task = words[words.index("--to") + 1] if "--to" in words else words[1]
-        options = {"--allow-cut": 1, "--order": 2, "--to": 2, "-o": 2}
+        self.task = words[words.index("--to") + 1] if "--to" in words else "classed" if "--class" in words else words[1]
+        self.task += "-ipv6" * ("--ipv6" in words)
+        options = {"--allow-cut": 1, "--class": 1, "--ipv6": 1, "--order": 2, "--to": 2, "-o": 2}
         at = 2
         while words[at] in options:
             at += options[words[at]]

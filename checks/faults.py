@@ -21,8 +21,8 @@ import os, re, struct, subprocess, tempfile
 from concurrent.futures import ThreadPoolExecutor
 
 import model
-from captures import (PROGRAM, TOP, Bench, Count, block, datagram, make_shim, packet, pcap_header, record, run, udp,
-                      vector, wanted_of, words_of)
+from captures import (PROGRAM, TOP, Bench, Count, block, datagram, extension, ipv6, make_shim, packet, pcap_header, record,
+                      run, udp, vector, wanted_of, words_of)
 from objects import objects_of
 
 SECTION = vector("CARRY_PCAPNG")[:28]
@@ -59,16 +59,24 @@ ROWS = {
     "longest, twice": [pcap_header(1) + record(1, bytes(262_144)) + record(2, b"\1")] * 2,
     "carried": [vector("CARRY_PCAP"), vector("CARRY_PCAPNG")],
     "conversations": [pcap_header(101) + b"".join(record(n, datagram(udp((n, 9)))) for n in range(3_000))],
+    "conversations of both networks": [pcap_header(101) + b"".join(record(n, ipv6(udp((n, 9))) if n % 3 else datagram(udp((n, 9))))
+                                                                   for n in range(3_000))],
+    "ipv6-frames": [vector("IPV6_FRAMES")],
+    "ipv6-frames and fragments": [vector("IPV6_FRAMES"), vector("FRAGMENT_FRAMES")],
+    "extension headers": [pcap_header(229) + record(1, ipv6(extension(60) * 8_000 + extension(17) + udp((1, 2)), 60))],
     "groups": [pcap_header(101) + b"".join(record(1, datagram(bytes(8), 8, True, n)) for n in range(1_026))],
     "interfaces": [SECTION + interface(6) * 300 + b"".join(packet(n, n, WHOLE) for n in range(300))],
 }
 GROWTHS = {
     "report": ["equal-resolutions", "tagged-frames", "overlapped-fragments", "thirty-seconds", "thirty-seconds, whole", "overlap-map", "cut",
                "conversations", "groups", "interfaces", "longest"],
+    "report-ipv6": ["ipv6-frames", "ipv6-frames and fragments", "conversations of both networks", "extension headers", "cut"],
     "top": ["tagged-frames", "conversations", "cut"],
+    "top-ipv6": ["ipv6-frames", "conversations of both networks", "cut"],
     "info": ["runs-back and options", "cut"],
     "info-skipping": ["runs-back and options", "cut"],
     "report-skipping": ["overlapped-fragments", "cut"],
+    "report-skipping-ipv6": ["ipv6-frames", "cut"],
     "digest": ["runs-back and options", "cut"],
     "check": ["runs-back and options", "cut", "interfaces", "longest, twice"],
     "check-digest": ["runs-back and options", "cut", "longest, twice"],
@@ -81,15 +89,19 @@ GROWTHS = {
     "pcap": ["carry-pcapng", "longest"],
     "list": ["options", "carry-pcap", "longest"],
     "classed": ["tagged-frames", "longest"],
+    "classed-ipv6": ["ipv6-frames", "extension headers", "longest"],
     "diff": ["runs-back", "carried", "longest, twice"],
     "blocks": ["options", "interfaces"],
 }
 DEVICES = {
     "report": ["tagged-frames", "overlapped-fragments", "runs-back and options"],
     "top": ["overlapped-fragments", "runs-back and options"],
+    "report-ipv6": ["ipv6-frames"],
+    "top-ipv6": ["ipv6-frames"],
     "info": ["runs-back and options"],
     "info-skipping": ["options", "carry-pcap"],
     "report-skipping": ["overlapped-fragments"],
+    "report-skipping-ipv6": ["ipv6-frames"],
     "digest": ["runs-back and options", "cut", "simple and two sections"],
     "check": ["runs-back and options", "tagged-frames", "cut", "simple and two sections", "five interfaces, one packet"],
     "check-digest": ["runs-back and options", "tagged-frames", "cut"],
@@ -102,6 +114,7 @@ DEVICES = {
     "pcap": ["carry-pcap", "carry-pcapng"],
     "list": ["options", "tagged-frames"],
     "classed": ["tagged-frames", "overlapped-fragments"],
+    "classed-ipv6": ["ipv6-frames"],
     "diff": ["runs-back", "carried"],
     "blocks": ["options"],
 }
@@ -125,7 +138,7 @@ def told_as(task, seen, wanted, fault):
     """Whether a run that met a fault told it, has given all memory back, and has written nothing, or a prefix of what was
     wanted: of `check` whole lines."""
     status, text, error, _, _, blocks = seen
-    is_front = text == b"" if task in ("diff", "report", "info") else wanted[1].startswith(text)
+    is_front = text == b"" if task in ("diff", "report", "report-ipv6", "info") else wanted[1].startswith(text)
     return (status, error, blocks) == (1, fault, 0) and is_front and (task not in model.SURVEYS or text[-1:] in (b"", b"\n"))
 
 
@@ -244,7 +257,7 @@ def reads_of(count, bench, shim, out, task, row):
             is_so = told_as(task, seen, wanted, f"fault: read file {number} offset {offset}\n".encode()) and seen[3] == 1
             if task == "diff" and seen[3] == 0:        # it ended before that read
                 is_so = seen[:3] == wanted and seen[5] == 0
-            if task in ("list", "classed", "blocks"):
+            if task in ("list", "classed", "classed-ipv6", "blocks"):
                 is_so = is_so and seen[1] == wanted_of(task, [content[:offset]])[1]
             if task in ("merge", "merge-shared", "merge-pcap"):
                 is_so = is_so and len(model.File(1, seen[1], True).packets) == MERGED_BEFORE[row][number, offset]

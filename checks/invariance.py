@@ -14,6 +14,8 @@ The report over captures without fragments is the sum of the reports over each: 
 conversations with their least and greatest times. It counts as many packets of each class as `list --class` names in
 each capture.
 
+All of this is so of `report --ipv6` and `list --class --ipv6`, too.
+
 Use: checks/invariance.py [PROGRAM]     (as after `rt run` or `rt ci` in crates/capt)"""
 import sys
 
@@ -23,7 +25,8 @@ import json, os, re, struct, tempfile
 from collections import Counter
 from fractions import Fraction
 
-from captures import PROGRAM, SECTION, Count, block, datagram, packet, pcap_header, record, run, udp, vector
+from captures import (ENDS_6, PROGRAM, SECTION, Count, block, datagram, extension, fragment_header, ipv6, packet, pcap_header, record, run, udp,
+                      vector)
 
 RAW = 101
 
@@ -45,6 +48,10 @@ ANSWER = datagram(udp((2000, 1000)), ends=(0x0A000002, 0x0A000001))
 OPENS = [(1, datagram(udp((1000, 2000), bytes(8))[:8], more=True, identification=n)) for n in range(1025)]
 LAST = [(1, datagram(bytes(8), start=8, identification=n)) for n in (0, 1)]
 
+TALK_6 = ipv6(udp((1000, 2000)))
+ANSWER_6 = ipv6(extension(17) + udp((2000, 1000)), 60, ENDS_6[::-1])
+FRAGMENT_6 = ipv6(fragment_header(17, 0, True, 1) + udp((1000, 2000), bytes(8))[:8], 44)
+
 # captures, and the rule by which `convert --to pcap` of each is refused
 CASES = {
     "equal-resolutions": ([binary(138, 512, TALK), binary(1, 5, TALK)], [None, None]),
@@ -62,10 +69,17 @@ CASES = {
     "given up over two": ([raw(OPENS[:600]), raw(OPENS[600:])], [None, None]),
     "three files": ([raw([(5, TALK), (1, ANSWER)]), raw([(2, datagram(udp((7, 2000)))), (9, b"\x45")]), binary(138, 512, ANSWER)], [None] * 3),
     "a worked pcapng file": ([vector("OPTIONS_PCAPNG"), vector("CARRY_PCAP")], [None, None]),
+    "IPv6": ([raw([(5, TALK_6), (1, ANSWER_6)]), raw([(2, TALK), (4, TALK_6), (9, b"\x60"), (9, FRAGMENT_6)])], [None, None]),
+    "IPv6, and fragments of IPv4": ([raw([(1, OPENS[0][1]), (2, TALK_6)]), raw([(1, FRAGMENT_6), (3, LAST[0][1]), (3, ANSWER_6)])], [None, None]),
+    "IPv6 in units": ([binary(138, 512, TALK_6), binary(1, 5, ANSWER_6), binary(138, 512, FRAGMENT_6)], [None] * 3),
+    "a worked file of IPv6": ([vector("IPV6_FRAMES"), vector("TAGGED_FRAMES")], [None, None]),
 }
 
-# those that have no fragments
-WHOLE = ("equal-resolutions", "equal-resolutions, exchanged", "a time that isn't whole", "runs-back", "a worked pcapng file", "three files")
+# those that have no fragments of IPv4: of IPv6 none is joined
+WHOLE = ("equal-resolutions", "equal-resolutions, exchanged", "a time that isn't whole", "runs-back", "a worked pcapng file", "three files",
+         "IPv6", "IPv6 in units", "a worked file of IPv6")
+# the words of a report
+REPORTS = (["report"], ["report", "--ipv6"])
 
 
 def body(text):
@@ -122,14 +136,18 @@ def main():
             status, text, error = run(words, program)
             return status, text.decode(), error.decode()
 
+        def bodies(file):
+            return [body(done([*words, file])[1]) for words in REPORTS]
+
         for name, (contents, rules) in CASES.items():
             files = []
             for place, content in enumerate(contents):
                 files.append(os.path.join(folder, str(place)))
                 with open(files[-1], "wb") as file:
                     file.write(content)
-            status, told, error = done(["report", *files])
-            count.check(f"{name}: report", (status, error) == (0, ""), status, error)
+            seen = [done([*words, *files]) for words in REPORTS]
+            count.check(f"{name}: report", all((status, error) == (0, "") for status, _, error in seen), seen)
+            told = [body(text) for _, text, _ in seen]
             status, lines, error = done(["check", *files])
             checked = [counts(line) for line in lines.splitlines(True)]
             count.check(f"{name}: check", (status, error, len(checked)) == (0, "", len(files)) and all(checked), lines)
@@ -137,25 +155,27 @@ def main():
             is_so = [shared(line) for line in lines.splitlines()] == [shared(line) for line in told_of]
             count.check(f"{name}: check, as info", is_so, lines, told_of)
             sums = [sum(numbers) for numbers in zip(*checked)]
-            if name in WHOLE:
-                alone = [done(["report", "--json", file])[1] for file in files]
-                together = done(["report", "--json", *files])[1]
+            for words, lines in zip(REPORTS, told) if name in WHOLE else ():
+                alone = [done([*words, "--json", file])[1] for file in files]
+                together = done([*words, "--json", *files])[1]
                 count.check(f"{name}: the sum of the reports", counted_in([together]) == counted_in(alone), together, alone)
-                named = Counter(line.split(" class ")[1].split()[0] for file in files for line in done(["list", "--class", file])[1].splitlines())
-                told_of_frames = next(line for line in told.splitlines() if line.startswith("frames ")).split()[1:]
+                classed = [done(["list", "--class", *words[1:], file])[1] for file in files]
+                # a fragment isn't joined here, so it is unjoined
+                named = Counter(line.split(" class ")[1].split()[0].replace("fragment", "unjoined") for text in classed for line in text.splitlines())
+                told_of_frames = next(line for line in lines if line.startswith("frames ")).split()[1:]
                 wanted = {told_of_frames[at]: int(told_of_frames[at + 1]) for at in range(0, len(told_of_frames), 2)}
                 count.check(f"{name}: the classes", {key: n for key, n in wanted.items() if n} == named, wanted, named)
             for order in ("little", "big"):
                 count.check(f"{name}: merge", done(["merge", "--order", order, "-o", out, *files]) == (0, "", ""))
-                count.check(f"{name}: merged, {order}", body(done(["report", out])[1]) == body(told), told)
+                count.check(f"{name}: merged, {order}", bodies(out) == told, told)
                 count.check(f"{name}: merged, {order}, checked", counts(done(["check", out])[1]) == sums, sums)
             for file, rule, numbers in zip(files, rules, checked):
-                alone, digest = done(["report", file])[1], done(["digest", file])
+                alone, digest = bodies(file), done(["digest", file])
                 count.check(f"{name}: digest", digest[0] == 0 and digest[1].startswith("digest 1 sha256 "), digest)
                 count.check(f"{name}: digest in check", f" sha256 {digest[1].split()[3]} whole\n" in done(["check", "--digest", file])[1], digest)
                 count.check(f"{name}: pcapng", done(["convert", "--to", "pcapng", "-o", out, file]) == (0, "", ""))
-                count.check(f"{name}: report of pcapng", body(done(["report", out])[1]) == body(alone), alone)
-                same = (0, f"same packets {re.search('packets ([0-9]+)', alone)[1]}\n", "")
+                count.check(f"{name}: report of pcapng", bodies(out) == alone, alone)
+                same = (0, f"same packets {re.search('packets ([0-9]+)', alone[0][0])[1]}\n", "")
                 count.check(f"{name}: diff of pcapng", done(["diff", file, out]) == same == done(["diff", out, file]), same)
                 count.check(f"{name}: digest of pcapng", done(["digest", out]) == digest, digest)
                 count.check(f"{name}: check of pcapng", counts(done(["check", out])[1]) == numbers, numbers)
@@ -167,8 +187,9 @@ def main():
                     count.check(f"{name}: diff of pcap", done(["diff", file, out]) == same == done(["diff", out, file]), same)
                     count.check(f"{name}: digest of pcap", done(["digest", out]) == digest, digest)
                     count.check(f"{name}: check of pcap", counts(done(["check", out])[1]) == numbers, numbers)
-                    again = body(done(["report", out])[1])
-                    count.check(f"{name}: report of pcap", as_fractions(again) == as_fractions(body(alone)), again, alone)
+                    again = bodies(out)
+                    is_so = list(map(as_fractions, again)) == list(map(as_fractions, alone))
+                    count.check(f"{name}: report of pcap", is_so, again, alone)
     count.end()
 
 

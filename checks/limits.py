@@ -9,7 +9,7 @@ sys.dont_write_bytecode = True
 
 import os, struct, tempfile
 
-from captures import PROGRAM, Bench, Count, block, datagram, make_shim, packet, pcap_header, record, run, udp, vector
+from captures import PROGRAM, Bench, Count, block, datagram, ipv6, make_shim, packet, pcap_header, record, run, udp, vector
 
 SECTION = vector("CARRY_PCAPNG")[:28]
 INTERFACE = block(1, struct.pack("<HHI", 1, 0, 0))
@@ -311,10 +311,49 @@ def conversations(edges):
     edges.accepts("1,048,577 conversations, info", ["info", name], "packets 2097153 ")
 
 
+def conversations_of_both(edges):
+    """Conversations of IPv4 and IPv6 together: 1,048,576; without the word those of IPv4 alone. Every other one is of IPv6, and has the ports of the
+    one before it; or all are."""
+    def of_ipv4(n):
+        return datagram(udp((n >> 16, n & 0xFFFF)), ends=(0x0A000001, 0x0A000002))
+
+    def of_ipv6(n):
+        return ipv6(udp((n >> 16, n & 0xFFFF)), ends=(0x0A000001, 0x0A000002))
+
+    for label, kinds in (("IPv4 and IPv6", (of_ipv4, of_ipv6)), ("IPv6", (of_ipv6, of_ipv6))):
+        make = lambda n: kinds[n % 2](n // 2 * 2 if kinds[0] is of_ipv4 else n)
+        name = edges.file("both", pcap_header(101))
+        with open(name, "ab") as out:
+            for first in range(0, MOST_TALKS, 4_096):
+                out.write(b"".join(record(1, make(n)) for n in range(first, first + 4_096)))
+        size = os.path.getsize(name)
+        lines = edges.takes(f"1,048,576 conversations of {label}", ["report", "--ipv6", name], 256).splitlines()
+        texts = {of_ipv4: "10.0.0.1:{} 10.0.0.2:{} forward 1 28", of_ipv6: "[::a00:1]:{} [::a00:2]:{} forward 1 48"}
+        numbers = (n // 2 * 2 if kinds[0] is of_ipv4 else n for n in range(MOST_TALKS))
+        wanted = [f"talk udp {texts[kinds[n % 2]].format(number >> 16, number & 0xFFFF)} backward 0 0 first 1+0/1000000 last 1+0/1000000".encode()
+                  for n, number in enumerate(numbers)]
+        edges.count.check(f"1,048,576 conversations of {label}", lines[4:] == [b"joined 0 given-up 0", b"talks 1048576", *wanted], lines[:6])
+        # one that stands is no more; a new one of either network is
+        with open(name, "ab") as out:
+            out.write(record(2, make(0)) + record(2, make(MOST_TALKS - 1)))
+        edges.accepts(f"1,048,576 conversations of {label}, and two of them again", ["report", "--ipv6", name], "talks 1048576\n")
+        with open(name, "ab") as out:
+            out.write(record(3, ipv6(udp((9, 9)), kind=58)))
+        size += sum(len(record(2, make(n))) for n in (0, MOST_TALKS - 1))
+        refused = f"refused: file 1 offset {size} rule 16 talk-limit"
+        edges.refuses(f"1,048,577 conversations of {label}", ["report", "--ipv6", name], refused)
+        edges.refuses(f"1,048,577 conversations of {label}, the greatest", ["report", "--ipv6", "--top", "1", name], refused)
+        of_ipv4_alone = 524_288 if kinds[0] is of_ipv4 else 0
+        edges.accepts(f"1,048,577 conversations of {label}, without the word", ["report", name], f"talks {of_ipv4_alone}\n")
+        edges.file("both", pcap_header(101))
+    fourth = edges.file("fourth", pcap_header(101), *(record(1, of_ipv6(n)) for n in range(3)), record(2, of_ipv4(0)))
+    edges.accepts("conversations of both, a few", ["report", "--ipv6", fourth], "talks 4\n")
+
+
 def main():
     with tempfile.TemporaryDirectory() as folder:
         edges = Edges(folder, sys.argv[1] if len(sys.argv) > 1 else PROGRAM)
-        for limit in (captured, copied, blocks, interfaces, exponents, seconds, files, groups, full_groups, ends, conversations):
+        for limit in (captured, copied, blocks, interfaces, exponents, seconds, files, groups, full_groups, ends, conversations, conversations_of_both):
             limit(edges)
     edges.count.end()
 

@@ -1,5 +1,5 @@
 """What capt has to answer, as a plain program that keeps whole files: written from the formats (draft-ietf-opsawg-pcap,
-draft-ietf-opsawg-pcapng, RFC 791, RFC 768, RFC 9293) and from what docs/RULES.md, docs/CLAIMS.md and the manual page say of rules, limits and printed lines, and
+draft-ietf-opsawg-pcapng, RFC 791, RFC 8200, RFC 6946, RFC 4302, RFC 5952, RFC 768, RFC 9293) and from what docs/RULES.md, docs/CLAIMS.md and the manual page say of rules, limits and printed lines, and
 not from capt's code. The scripts of this folder hold the built program to it.
 
 `answer(task, files, ..)` gives what is written (a text, or the bytes of OUT) and the refusal, or none."""
@@ -234,6 +234,23 @@ def run_of(files):
     return run, None
 
 
+# Where a link header has its type field, and where it ends: of Ethernet, of LINUX_SLL and of LINUX_SLL2.
+LINK_HEADERS = {1: (12, 14), 113: (14, 16), 276: (0, 20)}
+
+
+def announced(link, frame):
+    """The type that a link header and the tags behind it announce, and the bytes behind them; None if the frame ends inside them."""
+    at, end = LINK_HEADERS[link]
+    if len(frame) < end:
+        return None
+    kind = frame[at:at + 2]
+    while kind in (b"\x81\x00", b"\x88\xa8"):
+        kind, end = frame[end + 2:end + 4], end + 4
+        if len(frame) < end:
+            return None
+    return kind, frame[end:]
+
+
 def ipv4_of(packet):
     """The IPv4 bytes of a frame, or its class."""
     link, frame = packet.interface.link, packet.data
@@ -242,17 +259,24 @@ def ipv4_of(packet):
         if link == 101 and not frame:
             return short
         return frame if link == 228 or frame[0] >> 4 == 4 else "not-ipv4"
-    if link not in (1, 113, 276):
+    if link not in LINK_HEADERS:
         return "other-link"
-    at, end = {1: (12, 14), 113: (14, 16), 276: (0, 20)}[link]
-    if len(frame) < end:
+    found = announced(link, frame)
+    if found is None:
         return short
-    kind = frame[at:at + 2]
-    while kind in (b"\x81\x00", b"\x88\xa8"):
-        kind, end = frame[end + 2:end + 4], end + 4
-        if len(frame) < end:
-            return short
-    return frame[end:] if kind == b"\x08\x00" else "not-ipv4"
+    kind, data = found
+    return data if kind == b"\x08\x00" else "not-ipv4"
+
+
+def ipv6_of(packet):
+    """The IPv6 bytes of a frame, or None if it carries no such packet."""
+    link, frame = packet.interface.link, packet.data
+    if link == 229:
+        return frame
+    if link == 101:
+        return frame if frame and frame[0] >> 4 == 6 else None
+    found = announced(link, frame) if link in LINK_HEADERS else None
+    return found[1] if found and found[0] == b"\x86\xdd" else None
 
 
 Header = namedtuple("Header", "service identification more start life protocol source destination length data")
@@ -277,6 +301,62 @@ def header_of(data, whole):
         if len(data) < total:
             return "cut"
     return Header(service, identification, more, start, life, protocol, source, destination, length, data[size:total])
+
+
+# A whole datagram of IPv6 with the captured part of its data, a fragment of one, or a packet that is bad or cut for a reason.
+Datagram6 = namedtuple("Datagram6", "protocol source destination length data")
+Fragment6 = namedtuple("Fragment6", "identification start")
+Refused6 = namedtuple("Refused6", "kind why")
+# The extension headers whose length is given in words of 8 bytes after the first.
+BY_EIGHTS = (0, 43, 60, 135, 139, 140)
+FRAGMENT, AUTHENTICATION = 44, 51
+
+
+def ipv6_read(data, whole):
+    """What an IPv6 packet is."""
+    if len(data) < 40:
+        return Refused6("bad" if whole else "cut", "header-short")
+    version, length, kind = data[0] >> 4, data[4] << 8 | data[5], data[6]
+    if version != 6:
+        return Refused6("bad", "version")
+    if whole and 40 + length > len(data):
+        return Refused6("bad", "beyond-frame")
+    source, destination = int.from_bytes(data[8:24], "big"), int.from_bytes(data[24:40], "big")
+    # of the payload `at` bytes were passed
+    payload, at = data[40:40 + length], 0
+    while kind in BY_EIGHTS or kind in (FRAGMENT, AUTHENTICATION):
+        # each has at least 8 bytes, and its first two give its length
+        if length - at < 8:
+            return Refused6("bad", "extension-past")
+        if len(payload) - at < 2:
+            return Refused6("cut", "extension-cut")
+        words = payload[at + 1]
+        size = 8 if kind == FRAGMENT else (words + 2) * 4 if kind == AUTHENTICATION else (words + 1) * 8
+        if at + size > length:
+            return Refused6("bad", "extension-past")
+        if at + size > len(payload):
+            return Refused6("cut", "extension-cut")
+        if kind == FRAGMENT:
+            found = fragment_of(payload[at:at + 8], length - at - 8)
+            if found:
+                return found
+        kind, at = payload[at], at + size
+    return Datagram6(kind, source, destination, length - at, payload[at:])
+
+
+def fragment_of(header, length):
+    """What the fragment header of a packet says, behind which are so many bytes; None if that is a whole datagram."""
+    places, identification = struct.unpack(">2xHI", header)
+    start, more = places & 0xFFF8, bool(places & 1)
+    if not start and not more:
+        return None
+    if length == 0:
+        return Refused6("bad", "fragment-empty")
+    if more and length % 8:
+        return Refused6("bad", "fragment-block")
+    if start + length > 65_535:
+        return Refused6("bad", "fragment-beyond")
+    return Fragment6(identification, start)
 
 
 def transport_of(protocol, data, length):
@@ -311,21 +391,43 @@ def transport_reason(protocol, data, length):
     return f"{name}-{'short' if length < least or len(data) < least else other}"
 
 
-def description(packet):
-    """What a packet is by itself, as `list --class` says it."""
-    data, whole = ipv4_of(packet), packet.captured >= packet.original
+def described_between(version, protocol, source, destination, data, length):
+    """What a whole datagram is between two addresses, with the captured part of its data, which has that length."""
+    ports = transport_of(protocol, data, length)
+    if isinstance(ports, str):
+        return f"{ports} reason {transport_reason(protocol, data, length)}"
+    lesser, greater = sorted([(version, source, ports[0]), (version, destination, ports[1])], key=lambda end: (end[1], end[2] or 0))
+    return f"counted {protocol_text(protocol)} {end_text(lesser)} {end_text(greater)}"
+
+
+def description(packet, ipv6=False):
+    """What a packet is by itself, as `list --class` says it, with `--ipv6` or without."""
+    whole = packet.captured >= packet.original
+    data = ipv6_of(packet) if ipv6 else None
+    if data is not None:
+        found = ipv6_read(data, whole)
+        if isinstance(found, Refused6):
+            return f"{found.kind} reason {found.why}"
+        if isinstance(found, Fragment6):
+            return f"fragment identification {found.identification} fragment-offset {found.start}"
+        return described_between(6, *found[:3], found.data, found.length)
+    data = ipv4_of(packet)
     if isinstance(data, str):
-        return "cut reason link-short" if data == "cut" else data
+        return "cut reason link-short" if data == "cut" else class_name(data, ipv6)
     header = header_of(data, whole)
     if isinstance(header, str):
         return f"{header} reason {header_reason(data, whole)}"
     if header.more or header.start:
         return f"fragment identification {header.identification} fragment-offset {header.start}"
-    ports = transport_of(header.protocol, header.data, header.length)
-    if isinstance(ports, str):
-        return f"{ports} reason {transport_reason(header.protocol, header.data, header.length)}"
-    lesser, greater = sorted([(header.source, ports[0]), (header.destination, ports[1])], key=lambda end: (end[0], end[1] or 0))
-    return f"counted {protocol_text(header.protocol)} {end_text(header.protocol, lesser)} {end_text(header.protocol, greater)}"
+    return described_between(4, header.protocol, header.source, header.destination, header.data, header.length)
+
+
+CLASSES = ("other-link", "not-ipv4", "short", "cut", "bad", "unjoined", "counted")
+
+
+def class_name(name, ipv6):
+    """The name of a class, with `--ipv6` or without: what is neither IPv4 nor IPv6 is `not-ip` then."""
+    return "not-ip" if ipv6 and name == "not-ipv4" else name
 
 
 class Group:
@@ -374,14 +476,30 @@ def key_of(header):
 
 
 class Table:
-    """The report's counts over a list of packets with their clocks."""
+    """The report's counts over a list of packets with their clocks, those of IPv6 among them or not."""
 
-    def __init__(self):
-        self.classes = dict.fromkeys(["other-link", "not-ipv4", "short", "cut", "bad", "unjoined", "counted"], 0)
+    def __init__(self, ipv6=False):
+        self.ipv6, self.classes = ipv6, dict.fromkeys(CLASSES, 0)
         self.joiner, self.joined, self.talks = Joiner(), 0, {}
 
+    def frames(self):
+        """The line of the classes."""
+        return "frames " + " ".join(f"{class_name(name, self.ipv6)} {count}" for name, count in self.classes.items()) + "\n"
+
+    def take_ipv6(self, place, packet, found):
+        """Counts an IPv6 packet. Its fragments aren't joined, and it changes nothing of those of IPv4."""
+        if isinstance(found, Refused6):
+            self.classes[found.kind] += 1
+        elif isinstance(found, Fragment6):
+            self.classes["unjoined"] += 1
+        else:
+            self.counts(6, *found[:3], found.data, found.length, [(place, packet)])
+
     def take(self, place, clock, packet):
-        """The datagram that this packet completes, if it counts: its header, its data and whether that is whole."""
+        """The IPv4 datagram that this packet completes, if it counts: its header, its data and whether that is whole."""
+        data = ipv6_of(packet) if self.ipv6 else None
+        if data is not None:
+            return self.take_ipv6(place, packet, ipv6_read(data, packet.captured >= packet.original))
         data = ipv4_of(packet)
         header = data if isinstance(data, str) else header_of(data, packet.captured >= packet.original)
         if isinstance(header, str):
@@ -399,12 +517,17 @@ class Table:
         return self.count(group.header, data, len(data), group.frames)
 
     def count(self, header, data, length, frames):
-        ports = transport_of(header.protocol, data, length)
+        is_counted = self.counts(4, header.protocol, header.source, header.destination, data, length, frames)
+        return (header, data, len(data) == length) if is_counted else None
+
+    def counts(self, version, protocol, source, destination, data, length, frames):
+        """Counts a datagram that came in some frames; whether it has a conversation."""
+        ports = transport_of(protocol, data, length)
         if isinstance(ports, str):
             self.classes[ports] += len(frames)
-            return None
-        ends = (header.source, ports[0]), (header.destination, ports[1])
-        key = (header.protocol, *sorted(ends))
+            return False
+        ends = (version, source, ports[0]), (version, destination, ports[1])
+        key = (protocol, *sorted(ends))
         if key not in self.talks and len(self.talks) >= MOST_TALKS:
             raise Refused(frames[-1][1].offset, 16)
         sums, of_talk = self.talks.setdefault(key, ([0, 0, 0, 0], []))
@@ -415,7 +538,7 @@ class Table:
         of_talk[:] = [earliest(timed), latest(timed)] if timed else []
         self.classes["counted"] += len(frames)
         self.joined += len(frames) > 1      # no fragment is a datagram by itself
-        return header, data, len(data) == length
+        return True
 
 
 def earliest(timed):
@@ -461,7 +584,7 @@ def canonical(packet):
 
 # Tasks that have a line for each file, also for one that isn't whole, and go on.
 SURVEYS = ("digest", "check", "check-digest")
-SKIPPING = ("info-skipping", "report-skipping")
+SKIPPING = ("info-skipping", "report-skipping", "report-skipping-ipv6")
 
 
 def digest_of(packets):
@@ -562,16 +685,33 @@ def protocol_text(protocol):
     return {17: "udp", 6: "tcp"}.get(protocol, f"p{protocol}")
 
 
-def end_text(protocol, end):
-    address = ".".join(str(byte) for byte in struct.pack(">I", end[0]))
-    return address if end[1] is None else f"{address}:{end[1]}"
+def ipv6_text(address):
+    """An IPv6 address in eight groups of hex digits, in place of the longest run of two or more groups of zero, the first of those as long,
+    `::`. One that maps an IPv4 address has no other form."""
+    groups = struct.unpack(">8H", address.to_bytes(16, "big"))
+    words = [f"{group:x}" for group in groups]
+    most, begin = 1, None
+    for start in range(8):
+        length = next((n for n in range(8 - start) if groups[start + n]), 8 - start)
+        if length > most:
+            most, begin = length, start
+    return ":".join(words) if begin is None else f"{':'.join(words[:begin])}::{':'.join(words[begin + most:])}"
 
 
-def report(files, most=None):
+def end_text(end):
+    """An end: its network's version, its address, and its port or None."""
+    version, address, port = end
+    if version == 6:
+        return ipv6_text(address) if port is None else f"[{ipv6_text(address)}]:{port}"
+    address = ".".join(str(byte) for byte in struct.pack(">I", address))
+    return address if port is None else f"{address}:{port}"
+
+
+def report(files, most=None, ipv6=False):
     """The report, with a line for each conversation, or for so many of them, those with the most bytes both ways: the greatest first, and of
-    equal bytes the one that began first."""
+    equal bytes the one that began first. With conversations of IPv6 or without."""
     run, refusal = run_of(files)
-    table = Table()
+    table = Table(ipv6)
     for place, (clock, packet) in enumerate(run):
         try:
             table.take(place, clock, packet)
@@ -580,7 +720,7 @@ def report(files, most=None):
     if refusal:
         return "", refusal
     lines = [info(files)[0], f"total {sums_of([packet for _, packet in run])}\n",
-             "frames " + " ".join(f"{name} {count}" for name, count in table.classes.items()) + "\n",
+             table.frames(),
              f"joined {table.joined} given-up {table.joiner.given_up}\n", f"talks {len(table.talks)}\n"]
     talks = list(table.talks.items())
     if most is not None:
@@ -588,7 +728,7 @@ def report(files, most=None):
         talks = [talks[place] for place in places[:most]]
     for (protocol, lesser, greater), (sums, frames) in talks:
         first, last = (printed(frames[0][1]), printed(frames[1][1])) if frames else ("-", "-")
-        lines.append(f"talk {protocol_text(protocol)} {end_text(protocol, lesser)} {end_text(protocol, greater)} forward {sums[0]} {sums[1]} "
+        lines.append(f"talk {protocol_text(protocol)} {end_text(lesser)} {end_text(greater)} forward {sums[0]} {sums[1]} "
                      f"backward {sums[2]} {sums[3]} first {first} last {last}\n")
     return "".join(lines), None
 
@@ -602,9 +742,9 @@ def list_(files):
     return "".join(packet_line(n, p) for n, p in enumerate(files[0].packets, 1)), files[0].refusal
 
 
-def classed(files):
-    """What `list --class` prints."""
-    return "".join(f"{packet_line(n, p)[:-1]} class {description(p)}\n" for n, p in enumerate(files[0].packets, 1)), files[0].refusal
+def classed(files, ipv6=False):
+    """What `list --class` prints, with `--ipv6` or without."""
+    return "".join(f"{packet_line(n, p)[:-1]} class {description(p, ipv6)}\n" for n, p in enumerate(files[0].packets, 1)), files[0].refusal
 
 
 def differences(a, b, ignored=()):
@@ -777,8 +917,8 @@ def answer(task, contents, allow_cut=False, order="<", ignored=(), times="exact"
     `pcapng` for `convert` to that format, `merge-pcap` or `join-pcap` for `merge` or `join` to pcap, `merge-shared` for
     `merge --share-interfaces`, `pcap-micro`, `merge-nano` and the like for these to pcap with `--unit`, `check-digest` for
     `check --digest`, `classed` for `list --class`, or `top` for `report --top 2`, or `info-skipping` and `report-skipping`
-    for `info` and `report` with `--skip-refused`. `diff` ignores times, link types or original lengths, if these are named.
-    Times are printed in that form."""
+    for `info` and `report` with `--skip-refused`; `report-ipv6`, `top-ipv6`, `report-skipping-ipv6` and `classed-ipv6` have
+    `--ipv6` too. `diff` ignores times, link types or original lengths, if these are named. Times are printed in that form."""
     if times != "exact":
         text, refusal = answer(task, contents, allow_cut, order, ignored)
         return in_form(text, times), refusal
@@ -799,10 +939,12 @@ def answer(task, contents, allow_cut=False, order="<", ignored=(), times="exact"
         return join(to, order, files, unit)
     if task == "diff":
         return diff(files, ignored)
-    return {"list": list_, "classed": classed, "blocks": blocks, "info": info, "report": report,
-            "top": lambda files: report(files, 2), "info-skipping": lambda files: skipping(info, files),
-            "report-skipping": lambda files: skipping(report, files), "digest": digest, "check": check,
-            "check-digest": check_digest}[task](files)
+    task, ipv6 = task.removesuffix("-ipv6"), task.endswith("-ipv6")
+    return {"list": list_, "classed": lambda files: classed(files, ipv6), "blocks": blocks, "info": info,
+            "report": lambda files: report(files, ipv6=ipv6), "top": lambda files: report(files, 2, ipv6),
+            "info-skipping": lambda files: skipping(info, files),
+            "report-skipping": lambda files: skipping(lambda files: report(files, ipv6=ipv6), files),
+            "digest": digest, "check": check, "check-digest": check_digest}[task](files)
 
 
 def status_of(task, text, refusal):

@@ -3,7 +3,7 @@
 object and byte for byte, what the text lines of the model say of the same files, and Python's json reads each line as
 those values. Over the files of checks/corpus/, the examples, the worked captures, and captures made at random, some of
 them damaged; `list` and `diff` also with --data, `list` with --class, `report` with --top, `info` and
-`report` with --skip-refused, `diff` with --ignore, and each form of times. A refusal and a fault are an object too, with the file's path.
+`report` with --skip-refused, `report` and `list --class` with --ipv6, `diff` with --ignore, and each form of times. A refusal and a fault are an object too, with the file's path.
 
 Use: checks/objects.py [PROGRAM [CAPTURES]]     (as after `rt run` or `rt ci` in crates/capt; 10,000 random captures in about a minute)
 """
@@ -16,9 +16,10 @@ from concurrent.futures import ThreadPoolExecutor
 
 import model
 from captures import PROGRAM, TOP, VECTORS, Bench, Count, make_shim, run, vector, wanted_of, words_of
-from soak import TIMED, mutated, some_capture, some_pair
+from soak import OF_IPV6, TIMED, mutated, some_capture, some_pair
 
-TASKS = ("list", "classed", "blocks", "info", "report", "top", "info-skipping", "report-skipping", "digest", "check", "check-digest")
+TASKS = ("list", "classed", "blocks", "info", "report", "top", "info-skipping", "report-skipping", "report-ipv6", "classed-ipv6", "digest", "check",
+         "check-digest")
 PROTOCOLS = {"udp": 17, "tcp": 6}
 TIME = re.compile(r"(-?\d+)\+(\d+)/(\d+)")
 
@@ -29,7 +30,9 @@ def time_of(word):
 
 
 def end_of(word):
-    address, _, port = word.partition(":")
+    """An end's address, and its port if it has one: `[ADDRESS]:PORT` or ADDRESS of IPv6, `ADDRESS:PORT` or ADDRESS of IPv4."""
+    found = re.fullmatch(r"\[([0-9a-f:]+)\]:(\d+)|([\d.]+):(\d+)|([0-9a-f:.]+)", word)
+    address, port = found[1] or found[3] or found[5], found[2] or found[4]
     return {"address": address, "port": int(port)} if port else {"address": address}
 
 
@@ -194,6 +197,7 @@ def main():
             for data in (0, 3, 60, 61, 199, 200, 201, 400, 262_144):
                 holds(bench, "list", [content], False, data)
                 holds(bench, "classed", [content], False, data)
+            holds(bench, "classed-ipv6", [content], False, 40)
 
         def random_one(n):
             rng, bench = random.Random(f"objects/{n}"), Bench(tempfile.mkdtemp(dir=folder), program)
@@ -201,10 +205,10 @@ def main():
             for place, content in enumerate(contents):
                 for _ in range(rng.choice([0, 0, 0, 1, 2])):
                     contents[place] = mutated(rng, content, rng.choice(contents))
-            task, allow_cut = rng.choice(("info", "report", "top", "info-skipping", "report-skipping", "digest", "check", "check-digest", "blocks")), rng.random() < 0.5
+            task, allow_cut = rng.choice(("info", "report", "top", "info-skipping", "report-skipping", "digest", "check", "check-digest", "blocks", *OF_IPV6[:3])), rng.random() < 0.5
             times = rng.choice(("exact", "decimal", "utc"))
             holds(bench, task, contents[:1] if task == "blocks" else contents, allow_cut, times=times if task in TIMED else "exact")
-            holds(bench, rng.choice(("list", "classed")), contents[:1], allow_cut, rng.choice((None, None, 0, 20, 262_144)), times=times)
+            holds(bench, rng.choice(("list", "classed", "classed-ipv6")), contents[:1], allow_cut, rng.choice((None, None, 0, 20, 262_144)), times=times)
             pair, ignored = some_pair(rng, contents), [kind for kind in ("time", "link", "original") if rng.random() < 0.3]
             holds(bench, "diff", pair, allow_cut, rng.choice((None, None, 0, 20, 262_144)), ignored=ignored, times=times)
             for name in os.listdir(bench.folder):

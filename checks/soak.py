@@ -8,23 +8,51 @@ from collections import Counter
 from concurrent.futures import ProcessPoolExecutor
 
 import model
-from captures import PROGRAM, VECTORS, WRITING, Bench, datagram, make_shim, run, udp, vector, wanted_of, words_of
+from captures import (ENDS_6, PROGRAM, VECTORS, WRITING, Bench, datagram, extension, fragment_header, ipv6, make_shim, run, udp,
+                      vector, wanted_of, words_of)
 
 IN_UNITS = ["pcap-micro", "pcap-nano", "merge-micro", "merge-nano", "join-micro", "join-nano"]
-TASKS = ["list", "classed", "blocks", "diff", "info", "report", "top", "info-skipping", "report-skipping", "digest", "check", "check-digest",
+OF_IPV6 = ["report-ipv6", "top-ipv6", "report-skipping-ipv6", "classed-ipv6"]
+TASKS = ["list", "classed", "blocks", "diff", "info", "report", "top", "info-skipping", "report-skipping", *OF_IPV6, "digest", "check", "check-digest",
          "merge", "join", "pcap", "pcapng", "merge-shared", "merge-pcap", "join-pcap", *IN_UNITS]
-MANY = ("info", "report", "top", "info-skipping", "report-skipping", "digest", "check", "check-digest", "merge", "join", "merge-shared",
+MANY = ("info", "report", "top", "info-skipping", "report-skipping", *OF_IPV6[:3], "digest", "check", "check-digest", "merge", "join", "merge-shared",
         "merge-pcap", "join-pcap", *IN_UNITS[2:])
-TIMED = ("list", "classed", "diff", "info", "report", "top", "info-skipping", "report-skipping", "check", "check-digest")
+TIMED = ("list", "classed", "diff", "info", "report", "top", "info-skipping", "report-skipping", *OF_IPV6, "check", "check-digest")
 NUMBERS = [0, 1, 2, 3, 4, 28, 32, 262_144, 262_145, 524_288, 524_292, 2**31, 2**32 - 4, 2**32 - 1]
 LINE = re.compile(rb"refused: file \d+ offset \d+ rule \d+ [a-z-]+\n|fault: (read file \d+ offset \d+|write|memory|open file \d+|create output)\n|")
 MOST_MEMORY = 16 * 1024     # KiB
 
 
-def frame(rng, link):
-    """A frame of a link type, mostly of an IPv4 datagram or a fragment of few keys."""
-    data = rng.choice([udp((rng.randrange(3), rng.randrange(3)), bytes(rng.randrange(30))), rng.randbytes(rng.randrange(60)),
+def payload(rng):
+    """The data of a datagram: mostly of UDP or TCP with few ports."""
+    return rng.choice([udp((rng.randrange(3), rng.randrange(3)), bytes(rng.randrange(30))), rng.randbytes(rng.randrange(60)),
                        struct.pack(">HHIIBBHHH", 1, 2, 3, 4, 0x50, 0, 0, 0, 0), b""])
+
+
+def some_ipv6(rng):
+    """An IPv6 packet of few ends, often behind extension headers, whose lengths sometimes lie."""
+    data, kind = payload(rng), rng.choice([17, 17, 6, 58, 59, 50])
+    for _ in range(rng.choice([0, 0, 0, 1, 1, 2, 3, 40])):
+        # the last header is the first that is made
+        number = rng.choice([0, 43, 60, 135, 139, 140, 44, 44, 51])
+        if number == 44:
+            start, more = rng.choice([(0, False), (0, True), (8 * rng.randrange(4), True), (8 * rng.randrange(4), False), (65_528, False)])
+            header = fragment_header(kind, start, more, rng.randrange(3))
+        else:
+            size = 4 * rng.randrange(2, 6) if number == 51 else 8 * rng.randrange(1, 4)
+            header = bytes([kind, size // 4 - 2]) + bytes(size - 2) if number == 51 else extension(kind, size)
+        data, kind = header + data, number
+    if data and rng.random() < 0.15:
+        place = rng.choice([rng.randrange(len(data)), min(1, len(data) - 1)])
+        data = data[:place] + rng.randbytes(1) + data[place + 1:]
+    addresses = [*ENDS_6, 0x0A000001, 0x0A000002, rng.choice([0, 1, 0xFFFF_0A000001, 1 << 127, rng.getrandbits(128) & rng.getrandbits(128)])]
+    length = len(data) + rng.choice([0] * 12 + [1, -1, -8, 8, 1_000, -len(data)])
+    return ipv6(data, kind, (rng.choice(addresses), rng.choice(addresses)), min(max(length, 0), 65_535))
+
+
+def frame(rng, link):
+    """A frame of a link type, mostly of an IPv4 datagram or a fragment of few keys, or of an IPv6 packet."""
+    data = payload(rng)
     ends = rng.choice([(0x0A000001, 0x0A000002), (0x0A000002, 0x0A000001), (0x0A000003, 0x0A000003)])
     protocol = rng.choice([17, 17, 6, 1, 253])
     if rng.random() < 0.5:
@@ -35,6 +63,8 @@ def frame(rng, link):
         packet = datagram(data, 0, False, rng.randrange(3), protocol, ends)
     tags = b"".join(rng.choice([b"\x81\x00", b"\x88\xa8"]) + rng.randbytes(2) for _ in range(rng.choice([0, 0, 0, 1, 2])))
     kind = rng.choice([b"\x08\x00", b"\x08\x00", b"\x08\x00", b"\x86\xdd"])
+    if rng.random() < (0.9 if link == 229 else 0.4):
+        packet, kind = some_ipv6(rng), rng.choice([b"\x86\xdd"] * 9 + [kind])
     heads = {1: bytes(12) + tags + kind, 113: bytes(14) + tags + kind}
     if link == 276:
         types = tags + kind
@@ -50,7 +80,7 @@ def captured(rng, data):
 
 
 def some_pcap(rng):
-    link = rng.choice([1, 1, 101, 101, 113, 228, 276, 147])
+    link = rng.choice([1, 1, 101, 101, 113, 228, 229, 276, 147])
     magic, order = rng.choice([(0xA1B2C3D4, "<"), (0xA1B2C3D4, ">"), (0xA1B23C4D, "<"), (0xA1B23C4D, ">")])
     out = [struct.pack(order + "IHHIIII", magic, 2, 4, 0, 0, rng.choice([0, 65_535]), link)]
     for _ in range(rng.randrange(12)):
@@ -67,7 +97,7 @@ def some_pcapng(rng):
         out.append(model.block(order, model.SECTION, struct.pack(order + "IHHq", 0x1A2B3C4D, 1, rng.choice([0, 0, 2]), -1)))
         for _ in range(rng.randrange(16)):
             if not links or rng.random() < 0.15:
-                links.append(rng.choice([1, 101, 101, 113, 228, 276, 5]))
+                links.append(rng.choice([1, 101, 101, 113, 228, 229, 276, 5]))
                 out.append(some_interface(rng, order, links[-1]))
             elif rng.random() < 0.1:
                 out.append(model.block(order, rng.choice([4, 5, 0xBAD, 0x40000001]), rng.randbytes(4 * rng.randrange(6))))
@@ -104,14 +134,18 @@ def some_packet(rng, order, links):
 
 
 def some_large(rng):
-    """A capture near a limit: of a packet's bytes, a block's, the interfaces, the groups, the end of a fragment's data."""
+    """A capture near a limit: of a packet's bytes, a block's, the interfaces, the groups, the end of a fragment's data, the extension headers of an
+    IPv6 packet."""
     order, near = rng.choice("<>"), rng.choice([-1, 0, 1])
     head = struct.pack(order + "IHHIIII", 0xA1B2C3D4, 2, 4, 0, 0, 0, 101)
     section = model.block(order, model.SECTION, struct.pack(order + "IHHq", 0x1A2B3C4D, 1, 0, -1))
     interface = model.block(order, 1, struct.pack(order + "HHI", 101, 0, 0))
     records = lambda frames: b"".join(struct.pack(order + "IIII", 1, n, len(data), len(data)) + data for n, data in enumerate(frames))
     packet = lambda n, data: model.block(order, 6, struct.pack(order + "IIIII", n, 0, n, len(data), len(data)) + data + bytes(-len(data) % 4))
-    kind = rng.randrange(5)
+    kind = rng.randrange(6)
+    if kind == 5:
+        headers = extension(60) * (8_189 - rng.choice([0, 0, 1, 190])) + extension(44)
+        return head + records([ipv6(headers + fragment_header(17, 8 * rng.randrange(2), near > 0) + bytes(6 + near), 60), ipv6(udp((1, 2)))])
     if kind == 0:
         return head + records([rng.randbytes(262_144 + near), b"\1"])
     if kind == 1:
@@ -197,7 +231,7 @@ def complaint(task, contents, seen, wanted, faults):
         return None if error == b"" and is_unread(task, contents, text, wanted[1]) else "a read that failed isn't on its line"
     if not error.startswith({"GROWTHS": b"fault: memory", "READ": b"fault: read", "WRITE": b"fault: write"}[next(iter(faults))]):
         return "another fault than was made"
-    if task in ("diff", "report", "top", "info") and text and "WRITE" not in faults:
+    if task in ("diff", "report", "top", "info", "report-ipv6", "top-ipv6") and text and "WRITE" not in faults:
         return "something was written"
     return None if wanted[1].startswith(text) else "no prefix was written"
 

@@ -23,15 +23,29 @@ _EPOCH = datetime(1970, 1, 1, tzinfo=timezone.utc)
 
 
 def end_of(text: str) -> Tuple[str, Optional[int]]:
-    """ADDRESS or ADDRESS:PORT."""
-    address, _, port = text.partition(":")
+    """ADDRESS or ADDRESS:PORT of IPv4, ADDRESS or [ADDRESS]:PORT of IPv6; the address as capt prints it."""
+    bracketed = re.fullmatch(r"\[(.*)\]:([^:]*)", text)
+    found = bracketed or re.fullmatch("([^:]*):([^:]*)", text)
+    address, port = found.groups() if found else (text, None)
     try:
-        address = str(ipaddress.IPv4Address(address))
+        address = _ipv6_text(address) if bracketed or ":" in address else str(ipaddress.IPv4Address(address))
     except ValueError:
-        raise argparse.ArgumentTypeError(f"{text}: an address is one of IPv4, as 10.0.0.1")
-    if ":" in text and not (re.fullmatch("[0-9]{1,5}", port) and int(port) < 65536):
+        raise argparse.ArgumentTypeError(f"{text}: an address is one of IPv4 or IPv6, as 10.0.0.1 or 2001:db8::1")
+    if port is not None and not (re.fullmatch("[0-9]{1,5}", port) and int(port) < 65536):
         raise argparse.ArgumentTypeError(f"{text}: a port is a number from 0 to 65535")
-    return address, int(port) if port else None
+    return address, None if port is None else int(port)
+
+
+def _ipv6_text(text: str) -> str:
+    """An IPv6 address as capt prints it, which has no other form for one that maps an IPv4 address; newer versions of
+    Python have. No packet has an address with a zone, as fe80::1%eth0."""
+    if "%" in text:
+        raise ValueError(text)
+    address = ipaddress.IPv6Address(text)
+    if address.ipv4_mapped is None:
+        return str(address)
+    low = int(address) & 0xFFFFFFFF
+    return f"::ffff:{low >> 16:x}:{low & 0xFFFF:x}"
 
 
 def instant(text: str) -> Fraction:
@@ -115,7 +129,7 @@ def words_of(command: str) -> argparse.ArgumentParser:
     if command == "verify":
         words.works().tells()
     if command == "find":
-        words.add("end", type=end_of, metavar="ADDRESS[:PORT]")
+        words.add("end", type=end_of, metavar="ADDRESS[:PORT]", help="an IPv6 address with a port is [ADDRESS]:PORT")
         words.add("--from", dest="since", type=instant, metavar="TIME", help="only conversations that last until then")
         words.add("--to", dest="until", type=instant, metavar="TIME", help="only conversations that have begun then")
     if command == "top":

@@ -50,8 +50,15 @@ def _end(address: str, port: Optional[int]) -> Dict[str, Any]:
     return {"address": address} if port is None else {"address": address, "port": port}
 
 
+def _end_text(address: str, port: Optional[int]) -> str:
+    """An end as the program prints it: an IPv6 address with a port is in brackets."""
+    if port is None:
+        return address
+    return f"[{address}]:{port}" if ":" in address else f"{address}:{port}"
+
+
 def _talk_words(talk: Talk) -> List[str]:
-    ends = [address if port is None else f"{address}:{port}" for address, port in (talk[1:3], talk[3:5])]
+    ends = [_end_text(*end) for end in (talk[1:3], talk[3:5])]
     counts = f"forward {talk[5]} {talk[6]} backward {talk[7]} {talk[8]}"
     return [{17: "udp", 6: "tcp"}.get(talk.protocol, f"p{talk.protocol}"), *ends, counts,
             f"first {talk.first or '-'} last {talk.last or '-'}"]
