@@ -1,8 +1,7 @@
 #!/usr/bin/env bash
 # What the pages show is so:
 # - each line that begins with `$ ` in a block of README.md, docs/GUIDE.md or docs/RECIPES.md is run over a copy of examples/, with the
-#   lines that go on with it, and prints what stands under it, on both streams; the captures are made anew by examples/make.py, the
-#   picture by packaging/picture.py;
+#   lines that go on with it, and prints what stands under it, on both streams; the captures are made anew by examples/make.py;
 # - docs/RULES.md and the manual page have the numbers and names of the rules, whose definitions and functions stand where the first says;
 #   the manual page has the lines that the helps show; docs/CLAIMS.md has the lengths of what must be read and names each test,
 #   docs/TRUSTED.md has the definitions' names;
@@ -201,7 +200,8 @@ for page in pages:
         judged(f"{page}, {path}", part in text_of(path), f"shows what {path} doesn't have:\n{part}")
     long = [n for n, line in enumerate(prose.split("\n"), 1) if len(line) > 120 and not line.startswith("|")]
     judged(f"{page}, columns", not long, f"lines of more than 120 columns: {long}")
-judged("README.md, lines", readme.count("\n") <= 100, f"{readme.count(chr(10))} lines, at most 100")
+judged("README.md, lines", readme.count("\n") <= 130, f"{readme.count(chr(10))} lines, at most 130")
+judged("README.md, words", len(readme.split()) <= 1_400, f"{len(readme.split())} words, at most 1,400")
 words = len(text_of("docs/DECISIONS.md").split())
 judged("docs/DECISIONS.md, words", words <= 3000, f"{words} words, at most 3,000")
 
@@ -227,10 +227,6 @@ if shutil.which("rt"):
     kit, _, present = subprocess.run(["rt", "version"], capture_output=True, text=True).stdout.strip().partition(" ")
     names = [name if name.startswith("rattle-kit-") else f"rattle-kit-{name}" for name in kits.split(" or ")]
     judged("crates/cap_line/src/texts.rt, kit", kit in names and present == logic, f"rt is {kit} {present}")
-
-if shutil.which("capt"):
-    ran = subprocess.run([f"{top}/packaging/picture.py", shutil.which("capt")], capture_output=True, text=True)
-    judged("docs/report.svg", ran.returncode == 0 and ran.stdout == text_of("docs/report.svg"), "isn't what packaging/picture.py prints")
 
 if shutil.which("objdump") and shutil.which("capt"):
     told = subprocess.run(["objdump", "-Tx", os.path.realpath(shutil.which("capt"))], capture_output=True, text=True).stdout

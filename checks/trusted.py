@@ -34,6 +34,10 @@ ROOTS = {
         "cap_laws.InOrder.text_by_places_in", "cap_laws.InOrder.top_by_places_in", "cap_laws.InOrder.refusal_by_places",
         "cap_merge.Files.clocked_run", "cap_merge.Files.endings_of_files", TELLS,
     ],
+    "report --ipv6": [
+        "cap_talks.talks.ReportText.report_for", "cap_talks.talks.ReportText.report_refusal_for", "cap_merge.Files.clocked_run",
+        "cap_merge.Files.endings_of_files", TELLS,
+    ],
     "digest": ["cap_tool.CheckedNames.ChecksNames"],
     "check": ["cap_tool.CheckedNames.ChecksNames"],
     "convert": ["cap_commands.Converted.convert_text", "cap_commands.Converted.convert_refusal", PRINTS],

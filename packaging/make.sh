@@ -34,7 +34,7 @@ install_below() {
     install -Dm644 -t "$2/share/fish/vendor_completions.d" completions/capt.fish
     install -Dm644 -t "$2/share/zsh/vendor-completions" completions/_capt
     install -Dm644 -t "$2/share/doc/capt" README.md CHANGELOG.md SECURITY.md LICENSE
-    install -Dm644 -t "$2/share/doc/capt/docs" docs/{GUIDE,RULES,RECIPES,VERIFYING,CLAIMS,DEFINITIONS,TRUSTED}.md docs/report.svg
+    install -Dm644 -t "$2/share/doc/capt/docs" docs/{GUIDE,RULES,RECIPES,ARCHIVE,VERIFYING,CLAIMS,DEFINITIONS,TRUSTED}.md
 }
 dated() { find "$1" -exec touch -hd "@$SOURCE_DATE_EPOCH" {} +; }
 
