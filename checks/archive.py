@@ -189,13 +189,17 @@ def check_ends(count, archive):
     from capt.archive import __main__ as commands
     from capt.archive import lines
     for text, want in [
-        ("192.0.2.1:53", ("192.0.2.1", 53)), ("192.0.2.1", ("192.0.2.1", None)), ("192.0.2.1:0", ("192.0.2.1", 0)), ("[2001:db8::1]:443", ("2001:db8::1", 443)),
-        ("2001:db8::1", ("2001:db8::1", None)), ("[2001:db8::1]:0", ("2001:db8::1", 0)), ("[::]:65535", ("::", 65535)), ("::", ("::", None)), ("::1", ("::1", None)),
+        ("192.0.2.1:53", ("192.0.2.1", 53)), ("192.0.2.1", ("192.0.2.1", None)), ("192.0.2.1:0", ("192.0.2.1", 0)),
+        ("[2001:db8::1]:443", ("2001:db8::1", 443)),
+        ("2001:db8::1", ("2001:db8::1", None)), ("[2001:db8::1]:0", ("2001:db8::1", 0)), ("[::]:65535", ("::", 65535)),
+        ("::", ("::", None)), ("::1", ("::1", None)),
         # what looks like a port without brackets is a part of the address
         ("2001:db8::1:443", ("2001:db8::1:443", None)), ("1:2:3:4:5:6:7:8", ("1:2:3:4:5:6:7:8", None)),
         # in the form of RFC 5952, IPv4 in it as groups too
-        ("2001:0DB8:0:0:0:0:0:1", ("2001:db8::1", None)), ("[2001:db8:0:0:1:0:0:1]:7", ("2001:db8::1:0:0:1", 7)), ("::ffff:1.2.3.4", ("::ffff:102:304", None)),
-        ("[::ffff:102:304]:80", ("::ffff:102:304", 80)), ("::ffff:0.0.0.1", ("::ffff:0:1", None)), ("::1.2.3.4", ("::102:304", None)),
+        ("2001:0DB8:0:0:0:0:0:1", ("2001:db8::1", None)), ("[2001:db8:0:0:1:0:0:1]:7", ("2001:db8::1:0:0:1", 7)),
+        ("::ffff:1.2.3.4", ("::ffff:102:304", None)),
+        ("[::ffff:102:304]:80", ("::ffff:102:304", 80)), ("::ffff:0.0.0.1", ("::ffff:0:1", None)),
+        ("::1.2.3.4", ("::102:304", None)),
         ("64:ff9b::192.0.2.33", ("64:ff9b::c000:221", None)), ("2001:db8:0:1:1:1:1:1", ("2001:db8:0:1:1:1:1:1", None)),
     ]:
         seen = commands.end_of(text)
@@ -467,11 +471,15 @@ def check_wrong(count, archive):
     kept = {name: open(archive.path(name), "rb").read() for name in ("other.db", "one.pcap")}
     for status, words, said in [
         (2, [], "COMMAND"), (2, ["nothing"], "invalid choice"), (2, ["index"], "ARCHIVE.db"), (2, ["index", "a.db"], "FILE is missing"),
-        (2, ["index", "a.db", "--files0-from", "x", "one.pcap"], "either"), (2, ["find", "archive.db", "10.0.0"], "an address is one of IPv4 or IPv6"),
-        (2, ["find", "archive.db", "[10.0.0.1]:53"], "an address is one of IPv4 or IPv6"), (2, ["find", "archive.db", "10.0.0.1:65536"], "from 0 to 65535"),
-        (2, ["find", "archive.db", "[::1]:65536"], "from 0 to 65535"), (2, ["find", "archive.db", "[::1]:"], "from 0 to 65535"),
+        (2, ["index", "a.db", "--files0-from", "x", "one.pcap"], "either"),
+        (2, ["find", "archive.db", "10.0.0"], "an address is one of IPv4 or IPv6"),
+        (2, ["find", "archive.db", "[10.0.0.1]:53"], "an address is one of IPv4 or IPv6"),
+        (2, ["find", "archive.db", "10.0.0.1:65536"], "from 0 to 65535"),
+        (2, ["find", "archive.db", "[::1]:65536"], "from 0 to 65535"),
+        (2, ["find", "archive.db", "[::1]:"], "from 0 to 65535"),
         *((2, ["find", "archive.db", word], "an address is one of IPv4 or IPv6")
-          for word in ("", ":53", "[::1]", "[::1", "::1]", "::1]:53", "[::1]53", "1::2::3", "fe80::1%eth0", "[fe80::1%1]:53", "1:2:3:4:5:6:7", "::10000", "::g")),
+          for word in ("", ":53", "[::1]", "[::1", "::1]", "::1]:53", "[::1]53", "1::2::3", "fe80::1%eth0",
+                       "[fe80::1%1]:53", "1:2:3:4:5:6:7", "::10000", "::g")),
         (2, ["find", "archive.db", "10.0.0.1", "--from", "soon"], "soon: a time is"), (2, ["top", "archive.db", "--count", "0"], "from 1 on"),
         (2, ["index", "a.db", "one.pcap", "--program", "no-such-capt"], "no program no-such-capt"), (2, ["merge", "out"], "FILE is missing"),
         (1, ["find", "none.db", "10.0.0.1"], "there is no such catalogue"), (1, ["find", "one.pcap", "10.0.0.1"], "it is no catalogue"),
@@ -588,7 +596,8 @@ def check_page(count, folder, program):
         count.check(f"page: {line.strip()}", ran.stdout.replace(place, "/captures") == wanted, ran.stdout)
 
 
-CHECKS = (check_engines, check_killed, check_answers, check_merge, check_wrong, check_times, check_ends, check_again, check_bad, check_fragments,
+CHECKS = (check_engines, check_killed, check_answers, check_merge, check_wrong, check_times, check_ends, check_again,
+          check_bad, check_fragments,
           check_duplicates)
 
 

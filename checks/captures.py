@@ -44,9 +44,11 @@ VECTORS = {
 }
 
 
-# The same of IPv6: UDP there and back, once in a tagged frame behind hop-by-hop options, TCP behind destination options and an authentication header, a
+# The same of IPv6: UDP there and back, once in a tagged frame behind hop-by-hop options, TCP behind destination options
+# and an authentication header, a
 # whole datagram by its fragment header, a fragment, and ICMPv6, between 2001:db8::1 and 2001:db8::2.
-A_TO_B, B_TO_A = ("20010db8000000000000000000000001 20010db8000000000000000000000002", "20010db8000000000000000000000002 20010db8000000000000000000000001")
+A_TO_B, B_TO_A = ("20010db8000000000000000000000001 20010db8000000000000000000000002",
+                  "20010db8000000000000000000000002 20010db8000000000000000000000001")
 IPV6_VECTORS = {
     "IPV6_FRAMES": [
         f"{MICRO_LITTLE} 01000000",
@@ -160,7 +162,8 @@ class Count:
 
 # The command of each task that writes a capture.
 WRITING = {"merge": ["merge"], "join": ["join"], "pcap": ["convert", "--to", "pcap"], "pcapng": ["convert", "--to", "pcapng"],
-           "merge-shared": ["merge", "--share-interfaces"], "merge-pcap": ["merge", "--to", "pcap"], "join-pcap": ["join", "--to", "pcap"],
+           "merge-shared": ["merge", "--share-interfaces"], "merge-pcap": ["merge", "--to", "pcap"],
+           "join-pcap": ["join", "--to", "pcap"],
            **{f"{task}-{unit}": [command, "--to", "pcap", "--unit", unit] for unit in ("micro", "nano")
               for task, command in (("pcap", "convert"), ("merge", "merge"), ("join", "join"))}}
 
@@ -168,7 +171,8 @@ WRITING = {"merge": ["merge"], "join": ["join"], "pcap": ["convert", "--to", "pc
 PRINTING = {"classed": ["list", "--class"], "check-digest": ["check", "--digest"], "top": ["report", "--top", "2"],
             "info-skipping": ["info", "--skip-refused"], "report-skipping": ["report", "--skip-refused"],
             "report-ipv6": ["report", "--ipv6"], "top-ipv6": ["report", "--top", "2", "--ipv6"],
-            "report-skipping-ipv6": ["report", "--ipv6", "--skip-refused"], "classed-ipv6": ["list", "--class", "--ipv6"]}
+            "report-skipping-ipv6": ["report", "--ipv6", "--skip-refused"],
+            "classed-ipv6": ["list", "--class", "--ipv6"]}
 
 
 def words_of(task, files, allow_cut=False, order="<", out=None, times="exact"):

@@ -69,7 +69,8 @@ def called(capt, task, content, allow_cut, order):
         "info": lambda: capt.info([content], **how).encode(), "report": lambda: capt.report_text([content], **how).encode(),
         "pcap": lambda: capt.convert(content, "pcap", **how, **big), "pcapng": lambda: capt.convert(content, "pcapng", **how, **big),
         "merge": lambda: capt.merge([content], **how, **big), "join": lambda: capt.join([content], **how, **big),
-        "merge-pcap": lambda: capt.merge([content], to="pcap", **how, **big), "join-pcap": lambda: capt.join([content], to="pcap", **how, **big),
+        "merge-pcap": lambda: capt.merge([content], to="pcap", **how, **big),
+        "join-pcap": lambda: capt.join([content], to="pcap", **how, **big),
     }
     try:
         return 0, calls[task](), b""
@@ -563,7 +564,8 @@ def check_ends(count, checker, bench, name, content):
 def check_other_library(count, folder):
     """A library of another version, whose calls take other words, is called by nobody."""
     other = os.path.join(folder, "other.so")
-    subprocess.run(["cc", "-x", "c", "-", "-shared", "-fPIC", "-o", other], input="int capt_open(void) { return 0; }", text=True, check=True)
+    subprocess.run(["cc", "-x", "c", "-", "-shared", "-fPIC", "-o", other], input="int capt_open(void) { return 0; }",
+                   text=True, check=True)
     program = "import capt\ntry: capt.report_text(b'')\nexcept OSError as error: print(error)"
     seen = run([sys.executable, "-B", "-c", program], env={**os.environ, "CAPT_LIBRARY": other})
     count.check("python: another library", seen[0] == 0 and b"of another version" in seen[1] and not seen[2], seen)
@@ -576,18 +578,23 @@ def check_header(count, capt, header):
 
     rules, links = numbers("RULE"), numbers("LINK")
     seen = {capt.rule_name(number): number for number in rules.values()}
-    count.check("the header's rules", {name.lower().replace("_", "-"): number for name, number in rules.items()} == seen, rules)
+    count.check("the header's rules", {name.lower().replace("_", "-"): number for name,
+                                       number in rules.items()} == seen, rules)
     with open(os.path.join(TOP, "docs", "RULES.md")) as page:
         told = {name: int(number) for number, name in re.findall(r"^\| (\d+) `([\w-]+)` \|", page.read(), re.M)}
-    count.check("the page's rules", told == seen and sorted(seen.values()) == list(range(1, 22)) and not capt.rule_name(22), told)
+    count.check("the page's rules", told == seen and sorted(seen.values()) == list(range(1, 22))
+                and not capt.rule_name(22), told)
     with open(os.path.join(TOP, "crates", "cap_link", "src", "links.rt")) as code:
-        told = {name.replace("LINK_", ""): int(number) for name, number in re.findall(r"^const (\w+): u16 = (\d+);", code.read(), re.M)}
+        told = {name.replace("LINK_", ""): int(number) for name,
+                number in re.findall(r"^const (\w+): u16 = (\d+);", code.read(), re.M)}
     count.check("the header's link types", links == told and len(links) == 6, links, told)
     with open(os.path.join(TOP, "README.md")) as page:
         told = re.search(r"link types other than ([^|]*)", page.read())[1]
-    count.check("the page's link types", set(re.findall(r"\b[A-Z]\w+", told)) == {name.replace("ETHERNET", "Ethernet") for name in links}, told)
+    count.check("the page's link types", set(re.findall(r"\b[A-Z]\w+", told)) == {name.replace("ETHERNET", "Ethernet")
+        for name in links}, told)
     flags = dict(re.findall(r"^    CAPT_(ALLOW_CUT|BIG|TO_PCAP|IPV6) = (\d+),? +/\*", header, re.M))
-    count.check("the header's flags", {name: str(getattr(capt, f"_{name}")) for name in flags} == flags and len(flags) == 4, flags)
+    count.check("the header's flags", {name: str(getattr(capt, f"_{name}")) for name in flags} == flags
+                and len(flags) == 4, flags)
 
 
 # two datagrams of UDP over IPv6, one over IPv4, one of ICMPv6, a fragment, and a packet of another version
@@ -636,12 +643,15 @@ def check_ipv6(count, capt, checker, bench):
         count.check(f"python: a report {name} IPv6", seen == (want,) * 3, seen)
         seen = [tried(capt.report_text, content + b"cut", allow_cut, **how) for allow_cut in (False, True)]
         is_refused = isinstance(seen[0], capt.Refused) and seen[0].name == "cut"
-        count.check(f"python: a cut report {name} IPv6", is_refused and seen[1] == want.replace("+0/1000000\ntotal", "+0/1000000 cut\ntotal"), seen)
+        count.check(f"python: a cut report {name} IPv6", is_refused
+                    and seen[1] == want.replace("+0/1000000\ntotal", "+0/1000000 cut\ntotal"), seen)
     ends = [(talk.protocol, talk.a, talk.a_port, talk.b, talk.b_port) for talk in capt.report(content, ipv6=True).talks]
-    want = [(17, "2001:db8::1", 1000, "2001:db8::2", 2000), (17, "10.0.0.1", 1000, "10.0.0.2", 2000), (58, "fe80::1", None, "ff02::1", None)]
+    want = [(17, "2001:db8::1", 1000, "2001:db8::2", 2000), (17, "10.0.0.1", 1000, "10.0.0.2", 2000),
+            (58, "fe80::1", None, "ff02::1", None)]
     count.check("python: ends of IPv6", ends == want, ends)
     for word, want in {
-        "[2001:db8::1]:443": ("2001:db8::1", 443), "2001:db8::1": ("2001:db8::1", None), "::": ("::", None), "[::]:0": ("::", 0),
+        "[2001:db8::1]:443": ("2001:db8::1", 443), "2001:db8::1": ("2001:db8::1", None), "::": ("::", None),
+        "[::]:0": ("::", 0),
         "10.0.0.1:53": ("10.0.0.1", 53), "10.0.0.1": ("10.0.0.1", None),
     }.items():
         count.check(f"python: the end {word}", capt._end(word) == want, capt._end(word))
@@ -691,7 +701,8 @@ def check_example(count, folder, library, shim, bench, content):
     count.check("c: the example, whose read fails", seen[:2] == (1, b"") and b"Input/output error" in seen[2], seen)
 
 
-# Lists a file by capt_file.h, by its name or, for `-`, from descriptor 0, for C and for C++. It prints where packets begin, what
+# Lists a file by capt_file.h, by its name or, for `-`, from descriptor 0, for C and for C++. It prints where packets
+# begin, what
 # each call returns that gives none, and errors. Where the descriptor has no bytes yet it says so, and waits.
 READING = """
 #include <capt_file.h>
@@ -762,14 +773,16 @@ def check_reading(count, folder, library, shim, content):
     for name, bytes_ in (path, content), (cut, content[:-1]):
         with open(name, "wb") as out:
             out.write(bytes_)
-    whole, packets, refused = b"status 0 rule 0 offset 0\n", [b"24 60\n", b"100 60\n", b"176 60\n"], b"status 2 rule 3 offset 176\n"
+    whole, packets, refused = b"status 0 rule 0 offset 0\n", [b"24 60\n", b"100 60\n",
+        b"176 60\n"], b"status 2 rule 3 offset 176\n"
     all_of = b"".join(packets) + whole
     for language, *compiler in ("c", "cc", "-std=gnu11"), ("c++", "c++", "-std=c++11"):
         if not shutil.which(compiler[0]):
             continue
         reader = os.path.join(folder, f"reading-{len(language)}")
         warns = ["-Wall", "-Wextra", "-Werror", "-Wconversion", "-Wshadow"]
-        subprocess.run([*compiler, *warns, "-x", language, "-", "-I", library, "-o", reader, "-x", "none", os.path.join(library, "libcapt.a")],
+        subprocess.run([*compiler, *warns, "-x", language, "-", "-I", library, "-o", reader, "-x", "none",
+                        os.path.join(library, "libcapt.a")],
                        input=READING, text=True, check=True)
 
         def check(what, want, *words, **how):
@@ -787,16 +800,19 @@ def check_reading(count, folder, library, shim, content):
             environment = {**os.environ, "LD_PRELOAD": shim, "FAULT_PIECE": str(piece)}
             check(f"a file by {piece}", (0, all_of), path, env=environment)
             # the fourth read is interrupted, and the third fails once: the one after it goes on
-            check(f"an interrupted read by {piece}", (0, all_of), "-", input=content, env={**environment, "FAULT_READ": "0-4"})
+            check(f"an interrupted read by {piece}", (0, all_of), "-", input=content,
+                  env={**environment, "FAULT_READ": "0-4"})
             done = [it for it, end in zip(packets, (100, 176, 252)) if end <= 2 * piece]
             failed = b"read: Input/output error at %d of 1\n" % min(2 * piece, 252)
             told = b"".join(done) + failed + b"".join(packets[len(done):]) + whole
-            check(f"a read that fails by {piece}", (0, told), "-", input=content, env={**environment, "FAULT_READ": "0-3"})
+            check(f"a read that fails by {piece}", (0, told), "-", input=content,
+                  env={**environment, "FAULT_READ": "0-3"})
         for at in range(1, 12):
             environment = {**os.environ, "LD_PRELOAD": shim, "FAULT_PIECE": "50", "FAULT_GROWTHS": f"{at}-{at + 1}"}
             status, text, error = run([reader, path], env=environment)
             # of the first call, of one for a packet, or as the file is opened again
-            is_told = (status, text) in ((3, b""), (6, all_of)) or status == 0 and text.replace(b"memory\n", b"", 1) == all_of
+            is_told = (status, text) in ((3, b""), (6, all_of)) or status == 0 and text.replace(b"memory\n", b"",
+                1) == all_of
             count.check(f"{language}: a growth refused {at}", is_told and error == b"", status, text)
         if shutil.which("valgrind"):
             for name in path, cut:
@@ -813,7 +829,8 @@ def check_reading(count, folder, library, shim, content):
             rest = ran.stdout.read()
         os.close(receiving)
         seen = ran.returncode, lines, rest.replace(b"more\n", b"")
-        count.check(f"{language}: a pipe that doesn't wait", seen == (0, [b"more\n", packets[0], b"more\n"], b"".join(packets[1:]) + whole), seen)
+        count.check(f"{language}: a pipe that doesn't wait",
+                    seen == (0, [b"more\n", packets[0], b"more\n"], b"".join(packets[1:]) + whole), seen)
 
 
 def check_pages(count, folder, library, shim):
@@ -838,7 +855,8 @@ def check_pages(count, folder, library, shim):
         seen = run([*command, example], env=environment)
         count.check(f"pages: {kind}", seen == (0, text.encode(), b""), seen)
         if kind == "c":
-            seen = run([*command, example], env={**environment, "LD_PRELOAD": shim, "FAULT_PIECE": "100", "FAULT_READ": "3-3"})
+            seen = run([*command, example], env={**environment, "LD_PRELOAD": shim, "FAULT_PIECE": "100",
+                                                 "FAULT_READ": "3-3"})
             count.check("pages: c, whose read fails", seen[0] == 1 and b"Input/output error" in seen[2], seen)
 
 
@@ -1021,7 +1039,8 @@ def check_rust(count, folder, library, bench, contents):
         count.check(f"rust: {name}", (status, text, error) == want)
         count.check(f"rust: {name}, fed", run(command, input=content) == want)
         count.check(f"rust: {name}, read", run([*command, "-"], input=content) == want)
-    seen = run([*rust(folder, library, "types", TYPES), bench.name(dict(contents)["monday.pcap"]), bench.name(of_ipv6())])
+    seen = run([*rust(folder, library, "types", TYPES), bench.name(dict(contents)["monday.pcap"]),
+                bench.name(of_ipv6())])
     count.check("rust: types", seen == (0, b"", b""), seen)
     check_rust_build(count, folder, library)
 

@@ -15,7 +15,8 @@ from concurrent.futures import ThreadPoolExecutor
 from captures import PROGRAM, TOP, WRITING, Bench, Count, make_shim, wanted_of
 
 FOLDER = os.path.join(TOP, "checks", "corpus")
-TASKS = ("list", "classed", "blocks", "info", "report", "top", "info-skipping", "report-skipping", "report-ipv6", "classed-ipv6", "digest", "check", "check-digest", "pcap", "pcapng", "merge", "join")
+TASKS = ("list", "classed", "blocks", "info", "report", "top", "info-skipping", "report-skipping", "report-ipv6",
+         "classed-ipv6", "digest", "check", "check-digest", "pcap", "pcapng", "merge", "join")
 MOST_BYTES = 300 * 1024
 ANSWERED = re.compile(r"^\$ (capt .*)\n((?:(?!\$ |# ).+\n)*)", re.M)      # a command line of answers.txt, and what follows it
 

@@ -21,7 +21,8 @@ import os, re, struct, subprocess, tempfile
 from concurrent.futures import ThreadPoolExecutor
 
 import model
-from captures import (PROGRAM, TOP, Bench, Count, block, datagram, extension, ipv6, make_shim, packet, pcap_header, record,
+from captures import (PROGRAM, TOP, Bench, Count, block, datagram, extension, ipv6, make_shim, packet, pcap_header,
+                      record,
                       run, udp, vector, wanted_of, words_of)
 from objects import objects_of
 
@@ -59,7 +60,8 @@ ROWS = {
     "longest, twice": [pcap_header(1) + record(1, bytes(262_144)) + record(2, b"\1")] * 2,
     "carried": [vector("CARRY_PCAP"), vector("CARRY_PCAPNG")],
     "conversations": [pcap_header(101) + b"".join(record(n, datagram(udp((n, 9)))) for n in range(3_000))],
-    "conversations of both networks": [pcap_header(101) + b"".join(record(n, ipv6(udp((n, 9))) if n % 3 else datagram(udp((n, 9))))
+    "conversations of both networks": [pcap_header(101) + b"".join(record(n, ipv6(udp((n, 9))) if n % 3
+        else datagram(udp((n, 9))))
                                                                    for n in range(3_000))],
     "ipv6-frames": [vector("IPV6_FRAMES")],
     "ipv6-frames and fragments": [vector("IPV6_FRAMES"), vector("FRAGMENT_FRAMES")],
@@ -70,7 +72,8 @@ ROWS = {
 GROWTHS = {
     "report": ["equal-resolutions", "tagged-frames", "overlapped-fragments", "thirty-seconds", "thirty-seconds, whole", "overlap-map", "cut",
                "conversations", "groups", "interfaces", "longest"],
-    "report-ipv6": ["ipv6-frames", "ipv6-frames and fragments", "conversations of both networks", "extension headers", "cut"],
+    "report-ipv6": ["ipv6-frames", "ipv6-frames and fragments", "conversations of both networks", "extension headers",
+                    "cut"],
     "top": ["tagged-frames", "conversations", "cut"],
     "top-ipv6": ["ipv6-frames", "conversations of both networks", "cut"],
     "info": ["runs-back and options", "cut"],
@@ -357,7 +360,8 @@ def devices(count, bench, shim, pool):
     jobs = []
     for task, rows in DEVICES.items():
         for row in rows:
-            for check in (checked_reads_of if task in model.SURVEYS else skipped_reads_of if task in model.SKIPPING else reads_of, writes_of):
+            for check in (checked_reads_of if task in model.SURVEYS else skipped_reads_of if task in model.SKIPPING
+                          else reads_of, writes_of):
                 jobs.append(pool.submit(check, count, bench, shim, os.path.join(bench.folder, f"{check.__name__}-{task}-{row}"), task, row))
     for check in (endless, far, standard):
         jobs.append(pool.submit(check, count, bench, shim, os.path.join(bench.folder, check.__name__)))

@@ -17,13 +17,16 @@ sys.dont_write_bytecode = True
 import multiprocessing, os, resource, struct, tempfile
 
 import model
-from captures import (IPV6_VECTORS, PROGRAM, VECTORS, Bench, Count, block, extension, fragment_header, ipv6, make_shim, pcap_header, record, run,
+from captures import (IPV6_VECTORS, PROGRAM, VECTORS, Bench, Count, block, extension, fragment_header, ipv6, make_shim,
+                      pcap_header, record, run,
                       udp, vector)
 from soak import OF_IPV6
 
-ONE = ["list", "classed", "blocks", "info", "report", "top", "info-skipping", "report-skipping", "digest", "check", "check-digest", "pcapng", "pcap", "merge", "join",
+ONE = ["list", "classed", "blocks", "info", "report", "top", "info-skipping", "report-skipping", "digest", "check",
+       "check-digest", "pcapng", "pcap", "merge", "join",
        "merge-shared", "merge-pcap", "join-pcap"]
-MANY = ["diff", "info", "report", "top", "info-skipping", "report-skipping", "digest", "check", "check-digest", "merge", "join", "merge-shared", "merge-pcap", "join-pcap"]
+MANY = ["diff", "info", "report", "top", "info-skipping", "report-skipping", "digest", "check", "check-digest",
+        "merge", "join", "merge-shared", "merge-pcap", "join-pcap"]
 
 # The lengths at which `list` accepts a worked file that is cut; at every other it is refused by rule 3, at the greatest of
 # these and 0 that isn't above the length.
@@ -76,7 +79,8 @@ WHOLE = "check 1 {} packets {} bytes {} first {} last {} backward 0 untimed 0 tr
 WORKED = [("pcapng", "CARRY_PCAP", vector("CARRY_PCAPNG")), ("pcap", "CARRY_PCAPNG", vector("CARRIED_PCAP")),
           ("merge", "CARRY_PCAP", vector("CARRY_PCAPNG")), ("join", "FRAGMENT_FRAMES", vector("JOINED")),
           ("merge-pcap", "CARRY_PCAPNG", vector("CARRIED_PCAP")), ("join-pcap", "FRAGMENT_FRAMES", vector("JOINED_PCAP")),
-          ("report", "TAGGED_FRAMES", TAGGED_REPORT), ("report", "FRAGMENT_FRAMES", FRAGMENT_REPORT), ("report-ipv6", "IPV6_FRAMES", IPV6_REPORT),
+          ("report", "TAGGED_FRAMES", TAGGED_REPORT), ("report", "FRAGMENT_FRAMES", FRAGMENT_REPORT),
+          ("report-ipv6", "IPV6_FRAMES", IPV6_REPORT),
           ("check", "TAGGED_FRAMES", WHOLE.format("pcap", 3, 180, "1+0/1000000", "3+0/1000000", 0)),
           ("check", "OPTIONS_PCAPNG", WHOLE.format("pcapng", 1, 4, "2+500000/1000000", "2+500000/1000000", 1))]
 
@@ -134,7 +138,8 @@ def runs_of_ipv6():
         for n, content in enumerate(lying_numbers(whole)):
             yield f"{name} with a number replaced", ("report-ipv6", "classed-ipv6")[n % 2], [content], n % 4 < 2
         for n, packet in enumerate(model.File(1, whole, False).packets, 1):
-            for label, content in (("cut at each place", cut_frames(packet.data)), ("with each byte replaced", lying_frames(packet.data))):
+            for label, content in (("cut at each place", cut_frames(packet.data)),
+                                   ("with each byte replaced", lying_frames(packet.data))):
                 for task in (*OF_IPV6, "report"):
                     yield f"packet {n} of {name} {label}", task, [content], False
     for n, (label, content) in enumerate(chains()):
@@ -149,7 +154,8 @@ def runs_of_ipv6():
 def cut_frames(frame):
     """A capture of the front of a frame, at each of its lengths: all that there is, or what was captured."""
     lengths = range(len(frame) + 1)
-    return pcap_header(1) + b"".join(record(1, frame[:length], original) for length in lengths for original in (None, len(frame), 1_514))
+    return pcap_header(1) + b"".join(record(1, frame[:length], original) for length in lengths
+                                     for original in (None, len(frame), 1_514))
 
 
 def lying_frames(frame):
@@ -160,17 +166,20 @@ def lying_frames(frame):
     return pcap_header(1) + b"".join(record(1, lie) for lie in lies)
 
 
-# Chains of extension headers: of one kind, of each that counts words of 8 bytes, of authentication headers of 8 bytes, and of fragment headers of whole
+# Chains of extension headers: of one kind, of each that counts words of 8 bytes, of authentication headers of 8 bytes,
+# and of fragment headers of whole
 # datagrams; each ends in a header of 16 bytes that announces UDP.
 MOST_HEADERS = 8_000
-CHAINS = {"each kind": [0, 43, 44, 51, 60, 135, 139, 140], "one kind": [60], "authentication": [51], "whole fragments": [44]}
+CHAINS = {"each kind": [0, 43, 44, 51, 60, 135, 139, 140], "one kind": [60], "authentication": [51],
+          "whole fragments": [44]}
 
 
 def chain(kinds, count):
     """The first number of a chain of so many headers of 8 bytes, and their bytes. The last announces destination options."""
     numbers = [kinds[n % len(kinds)] for n in range(count)] + [60]
     # the second byte of a fragment header isn't read, that of all others of 8 bytes is 0
-    return numbers[0], b"".join(bytes([after, 0xFF if number == 44 else 0, 0, 0, 0, 0, 0, 0]) for number, after in zip(numbers, numbers[1:]))
+    return numbers[0], b"".join(bytes([after, 0xFF if number == 44 else 0, 0, 0, 0, 0, 0, 0]) for number,
+                                after in zip(numbers, numbers[1:]))
 
 
 def chains():
@@ -178,8 +187,10 @@ def chains():
     and at places between."""
     for name, kinds in CHAINS.items():
         number, headers = chain(kinds, MOST_HEADERS)
-        ends = [extension(17, 16) + udp((1000, 2000), b"hi"), extension(59, 16), extension(59, 16)[:-1], extension(44) + fragment_header(17, 8, True, 7) + bytes(8),
-                extension(44) + fragment_header(17, 0, False, 7) + udp((1000, 2000)), b"", bytes([59, 255]) + bytes(1_500)]
+        ends = [extension(17, 16) + udp((1000, 2000), b"hi"), extension(59, 16), extension(59, 16)[:-1],
+                extension(44) + fragment_header(17, 8, True, 7) + bytes(8),
+                extension(44) + fragment_header(17, 0, False, 7) + udp((1000, 2000)), b"",
+                bytes([59, 255]) + bytes(1_500)]
         frames = [record(1, ipv6(headers + end, number)) for end in ends]
         whole = ipv6(headers + ends[0], number)
         places = sorted({*range(120), *range(0, len(whole), 8_009), *range(len(whole) - 20, len(whole))})
@@ -212,12 +223,14 @@ def grows(count, folder, program):
             seen[length] = seconds
             told = f" counted {packets}\njoined 0 given-up 0\ntalks 1\ntalk udp [2001:db8::1]:1000 [2001:db8::2]:2000 forward {packets} ".encode()
             count.check(f"chains of {length} extension headers of {name}", status == 0 and told in text, status, text)
-        # with room for what the machine does beside it: a chain that is read again from its front for each header takes 80 times as long
+        # with room for what the machine does beside it: a chain that is read again from its front for each header takes
+        # 80 times as long
         count.check(f"time for a header of {name}", seen[MOST_HEADERS] < 3 * seen[100] + 0.05, seen)
         print(f"4,000,000 extension headers of {name}: {seen[100]:.2f} seconds in chains of 100, {seen[MOST_HEADERS]:.2f} in chains of {MOST_HEADERS:,}")
     limited = ["-c", 'ulimit -s 128; exec "$@"', "bash", program, "report", "--ipv6", file]
     status, text, error = run(limited, "bash")
-    count.check("8,000 extension headers, a stack of 128 KiB", (status, error) == (0, b"") and told in text, status, error)
+    count.check("8,000 extension headers, a stack of 128 KiB", (status, error) == (0, b"") and told in text, status,
+                error)
 
 
 def begin(folder, program, of_faults):
@@ -248,7 +261,8 @@ def main():
         for content, offset, rule in lying_lengths():
             refusal = f"refused: file 1 offset {offset} rule {rule} {model.RULES[rule]}\n".encode()
             end = f"refused offset {offset} rule {rule} {model.RULES[rule]}"
-            lines = {"digest": f"digest 1 {end}\n", "check": CHECKED.format(end), "check-digest": CHECKED.format(f"sha256 - {end}"),
+            lines = {"digest": f"digest 1 {end}\n", "check": CHECKED.format(end),
+                     "check-digest": CHECKED.format(f"sha256 - {end}"),
                      **dict.fromkeys(model.SKIPPING, f"left out 1 offset {offset} rule {rule} {model.RULES[rule]}\n")}
             for task in ONE:
                 seen = bench.run(task, [section + content], out=os.path.join(folder, "out"))
@@ -258,7 +272,8 @@ def main():
                     count.check(f"{task} writes nothing", seen[1] == b"", seen)
 
         grows(count, folder, program)
-        # by processes, since to begin a program 61,000 times is most of the work, and by more than there are processors, since each waits for it
+        # by processes, since to begin a program 61,000 times is most of the work, and by more than there are
+        # processors, since each waits for it
         with multiprocessing.get_context("fork").Pool(8, begin, (folder, program, shim)) as pool:
             for name, wrong in pool.imap(held, enumerate(all_runs()), 64):
                 count.check(name, wrong is None, wrong)

@@ -25,7 +25,8 @@ import json, os, re, struct, tempfile
 from collections import Counter
 from fractions import Fraction
 
-from captures import (ENDS_6, PROGRAM, SECTION, Count, block, datagram, extension, fragment_header, ipv6, packet, pcap_header, record, run, udp,
+from captures import (ENDS_6, PROGRAM, SECTION, Count, block, datagram, extension, fragment_header, ipv6, packet,
+                      pcap_header, record, run, udp,
                       vector)
 
 RAW = 101
@@ -69,14 +70,17 @@ CASES = {
     "given up over two": ([raw(OPENS[:600]), raw(OPENS[600:])], [None, None]),
     "three files": ([raw([(5, TALK), (1, ANSWER)]), raw([(2, datagram(udp((7, 2000)))), (9, b"\x45")]), binary(138, 512, ANSWER)], [None] * 3),
     "a worked pcapng file": ([vector("OPTIONS_PCAPNG"), vector("CARRY_PCAP")], [None, None]),
-    "IPv6": ([raw([(5, TALK_6), (1, ANSWER_6)]), raw([(2, TALK), (4, TALK_6), (9, b"\x60"), (9, FRAGMENT_6)])], [None, None]),
-    "IPv6, and fragments of IPv4": ([raw([(1, OPENS[0][1]), (2, TALK_6)]), raw([(1, FRAGMENT_6), (3, LAST[0][1]), (3, ANSWER_6)])], [None, None]),
+    "IPv6": ([raw([(5, TALK_6), (1, ANSWER_6)]), raw([(2, TALK), (4, TALK_6), (9, b"\x60"), (9, FRAGMENT_6)])],
+             [None, None]),
+    "IPv6, and fragments of IPv4": ([raw([(1, OPENS[0][1]), (2, TALK_6)]),
+                                     raw([(1, FRAGMENT_6), (3, LAST[0][1]), (3, ANSWER_6)])], [None, None]),
     "IPv6 in units": ([binary(138, 512, TALK_6), binary(1, 5, ANSWER_6), binary(138, 512, FRAGMENT_6)], [None] * 3),
     "a worked file of IPv6": ([vector("IPV6_FRAMES"), vector("TAGGED_FRAMES")], [None, None]),
 }
 
 # those that have no fragments of IPv4: of IPv6 none is joined
-WHOLE = ("equal-resolutions", "equal-resolutions, exchanged", "a time that isn't whole", "runs-back", "a worked pcapng file", "three files",
+WHOLE = ("equal-resolutions", "equal-resolutions, exchanged", "a time that isn't whole", "runs-back",
+         "a worked pcapng file", "three files",
          "IPv6", "IPv6 in units", "a worked file of IPv6")
 # the words of a report
 REPORTS = (["report"], ["report", "--ipv6"])
@@ -161,7 +165,8 @@ def main():
                 count.check(f"{name}: the sum of the reports", counted_in([together]) == counted_in(alone), together, alone)
                 classed = [done(["list", "--class", *words[1:], file])[1] for file in files]
                 # a fragment isn't joined here, so it is unjoined
-                named = Counter(line.split(" class ")[1].split()[0].replace("fragment", "unjoined") for text in classed for line in text.splitlines())
+                named = Counter(line.split(" class ")[1].split()[0].replace("fragment", "unjoined")
+                                for text in classed for line in text.splitlines())
                 told_of_frames = next(line for line in lines if line.startswith("frames ")).split()[1:]
                 wanted = {told_of_frames[at]: int(told_of_frames[at + 1]) for at in range(0, len(told_of_frames), 2)}
                 count.check(f"{name}: the classes", {key: n for key, n in wanted.items() if n} == named, wanted, named)

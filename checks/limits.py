@@ -332,19 +332,23 @@ def conversations_of_both(edges):
         numbers = (n // 2 * 2 if kinds[0] is of_ipv4 else n for n in range(MOST_TALKS))
         wanted = [f"talk udp {texts[kinds[n % 2]].format(number >> 16, number & 0xFFFF)} backward 0 0 first 1+0/1000000 last 1+0/1000000".encode()
                   for n, number in enumerate(numbers)]
-        edges.count.check(f"1,048,576 conversations of {label}", lines[4:] == [b"joined 0 given-up 0", b"talks 1048576", *wanted], lines[:6])
+        edges.count.check(f"1,048,576 conversations of {label}",
+                          lines[4:] == [b"joined 0 given-up 0", b"talks 1048576", *wanted], lines[:6])
         # one that stands is no more; a new one of either network is
         with open(name, "ab") as out:
             out.write(record(2, make(0)) + record(2, make(MOST_TALKS - 1)))
-        edges.accepts(f"1,048,576 conversations of {label}, and two of them again", ["report", "--ipv6", name], "talks 1048576\n")
+        edges.accepts(f"1,048,576 conversations of {label}, and two of them again", ["report", "--ipv6", name],
+                      "talks 1048576\n")
         with open(name, "ab") as out:
             out.write(record(3, ipv6(udp((9, 9)), kind=58)))
         size += sum(len(record(2, make(n))) for n in (0, MOST_TALKS - 1))
         refused = f"refused: file 1 offset {size} rule 16 talk-limit"
         edges.refuses(f"1,048,577 conversations of {label}", ["report", "--ipv6", name], refused)
-        edges.refuses(f"1,048,577 conversations of {label}, the greatest", ["report", "--ipv6", "--top", "1", name], refused)
+        edges.refuses(f"1,048,577 conversations of {label}, the greatest", ["report", "--ipv6", "--top", "1", name],
+                      refused)
         of_ipv4_alone = 524_288 if kinds[0] is of_ipv4 else 0
-        edges.accepts(f"1,048,577 conversations of {label}, without the word", ["report", name], f"talks {of_ipv4_alone}\n")
+        edges.accepts(f"1,048,577 conversations of {label}, without the word", ["report", name],
+                      f"talks {of_ipv4_alone}\n")
         edges.file("both", pcap_header(101))
     fourth = edges.file("fourth", pcap_header(101), *(record(1, of_ipv6(n)) for n in range(3)), record(2, of_ipv4(0)))
     edges.accepts("conversations of both, a few", ["report", "--ipv6", fourth], "talks 4\n")
@@ -353,7 +357,8 @@ def conversations_of_both(edges):
 def main():
     with tempfile.TemporaryDirectory() as folder:
         edges = Edges(folder, sys.argv[1] if len(sys.argv) > 1 else PROGRAM)
-        for limit in (captured, copied, blocks, interfaces, exponents, seconds, files, groups, full_groups, ends, conversations, conversations_of_both):
+        for limit in (captured, copied, blocks, interfaces, exponents, seconds, files, groups, full_groups, ends,
+                      conversations, conversations_of_both):
             limit(edges)
     edges.count.end()
 

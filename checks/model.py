@@ -80,7 +80,8 @@ def in_utc(seconds, part, denominator):
     if not 0 <= later < 315_569_520_000:
         return in_decimal(seconds, part, denominator)
     early = later < 366 * 86_400
-    date = datetime.datetime(1, 1, 1) + datetime.timedelta(seconds=later - 366 * 86_400 + (146_097 * 86_400 if early else 0))
+    date = datetime.datetime(1, 1, 1) + datetime.timedelta(seconds=later - 366 * 86_400 + (146_097 * 86_400 if early
+        else 0))
     _, point, places = with_places(0, part, denominator).partition(".")
     return f"{date.year - 400 * early:04}-{date:%m-%dT%H:%M:%S}{point}{places}Z"
 
@@ -303,7 +304,8 @@ def header_of(data, whole):
     return Header(service, identification, more, start, life, protocol, source, destination, length, data[size:total])
 
 
-# A whole datagram of IPv6 with the captured part of its data, a fragment of one, or a packet that is bad or cut for a reason.
+# A whole datagram of IPv6 with the captured part of its data, a fragment of one, or a packet that is bad or cut for a
+# reason.
 Datagram6 = namedtuple("Datagram6", "protocol source destination length data")
 Fragment6 = namedtuple("Fragment6", "identification start")
 Refused6 = namedtuple("Refused6", "kind why")
@@ -396,7 +398,8 @@ def described_between(version, protocol, source, destination, data, length):
     ports = transport_of(protocol, data, length)
     if isinstance(ports, str):
         return f"{ports} reason {transport_reason(protocol, data, length)}"
-    lesser, greater = sorted([(version, source, ports[0]), (version, destination, ports[1])], key=lambda end: (end[1], end[2] or 0))
+    lesser, greater = sorted([(version, source, ports[0]), (version, destination, ports[1])],
+                             key=lambda end: (end[1], end[2] or 0))
     return f"counted {protocol_text(protocol)} {end_text(lesser)} {end_text(greater)}"
 
 
@@ -484,7 +487,8 @@ class Table:
 
     def frames(self):
         """The line of the classes."""
-        return "frames " + " ".join(f"{class_name(name, self.ipv6)} {count}" for name, count in self.classes.items()) + "\n"
+        return "frames " + " ".join(f"{class_name(name, self.ipv6)} {count}" for name,
+                                    count in self.classes.items()) + "\n"
 
     def take_ipv6(self, place, packet, found):
         """Counts an IPv6 packet. Its fragments aren't joined, and it changes nothing of those of IPv4."""
@@ -744,7 +748,8 @@ def list_(files):
 
 def classed(files, ipv6=False):
     """What `list --class` prints, with `--ipv6` or without."""
-    return "".join(f"{packet_line(n, p)[:-1]} class {description(p, ipv6)}\n" for n, p in enumerate(files[0].packets, 1)), files[0].refusal
+    return "".join(f"{packet_line(n, p)[:-1]} class {description(p, ipv6)}\n" for n,
+                   p in enumerate(files[0].packets, 1)), files[0].refusal
 
 
 def differences(a, b, ignored=()):

@@ -18,7 +18,8 @@ import model
 from captures import PROGRAM, TOP, VECTORS, Bench, Count, make_shim, run, vector, wanted_of, words_of
 from soak import OF_IPV6, TIMED, mutated, some_capture, some_pair
 
-TASKS = ("list", "classed", "blocks", "info", "report", "top", "info-skipping", "report-skipping", "report-ipv6", "classed-ipv6", "digest", "check",
+TASKS = ("list", "classed", "blocks", "info", "report", "top", "info-skipping", "report-skipping", "report-ipv6",
+         "classed-ipv6", "digest", "check",
          "check-digest")
 PROTOCOLS = {"udp": 17, "tcp": 6}
 TIME = re.compile(r"(-?\d+)\+(\d+)/(\d+)")
@@ -173,7 +174,8 @@ def main():
 
         def holds(bench, task, contents, allow_cut, data=None, faults=None, ignored=(), times="exact"):
             paths = [bench.name(content) for content in contents]
-            words = [*words_of(task, [], times=times), "--json", *(["--allow-cut"] if allow_cut else []), *([] if data is None else ["--data", str(data)]),
+            words = [*words_of(task, [], times=times), "--json", *(["--allow-cut"] if allow_cut else []),
+                     *([] if data is None else ["--data", str(data)]),
                      *(f"--ignore={kind}" for kind in ignored), *paths]
             seen = run(words, program, faults)[:3]
             wanted = wanted_objects(task, contents, paths, allow_cut, data, ignored, times)
@@ -205,12 +207,16 @@ def main():
             for place, content in enumerate(contents):
                 for _ in range(rng.choice([0, 0, 0, 1, 2])):
                     contents[place] = mutated(rng, content, rng.choice(contents))
-            task, allow_cut = rng.choice(("info", "report", "top", "info-skipping", "report-skipping", "digest", "check", "check-digest", "blocks", *OF_IPV6[:3])), rng.random() < 0.5
+            task, allow_cut = rng.choice(("info", "report", "top", "info-skipping", "report-skipping", "digest",
+                                          "check", "check-digest", "blocks", *OF_IPV6[:3])), rng.random() < 0.5
             times = rng.choice(("exact", "decimal", "utc"))
-            holds(bench, task, contents[:1] if task == "blocks" else contents, allow_cut, times=times if task in TIMED else "exact")
-            holds(bench, rng.choice(("list", "classed", "classed-ipv6")), contents[:1], allow_cut, rng.choice((None, None, 0, 20, 262_144)), times=times)
+            holds(bench, task, contents[:1] if task == "blocks" else contents, allow_cut, times=times if task in TIMED
+                  else "exact")
+            holds(bench, rng.choice(("list", "classed", "classed-ipv6")), contents[:1], allow_cut,
+                  rng.choice((None, None, 0, 20, 262_144)), times=times)
             pair, ignored = some_pair(rng, contents), [kind for kind in ("time", "link", "original") if rng.random() < 0.3]
-            holds(bench, "diff", pair, allow_cut, rng.choice((None, None, 0, 20, 262_144)), ignored=ignored, times=times)
+            holds(bench, "diff", pair, allow_cut, rng.choice((None, None, 0, 20, 262_144)), ignored=ignored,
+                  times=times)
             for name in os.listdir(bench.folder):
                 os.remove(os.path.join(bench.folder, name))
 

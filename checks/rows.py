@@ -157,7 +157,8 @@ KEPT = [
      "left out 2 offset 0 rule 3 cut\nleft out 3 offset 24 rule 3 cut\nleft out 5 offset 0 rule 1 magic\nfiles 2\n" + ONE_HELD % 1 + ONE_HELD % 2),
     (["", CUT], False, "left out 1 offset 0 rule 3 cut\nleft out 2 offset 24 rule 3 cut\n"),
     (["", CUT], True, "left out 1 offset 0 rule 3 cut\nfiles 1\nfile 1 pcap packets 0 bytes 0 truncated 0 skipped 0 first - last - cut\n"),
-    ([vector("CARRY_PCAP").hex()] * 31 + [CUT], False, "left out 32 offset 24 rule 3 cut\nfiles 31\n" + "".join(ONE_HELD % n for n in range(1, 32))),
+    ([vector("CARRY_PCAP").hex()] * 31 + [CUT], False,
+     "left out 32 offset 24 rule 3 cut\nfiles 31\n" + "".join(ONE_HELD % n for n in range(1, 32))),
 ]
 
 # Captures of which a command prints nothing, with --allow-cut or without, and the refusal: that of the lowest place in the order of clocks
@@ -315,10 +316,12 @@ TIMED = [
     ((0, -62_167_219_200, 0), "-62167219200+0/1", "-62167219200", "0000-01-01T00:00:00Z"),
     ((0, -62_162_035_201, 0), "-62162035201+0/1", "-62162035201", "0000-02-29T23:59:59Z"),
     ((1, -62_167_219_201, 9), "-62167219201+9/10", "-62167219200.1", "-62167219200.1"),
-    ((6, 253_402_300_799, 999_999), "253402300799+999999/1000000", "253402300799.999999", "9999-12-31T23:59:59.999999Z"),
+    ((6, 253_402_300_799, 999_999), "253402300799+999999/1000000", "253402300799.999999",
+     "9999-12-31T23:59:59.999999Z"),
     ((6, 253_402_300_800, 0), "253402300800+0/1000000", "253402300800.000000", "253402300800.000000"),
     # the least time and the greatest
-    ((19, -2**63, 0), f"-9223372036854775808+0/1{'0' * 19}", f"-9223372036854775808.{'0' * 19}", f"-9223372036854775808.{'0' * 19}"),
+    ((19, -2**63, 0), f"-9223372036854775808+0/1{'0' * 19}", f"-9223372036854775808.{'0' * 19}",
+     f"-9223372036854775808.{'0' * 19}"),
     ((0, 2**63 - 1, 2**64 - 1), "27670116110564327422+0/1", "27670116110564327422", "27670116110564327422"),
 ]
 
@@ -475,25 +478,32 @@ EIGHTS = (0, 43, 60, 135, 139, 140)
 NO_EXTENSIONS = (1, 4, 41, 42, 45, 50, 52, 58, 59, 61, 132, 134, 136, 138, 141, 253, 254, 255)
 REST = 1_514      # the original length of a packet of which a part was captured
 
-# A packet behind link type 229, its original length where it wasn't captured whole, and what it is: its conversation, why it is bad or cut, or the
+# A packet behind link type 229, its original length where it wasn't captured whole, and what it is: its conversation,
+# why it is bad or cut, or the
 # identification of a fragment and where its data begins.
 SIXES = [
-    # no byte, and 39 of a header: whole, or not; 40 are a packet of no next header (59), also with another version's first byte if there are 39
+    # no byte, and 39 of a header: whole, or not; 40 are a packet of no next header (59), also with another version's
+    # first byte if there are 39
     ("", None, "bad header-short"), ("", REST, "cut header-short"), (six(59)[:-3], None, "bad header-short"),
-    (six(59)[:-3], REST, "cut header-short"), (six(59)[:-3], 40, "cut header-short"), (six(59, first="40000000")[:-3], None, "bad header-short"),
+    (six(59)[:-3], REST, "cut header-short"), (six(59)[:-3], 40, "cut header-short"),
+    (six(59, first="40000000")[:-3], None, "bad header-short"),
     (six(59), None, f"counted p59 {BARE}"), (six(59), REST, f"counted p59 {BARE}"),
     # versions 4, 5, 7 and 15, also if the payload is too long; any class of traffic and any flow
     *((six(59, first=f"{version:x}0000000"), None, "bad version") for version in (0, 4, 5, 7, 15)),
     (six(59, first="40000000"), REST, "bad version"), (six(17, UDP_6, 11, first="70000000"), None, "bad version"),
     (six(17, UDP_6, first="6fffffff"), None, f"counted udp {TO_B}"),
-    # a payload of all the bytes, of one more, and of one less, behind which is no data; one more was captured than the frame had
+    # a payload of all the bytes, of one more, and of one less, behind which is no data; one more was captured than the
+    # frame had
     (six(17, UDP_6), None, f"counted udp {TO_B}"), (six(17, UDP_6, 11), None, "bad beyond-frame"),
     (six(17, UDP_6, 11), REST, f"counted udp {TO_B}"), (six(17, UDP_6, 9), None, "bad udp-length"),
     (six(17, UDP_6 + "00", 10), None, f"counted udp {TO_B}"), (six(17, UDP_6, 65_535), None, "bad beyond-frame"),
-    (six(17, UDP_6, 65_535), REST, f"counted udp {TO_B}"), (six(17, UDP_6, 11), 40, "bad beyond-frame"), (six(17, UDP_6), 49, f"counted udp {TO_B}"),
+    (six(17, UDP_6, 65_535), REST, f"counted udp {TO_B}"), (six(17, UDP_6, 11), 40, "bad beyond-frame"),
+    (six(17, UDP_6), 49, f"counted udp {TO_B}"),
     # a jumbogram (RFC 2675) has a payload of length 0, and so has no option that says more; nor has it ports
-    (six(0, "1100c204 00010009" + UDP_6, 0), None, "bad extension-past"), (six(0, "1100c204 00010009" + UDP_6, 0), REST, "bad extension-past"),
-    (six(17, "03e807d0 00000000" + many("00", 8), 0), None, "bad udp-short"), (six(59, UDP_6, 0), None, f"counted p59 {BARE}"),
+    (six(0, "1100c204 00010009" + UDP_6, 0), None, "bad extension-past"),
+    (six(0, "1100c204 00010009" + UDP_6, 0), REST, "bad extension-past"),
+    (six(17, "03e807d0 00000000" + many("00", 8), 0), None, "bad udp-short"),
+    (six(59, UDP_6, 0), None, f"counted p59 {BARE}"),
     # one that says how long the rest is by a length of 0 in UDP
     (six(17, "03e807d0 00000000 6869"), None, "bad udp-length"),
     # each extension header of one word, of two, and of 256, the most
@@ -501,65 +511,95 @@ SIXES = [
     *((six(kind, f"0601 {many('ff', 14)} {TCP_6}"), None, f"counted tcp {TO_B}") for kind in EIGHTS),
     *((six(kind, f"11ff {many('ff', 2_046)} {UDP_6}"), None, f"counted udp {TO_B}") for kind in EIGHTS),
     # an authentication header of two words of 4 bytes, of three, of six, and of 257
-    (six(51, f"1100 000000000000 {UDP_6}"), None, f"counted udp {TO_B}"), (six(51, f"1101 {many('ff', 10)} {UDP_6}"), None, f"counted udp {TO_B}"),
+    (six(51, f"1100 000000000000 {UDP_6}"), None, f"counted udp {TO_B}"),
+    (six(51, f"1101 {many('ff', 10)} {UDP_6}"), None, f"counted udp {TO_B}"),
     (six(51, f"1104 {many('ff', 22)} {UDP_6}"), None, f"counted udp {TO_B}"),
     (six(51, f"11ff {many('ff', 1_026)} {UDP_6}"), None, f"counted udp {TO_B}"),
     # no other number is an extension header's, ESP (50) not either: a conversation without ports
-    *((six(kind, "1100 000000000000 03e807d0 000a0000 6869"), None, f"counted p{kind} {BARE}") for kind in NO_EXTENSIONS),
+    *((six(kind, "1100 000000000000 03e807d0 000a0000 6869"), None, f"counted p{kind} {BARE}")
+      for kind in NO_EXTENSIONS),
     *((six(60, f"{kind:02x}00 000000000000"), None, f"counted p{kind} {BARE}") for kind in (50, 58, 59, 255)),
     # ICMPv6: an echo request
     (six(58, "80000000 00010001 61626364"), None, f"counted p58 {BARE}"),
     # chains: all, with an authentication header of 24 bytes; each twice; hop-by-hop options behind others
     (six(0, "2b00 000000000000 2c00 000000000000 3c00 000000000000 3301 000000000000 0000000000000000 8704 " + many("00", 22)
          + "8b00 000000000000 8c00 000000000000 0600 000000000000" + TCP_6), None, f"counted tcp {TO_B}"),
-    (six(60, "3c00 000000000000 0000 000000000000 0001 000000000000 0000000000000000 1100 000000000000" + UDP_6), None, f"counted udp {TO_B}"),
+    (six(60, "3c00 000000000000 0000 000000000000 0001 000000000000 0000000000000000 1100 000000000000" + UDP_6), None,
+     f"counted udp {TO_B}"),
     (six(60, "3c00 000000000000" * 20 + "1100 000000000000" + UDP_6), None, f"counted udp {TO_B}"),
-    # a header that ends with the payload, and ones that reach past it, by 8 bytes, by 4, and by what isn't there of the least 8
-    (six(60, "3b01 000000000000 0000000000000000"), None, f"counted p59 {BARE}"), (six(60, "3b02 000000000000 0000000000000000"), None, "bad extension-past"),
-    (six(51, "3b01 000000000000 00000000"), None, f"counted p59 {BARE}"), (six(51, "3b02 000000000000 00000000"), None, "bad extension-past"),
+    # a header that ends with the payload, and ones that reach past it, by 8 bytes, by 4, and by what isn't there of the
+    # least 8
+    (six(60, "3b01 000000000000 0000000000000000"), None, f"counted p59 {BARE}"),
+    (six(60, "3b02 000000000000 0000000000000000"), None, "bad extension-past"),
+    (six(51, "3b01 000000000000 00000000"), None, f"counted p59 {BARE}"),
+    (six(51, "3b02 000000000000 00000000"), None, "bad extension-past"),
     *((six(kind, "3b00 0000000000"), None, "bad extension-past") for kind in (*EIGHTS, 44, 51)),
     *((six(kind), None, "bad extension-past") for kind in (*EIGHTS, 44, 51)),
-    (six(0, "3c00 000000000000"), None, "bad extension-past"), (six(0, "3c00 000000000000 3b00 0000000000"), None, "bad extension-past"),
+    (six(0, "3c00 000000000000"), None, "bad extension-past"),
+    (six(0, "3c00 000000000000 3b00 0000000000"), None, "bad extension-past"),
     # and so behind the payload, where bytes are padding
-    (six(0, "3c00 000000000000 3b00 000000000000", 8), None, "bad extension-past"), (six(0, "3b01 000000000000 0000000000000000", 8), None, "bad extension-past"),
-    # captured in part: nothing of a header, one byte, all but one, and all; of one that reaches past the payload, its first two bytes
-    (six(60, "", 18), REST, "cut extension-cut"), (six(60, "", 8), REST, "cut extension-cut"), (six(60, "", 7), REST, "bad extension-past"),
+    (six(0, "3c00 000000000000 3b00 000000000000", 8), None, "bad extension-past"),
+    (six(0, "3b01 000000000000 0000000000000000", 8), None, "bad extension-past"),
+    # captured in part: nothing of a header, one byte, all but one, and all; of one that reaches past the payload, its
+    # first two bytes
+    (six(60, "", 18), REST, "cut extension-cut"), (six(60, "", 8), REST, "cut extension-cut"),
+    (six(60, "", 7), REST, "bad extension-past"),
     (six(60, "11", 18), REST, "cut extension-cut"), (six(60, "1100", 18), REST, "cut extension-cut"),
-    (six(60, "1100 0000000000", 18), REST, "cut extension-cut"), (six(60, "1100 000000000000", 18), REST, "cut udp-short"),
+    (six(60, "1100 0000000000", 18), REST, "cut extension-cut"),
+    (six(60, "1100 000000000000", 18), REST, "cut udp-short"),
     (six(60, "3b00 000000000000", 18), REST, f"counted p59 {BARE}"),
-    (six(60, "1101", 16), REST, "cut extension-cut"), (six(60, "1101", 15), REST, "bad extension-past"), (six(60, "11", 15), REST, "cut extension-cut"),
+    (six(60, "1101", 16), REST, "cut extension-cut"), (six(60, "1101", 15), REST, "bad extension-past"),
+    (six(60, "11", 15), REST, "cut extension-cut"),
     (six(51, "1102", 16), REST, "cut extension-cut"), (six(51, "1102", 15), REST, "bad extension-past"),
     (six(51, "1102 000000000000 00000000 000000", 26), REST, "cut extension-cut"),
-    (six(0, "3c00 000000000000 11", 30), REST, "cut extension-cut"), (six(0, "3c00 000000000000", 15), REST, "bad extension-past"),
+    (six(0, "3c00 000000000000 11", 30), REST, "cut extension-cut"),
+    (six(0, "3c00 000000000000", 15), REST, "bad extension-past"),
     # the second byte of a fragment header is no length
-    (six(44, "11ff 0000 00000007" + UDP_6), None, f"counted udp {TO_B}"), (six(44, "11ff 0000 00000007", 18), REST, "cut udp-short"),
-    # a whole datagram by its fragment header (RFC 6946), also with reserved bits, and without data; behind it the headers go on
-    (six(44, "1100 0000 00000007" + UDP_6), None, f"counted udp {TO_B}"), (six(44, "1100 0006 00000007" + UDP_6), None, f"counted udp {TO_B}"),
-    (six(44, "3b00 0000 00000007"), None, f"counted p59 {BARE}"), (six(44, "3c00 0000 00000007 1100 000000000000" + UDP_6), None, f"counted udp {TO_B}"),
-    # the first fragment, one between, and the last, of 8 bytes, and of 1; with reserved bits; of a greatest identification
-    (six(44, "1100 0001 00000007 03e807d0 00180000"), None, "fragment 7 0"), (six(44, "1100 0009 00000007 03e807d0 00180000"), None, "fragment 7 8"),
-    (six(44, "1100 0010 00000007 03e807d0 00180000"), None, "fragment 7 16"), (six(44, "1100 0008 00000007 ff"), None, "fragment 7 8"),
-    (six(44, "11ff 000f 00000007 03e807d0 00180000"), None, "fragment 7 8"), (six(44, "1100 0007 ffffffff 03e807d0 00180000"), None, "fragment 4294967295 0"),
+    (six(44, "11ff 0000 00000007" + UDP_6), None, f"counted udp {TO_B}"),
+    (six(44, "11ff 0000 00000007", 18), REST, "cut udp-short"),
+    # a whole datagram by its fragment header (RFC 6946), also with reserved bits, and without data; behind it the
+    # headers go on
+    (six(44, "1100 0000 00000007" + UDP_6), None, f"counted udp {TO_B}"),
+    (six(44, "1100 0006 00000007" + UDP_6), None, f"counted udp {TO_B}"),
+    (six(44, "3b00 0000 00000007"), None, f"counted p59 {BARE}"),
+    (six(44, "3c00 0000 00000007 1100 000000000000" + UDP_6), None, f"counted udp {TO_B}"),
+    # the first fragment, one between, and the last, of 8 bytes, and of 1; with reserved bits; of a greatest
+    # identification
+    (six(44, "1100 0001 00000007 03e807d0 00180000"), None, "fragment 7 0"),
+    (six(44, "1100 0009 00000007 03e807d0 00180000"), None, "fragment 7 8"),
+    (six(44, "1100 0010 00000007 03e807d0 00180000"), None, "fragment 7 16"),
+    (six(44, "1100 0008 00000007 ff"), None, "fragment 7 8"),
+    (six(44, "11ff 000f 00000007 03e807d0 00180000"), None, "fragment 7 8"),
+    (six(44, "1100 0007 ffffffff 03e807d0 00180000"), None, "fragment 4294967295 0"),
     # without data; of 4, 7, 9 and 12 bytes, if more follow, and if not; of 16 and 24
     *((six(44, f"1100 {places} 00000007"), None, "bad fragment-empty") for places in ("0001", "0008", "0009", "fff9")),
-    *((six(44, f"1100 {places} 00000007 {many('aa', size)}"), None, "bad fragment-block") for places in ("0001", "0009", "fff9") for size in (4, 7, 9, 12)),
+    *((six(44, f"1100 {places} 00000007 {many('aa', size)}"), None, "bad fragment-block")
+      for places in ("0001", "0009", "fff9") for size in (4, 7, 9, 12)),
     *((six(44, f"1100 0008 00000007 {many('aa', size)}"), None, "fragment 7 8") for size in (4, 7, 9, 12)),
     *((six(44, f"1100 0009 00000007 {many('aa', size)}"), None, "fragment 7 8") for size in (16, 24)),
     # that ends at 65,535, at 65,536, and at 65,528
-    (six(44, f"1100 fff8 00000007 {many('aa', 7)}"), None, "fragment 7 65528"), (six(44, f"1100 fff8 00000007 {many('aa', 8)}"), None, "bad fragment-beyond"),
-    (six(44, f"1100 fff9 00000007 {many('aa', 8)}"), None, "bad fragment-beyond"), (six(44, f"1100 fff1 00000007 {many('aa', 8)}"), None, "fragment 7 65520"),
-    (six(44, f"1100 0018 00000007 {many('aa', 8)}", 65_519), REST, "fragment 7 24"), (six(44, f"1100 0020 00000007 {many('aa', 8)}", 65_519), REST, "bad fragment-beyond"),
+    (six(44, f"1100 fff8 00000007 {many('aa', 7)}"), None, "fragment 7 65528"),
+    (six(44, f"1100 fff8 00000007 {many('aa', 8)}"), None, "bad fragment-beyond"),
+    (six(44, f"1100 fff9 00000007 {many('aa', 8)}"), None, "bad fragment-beyond"),
+    (six(44, f"1100 fff1 00000007 {many('aa', 8)}"), None, "fragment 7 65520"),
+    (six(44, f"1100 0018 00000007 {many('aa', 8)}", 65_519), REST, "fragment 7 24"),
+    (six(44, f"1100 0020 00000007 {many('aa', 8)}", 65_519), REST, "bad fragment-beyond"),
     # what was captured of the data doesn't count, but of the header it does
-    (six(44, "1100 0001 00000007", 24), REST, "fragment 7 0"), (six(44, "1100 0001 00000007", 23), REST, "bad fragment-block"),
-    (six(44, "1100 0001 00000007", 8), REST, "bad fragment-empty"), (six(44, "1100 0001 000000", 24), REST, "cut extension-cut"),
-    # the data of a fragment isn't looked at: no headers, no ports; of two fragment headers the first that is no whole datagram's counts
-    (six(44, "3c00 0008 00000007 11ff 000000000000"), None, "fragment 7 8"), (six(44, "0000 0001 00000007 11ff 000000000000"), None, "fragment 7 0"),
+    (six(44, "1100 0001 00000007", 24), REST, "fragment 7 0"),
+    (six(44, "1100 0001 00000007", 23), REST, "bad fragment-block"),
+    (six(44, "1100 0001 00000007", 8), REST, "bad fragment-empty"),
+    (six(44, "1100 0001 000000", 24), REST, "cut extension-cut"),
+    # the data of a fragment isn't looked at: no headers, no ports; of two fragment headers the first that is no whole
+    # datagram's counts
+    (six(44, "3c00 0008 00000007 11ff 000000000000"), None, "fragment 7 8"),
+    (six(44, "0000 0001 00000007 11ff 000000000000"), None, "fragment 7 0"),
     (six(0, "2c00 000000000000 1100 0001 00000007 03e807d0 00180000"), None, "fragment 7 0"),
     (six(44, "2c00 0000 00000007 1100 0009 00000008 03e807d0 00180000"), None, "fragment 8 8"),
     (six(44, "2c00 0009 00000007 1100 0000 00000008 03e807d0 00180000"), None, "fragment 7 8"),
     (six(44, "2c00 0000 00000007 1100 0008 00000008"), None, "bad fragment-empty"),
     # the data of a fragment is the payload's rest, without padding
-    (six(44, f"1100 0001 00000007 {many('aa', 8)} 00", 16), None, "fragment 7 0"), (six(44, f"1100 0001 00000007 {many('aa', 8)} 00"), None, "bad fragment-block"),
+    (six(44, f"1100 0001 00000007 {many('aa', 8)} 00", 16), None, "fragment 7 0"),
+    (six(44, f"1100 0001 00000007 {many('aa', 8)} 00"), None, "bad fragment-block"),
 ]
 # the same of UDP and TCP as over IPv4, without a header before and behind one
 for name, length, data, told in PORTS:
@@ -568,28 +608,45 @@ for name, length, data, told in PORTS:
     SIXES.append((six(number, data, length), 40 + length, told))
     SIXES.append((six(60, f"{number:02x}00 000000000000 {data}", 8 + length), 48 + length, told))
 
-# An address in hex, and its text by RFC 5952: of the RFC, of RFC 4291, and where runs of zeros begin, end, and are as long.
+# An address in hex, and its text by RFC 5952: of the RFC, of RFC 4291, and where runs of zeros begin, end, and are as
+# long.
 ADDRESSES = [
-    ("20010db8 00000000 00010000 00000001", "2001:db8::1:0:0:1"), ("20010db8 00000000 00000000 00020001", "2001:db8::2:1"),
-    ("20010db8 00000001 00010001 00010001", "2001:db8:0:1:1:1:1:1"), ("20010000 00000001 00000000 00000001", "2001:0:0:1::1"),
-    ("20010db8 aaaabbbb ccccdddd eeeeaaaa", "2001:db8:aaaa:bbbb:cccc:dddd:eeee:aaaa"), ("20010db8 aaaabbbb ccccdddd eeee0001", "2001:db8:aaaa:bbbb:cccc:dddd:eeee:1"),
-    ("20010db8 00000000 00000000 00000001", "2001:db8::1"), ("00000000 00000000 00000000 00000000", "::"), ("00000000 00000000 00000000 00000001", "::1"),
-    ("00010000 00000000 00000000 00000000", "1::"), ("ff010000 00000000 00000000 00000101", "ff01::101"), ("20010db8 00000000 00080800 200c417a", "2001:db8::8:800:200c:417a"),
-    ("abcdef01 23456789 abcdef01 23456789", "abcd:ef01:2345:6789:abcd:ef01:2345:6789"), ("fe800000 00000000 02001dff fe00abcd", "fe80::200:1dff:fe00:abcd"),
+    ("20010db8 00000000 00010000 00000001", "2001:db8::1:0:0:1"),
+    ("20010db8 00000000 00000000 00020001", "2001:db8::2:1"),
+    ("20010db8 00000001 00010001 00010001", "2001:db8:0:1:1:1:1:1"),
+    ("20010000 00000001 00000000 00000001", "2001:0:0:1::1"),
+    ("20010db8 aaaabbbb ccccdddd eeeeaaaa", "2001:db8:aaaa:bbbb:cccc:dddd:eeee:aaaa"),
+    ("20010db8 aaaabbbb ccccdddd eeee0001", "2001:db8:aaaa:bbbb:cccc:dddd:eeee:1"),
+    ("20010db8 00000000 00000000 00000001", "2001:db8::1"), ("00000000 00000000 00000000 00000000", "::"),
+    ("00000000 00000000 00000000 00000001", "::1"),
+    ("00010000 00000000 00000000 00000000", "1::"), ("ff010000 00000000 00000000 00000101", "ff01::101"),
+    ("20010db8 00000000 00080800 200c417a", "2001:db8::8:800:200c:417a"),
+    ("abcdef01 23456789 abcdef01 23456789", "abcd:ef01:2345:6789:abcd:ef01:2345:6789"),
+    ("fe800000 00000000 02001dff fe00abcd", "fe80::200:1dff:fe00:abcd"),
     # IPv4 in it has no form of its own
-    ("00000000 00000000 0000ffff 01020304", "::ffff:102:304"), ("00000000 00000000 00000000 01020304", "::102:304"), ("0064ff9b 00000000 00000000 c0000221", "64:ff9b::c000:221"),
+    ("00000000 00000000 0000ffff 01020304", "::ffff:102:304"), ("00000000 00000000 00000000 01020304", "::102:304"),
+    ("0064ff9b 00000000 00000000 c0000221", "64:ff9b::c000:221"),
     ("00000000 00000000 0000ffff 00000000", "::ffff:0:0"), ("00000000 00000000 ffff0000 c0000221", "::ffff:0:c000:221"),
-    # one zero stays, at each end too; two go, at each end and between; the first of two runs, and a later one that is longer
-    ("00000002 00030004 00050006 00070008", "0:2:3:4:5:6:7:8"), ("00010002 00030004 00050006 00070000", "1:2:3:4:5:6:7:0"),
-    ("00000000 00030004 00050006 00070008", "::3:4:5:6:7:8"), ("00010002 00030004 00050006 00000000", "1:2:3:4:5:6::"), ("00010002 00030000 00000006 00070008", "1:2:3::6:7:8"),
-    ("00010000 00000004 00000000 00070008", "1::4:0:0:7:8"), ("00000000 00030000 00000000 00070008", "0:0:3::7:8"), ("00000000 00000004 00050000 00000000", "::4:5:0:0:0"),
-    ("00000000 00030004 00050000 00000000", "0:0:3:4:5::"), ("00000001 00000001 00000001 00000001", "0:1:0:1:0:1:0:1"), ("00010000 00010000 00010000 00010000", "1:0:1:0:1:0:1:0"),
-    ("00000000 00000000 00000000 00010000", "::1:0"), ("00000001 00000000 00000000 00000000", "0:1::"), ("00000000 00000000 00000001 00000000", "::1:0:0"),
-    ("ffffffff ffffffff ffffffff ffffffff", "ffff:ffff:ffff:ffff:ffff:ffff:ffff:ffff"), ("0fff00ff 000f0000 00000000 00000abc", "fff:ff:f::abc"),
-    ("80000000 00000000 00000000 00000000", "8000::"), ("00100100 10000010 01001000 00100100", "10:100:1000:10:100:1000:10:100"),
+    # one zero stays, at each end too; two go, at each end and between; the first of two runs, and a later one that is
+    # longer
+    ("00000002 00030004 00050006 00070008", "0:2:3:4:5:6:7:8"),
+    ("00010002 00030004 00050006 00070000", "1:2:3:4:5:6:7:0"),
+    ("00000000 00030004 00050006 00070008", "::3:4:5:6:7:8"), ("00010002 00030004 00050006 00000000", "1:2:3:4:5:6::"),
+    ("00010002 00030000 00000006 00070008", "1:2:3::6:7:8"),
+    ("00010000 00000004 00000000 00070008", "1::4:0:0:7:8"), ("00000000 00030000 00000000 00070008", "0:0:3::7:8"),
+    ("00000000 00000004 00050000 00000000", "::4:5:0:0:0"),
+    ("00000000 00030004 00050000 00000000", "0:0:3:4:5::"), ("00000001 00000001 00000001 00000001", "0:1:0:1:0:1:0:1"),
+    ("00010000 00010000 00010000 00010000", "1:0:1:0:1:0:1:0"),
+    ("00000000 00000000 00000000 00010000", "::1:0"), ("00000001 00000000 00000000 00000000", "0:1::"),
+    ("00000000 00000000 00000001 00000000", "::1:0:0"),
+    ("ffffffff ffffffff ffffffff ffffffff", "ffff:ffff:ffff:ffff:ffff:ffff:ffff:ffff"),
+    ("0fff00ff 000f0000 00000000 00000abc", "fff:ff:f::abc"),
+    ("80000000 00000000 00000000 00000000", "8000::"), ("00100100 10000010 01001000 00100100",
+                                                        "10:100:1000:10:100:1000:10:100"),
 ]
 SIXES += [(six(59, ends=f"{address} {address}"), None, f"counted p59 {text} {text}") for address, text in ADDRESSES]
-SIXES += [(six(17, UDP_6, ends=f"{address} {address}"), None, f"counted udp [{text}]:1000 [{text}]:2000") for address, text in ADDRESSES[:8]]
+SIXES += [(six(17, UDP_6, ends=f"{address} {address}"), None, f"counted udp [{text}]:1000 [{text}]:2000") for address,
+          text in ADDRESSES[:8]]
 
 
 def frames_6(**counts):
@@ -601,7 +658,8 @@ def alone_6(told, length):
     """The end of the report of one packet."""
     kind, _, rest = told.partition(" ")
     kind = "unjoined" if kind == "fragment" else kind
-    return frames_6(talks=[f"{rest} forward 1 {length} backward 0 0 {times(SECOND)}"] if kind == "counted" else (), **{kind: 1})
+    return frames_6(talks=[f"{rest} forward 1 {length} backward 0 0 {times(SECOND)}"] if kind == "counted" else (),
+                    **{kind: 1})
 
 
 def told_of_6(told):
@@ -612,44 +670,63 @@ def told_of_6(told):
     return "fragment identification {} fragment-offset {}".format(*rest.split()) if kind == "fragment" else f"{kind} reason {rest}"
 
 
-# A capture, what `list --class --ipv6` says of each packet, if that is looked at, and the end of the report with `--ipv6`.
+# A capture, what `list --class --ipv6` says of each packet, if that is looked at, and the end of the report with
+# `--ipv6`.
 READ_6 = []
 for data, original, told in SIXES:
     length = len(bytes.fromhex(data)) if original is None else original
     READ_6.append((of_link(229, at(1, data, original)), None, alone_6(told, length)))
-READ_6.append((of_link(229, *(at(1, data, original) for data, original, _ in SIXES)), [told_of_6(told) for _, _, told in SIXES], ""))
+READ_6.append((of_link(229, *(at(1, data, original) for data, original, _ in SIXES)),
+               [told_of_6(told) for _, _, told in SIXES], ""))
 
-# The link types: behind type fields of 86DD, also after tags; first bytes of version 6; 229. Where none of it leads to IPv6 all is as without
+# The link types: behind type fields of 86DD, also after tags; first bytes of version 6; 229. Where none of it leads to
+# IPv6 all is as without
 # the word, but for the name of the class `not-ip`.
 ONE_UDP, THIS_UDP = six(17, UDP_6), f"counted udp {TO_B}"
 MACS = "020000000002 020000000001"
 FRAMED = [
-    (1, f"{MACS} 86dd {ONE_UDP}", THIS_UDP), (1, f"{MACS} 8100 000a 86dd {ONE_UDP}", THIS_UDP), (1, f"{MACS} 88a8 0064 8100 000a 86dd {ONE_UDP}", THIS_UDP),
-    (1, f"{MACS} {'8100000a' * 1_024} 86dd {ONE_UDP}", THIS_UDP), (1, f"{MACS} 86dd {ONE_UDP} {many('00', 20)}", THIS_UDP),
-    (113, f"0000 0001 0006 0200000000010000 86dd {ONE_UDP}", THIS_UDP), (113, f"0000 0001 0006 0200000000010000 8100 000a 86dd {ONE_UDP}", THIS_UDP),
-    (276, f"86dd 0000 00000001 0001 00 06 0200000000010000 {ONE_UDP}", THIS_UDP), (276, f"8100 0000 00000001 0001 00 06 0200000000010000 000a 86dd {ONE_UDP}", THIS_UDP),
+    (1, f"{MACS} 86dd {ONE_UDP}", THIS_UDP), (1, f"{MACS} 8100 000a 86dd {ONE_UDP}", THIS_UDP),
+    (1, f"{MACS} 88a8 0064 8100 000a 86dd {ONE_UDP}", THIS_UDP),
+    (1, f"{MACS} {'8100000a' * 1_024} 86dd {ONE_UDP}", THIS_UDP),
+    (1, f"{MACS} 86dd {ONE_UDP} {many('00', 20)}", THIS_UDP),
+    (113, f"0000 0001 0006 0200000000010000 86dd {ONE_UDP}", THIS_UDP),
+    (113, f"0000 0001 0006 0200000000010000 8100 000a 86dd {ONE_UDP}", THIS_UDP),
+    (276, f"86dd 0000 00000001 0001 00 06 0200000000010000 {ONE_UDP}", THIS_UDP),
+    (276, f"8100 0000 00000001 0001 00 06 0200000000010000 000a 86dd {ONE_UDP}", THIS_UDP),
     (101, ONE_UDP, THIS_UDP), (229, ONE_UDP, THIS_UDP),
-    # no byte behind the type, and the first of a header; another version behind it; the type of IPv4 before IPv6, and 86DD before IPv4
-    (1, f"{MACS} 86dd", "bad header-short"), (1, f"{MACS} 86dd 60", "bad header-short"), (101, "60", "bad header-short"), (101, "6f", "bad header-short"),
-    (1, f"{MACS} 86dd {UDP} {many('00', 10)}", "bad version"), (1, f"{MACS} 0800 {ONE_UDP}", "bad version"), (228, ONE_UDP, "bad version"),
-    (113, f"{many('00', 14)} 86dd {six(59)}", f"counted p59 {BARE}"), (276, f"86dd {many('00', 18)} {six(59)}", f"counted p59 {BARE}"),
+    # no byte behind the type, and the first of a header; another version behind it; the type of IPv4 before IPv6, and
+    # 86DD before IPv4
+    (1, f"{MACS} 86dd", "bad header-short"), (1, f"{MACS} 86dd 60", "bad header-short"),
+    (101, "60", "bad header-short"), (101, "6f", "bad header-short"),
+    (1, f"{MACS} 86dd {UDP} {many('00', 10)}", "bad version"), (1, f"{MACS} 0800 {ONE_UDP}", "bad version"),
+    (228, ONE_UDP, "bad version"),
+    (113, f"{many('00', 14)} 86dd {six(59)}", f"counted p59 {BARE}"),
+    (276, f"86dd {many('00', 18)} {six(59)}", f"counted p59 {BARE}"),
     # frames that end in the link header or in a tag, other networks, other versions, other link types
-    (1, f"{MACS} 86", "short"), (1, f"{MACS} 8100 000a 86", "short"), (113, f"{many('00', 14)} 86", "short"), (276, f"86dd {many('00', 17)}", "short"), (101, "", "short"),
-    (1, f"{MACS} 0806 {ONE_UDP}", "not-ip"), (1, f"{MACS} 86dc {ONE_UDP}", "not-ip"), (1, f"{MACS} 0026 {ONE_UDP}", "not-ip"), (1, f"{MACS} 9100 000a 86dd {ONE_UDP}", "not-ip"),
-    (113, f"{many('00', 14)} 86de {ONE_UDP}", "not-ip"), (276, f"86de {many('00', 18)} {ONE_UDP}", "not-ip"), (101, f"50{ONE_UDP[2:]}", "not-ip"), (101, "70", "not-ip"),
+    (1, f"{MACS} 86", "short"), (1, f"{MACS} 8100 000a 86", "short"), (113, f"{many('00', 14)} 86", "short"),
+    (276, f"86dd {many('00', 17)}", "short"), (101, "", "short"),
+    (1, f"{MACS} 0806 {ONE_UDP}", "not-ip"), (1, f"{MACS} 86dc {ONE_UDP}", "not-ip"),
+    (1, f"{MACS} 0026 {ONE_UDP}", "not-ip"), (1, f"{MACS} 9100 000a 86dd {ONE_UDP}", "not-ip"),
+    (113, f"{many('00', 14)} 86de {ONE_UDP}", "not-ip"), (276, f"86de {many('00', 18)} {ONE_UDP}", "not-ip"),
+    (101, f"50{ONE_UDP[2:]}", "not-ip"), (101, "70", "not-ip"),
     *((link, ONE_UDP, "other-link") for link in (0, 12, 14, 100, 102, 108, 147, 227, 230)),
     # IPv4 as ever
-    (1, f"{MACS} 0800 {UDP}", "counted udp 10.0.0.1:1000 10.0.0.2:2000"), (101, UDP, "counted udp 10.0.0.1:1000 10.0.0.2:2000"),
-    (228, UDP, "counted udp 10.0.0.1:1000 10.0.0.2:2000"), (228, "60", "bad header-short"), (229, UDP + many("00", 10), "bad version"),
+    (1, f"{MACS} 0800 {UDP}", "counted udp 10.0.0.1:1000 10.0.0.2:2000"),
+    (101, UDP, "counted udp 10.0.0.1:1000 10.0.0.2:2000"),
+    (228, UDP, "counted udp 10.0.0.1:1000 10.0.0.2:2000"), (228, "60", "bad header-short"),
+    (229, UDP + many("00", 10), "bad version"),
 ]
 for link, data, told in FRAMED:
     if " " in told:
         READ_6.append((of_link(link, at(1, data)), [told_of_6(told)], alone_6(told, len(bytes.fromhex(data)))))
     else:
-        READ_6.append((of_link(link, at(1, data)), [told], frames_6(**{told.replace("not-ip", "not-ipv4").replace("-", "_"): 1})))
+        READ_6.append((of_link(link, at(1, data)), [told], frames_6(**{told.replace("not-ip", "not-ipv4").replace("-",
+            "_"): 1})))
 
-# Conversations of both networks in one table, in the order of their first units: both ways of UDP and of ICMPv6; the lesser address first, whatever the
-# ports, as numbers and not as texts (10:: is greater than 9::, and 8000:: than 7fff::); an end to itself; an address that is as great a number as one of
+# Conversations of both networks in one table, in the order of their first units: both ways of UDP and of ICMPv6; the
+# lesser address first, whatever the
+# ports, as numbers and not as texts (10:: is greater than 9::, and 8000:: than 7fff::); an end to itself; an address
+# that is as great a number as one of
 # IPv4, and one that maps one.
 UDP_BACK_6, B_TO_A = "07d003e8 000a0000 6869", f"{B_6} {A_6}"
 ECHO, REPLY = six(58, "80000000 00010001 61626364"), six(58, "81000000 00010001 61626364", ends=B_TO_A)
@@ -657,10 +734,14 @@ ONE_4, ONE_6 = "00000001 00000002", "00000000 00000000 00000000 00000001 0000000
 SMALL_4 = f"4500001e 00010000 40110000 {ONE_4} 03e807d0 000a0000 6869"
 MAPPED = "00000000 00000000 0000ffff 0a000001 00000000 00000000 0000ffff 0a000002"
 MIXED = of_link(
-    101, at(1, ONE_UDP), at(2, UDP), at(3, ECHO), at(4, six(17, UDP_BACK_6, ends=B_TO_A)), at(5, REPLY), at(6, six(6, TCP_6)),
-    at(7, six(17, UDP_6, ends=B_TO_A)), at(8, SMALL_4), at(9, six(17, UDP_6, ends=ONE_6)), at(10, six(17, UDP_6, ends=MAPPED)),
-    at(11, six(59, ends=f"0010{'0000' * 7} 0009{'0000' * 7}")), at(12, six(59, ends=f"8000{'0000' * 7} 7fff{'0000' * 7}")),
-    at(13, six(17, UDP_BACK_6, ends=f"{A_6} {A_6}")), at(14, six(17, UDP_6, ends=f"{A_6} {A_6}")), at(15, six(6, TCP_6, ends=B_TO_A), 1_514))
+    101, at(1, ONE_UDP), at(2, UDP), at(3, ECHO), at(4, six(17, UDP_BACK_6, ends=B_TO_A)), at(5, REPLY),
+    at(6, six(6, TCP_6)),
+    at(7, six(17, UDP_6, ends=B_TO_A)), at(8, SMALL_4), at(9, six(17, UDP_6, ends=ONE_6)),
+    at(10, six(17, UDP_6, ends=MAPPED)),
+    at(11, six(59, ends=f"0010{'0000' * 7} 0009{'0000' * 7}")),
+    at(12, six(59, ends=f"8000{'0000' * 7} 7fff{'0000' * 7}")),
+    at(13, six(17, UDP_BACK_6, ends=f"{A_6} {A_6}")), at(14, six(17, UDP_6, ends=f"{A_6} {A_6}")),
+    at(15, six(6, TCP_6, ends=B_TO_A), 1_514))
 
 
 def second(number, last=None):
@@ -670,46 +751,57 @@ def second(number, last=None):
 MIXED_TALKS = [
     f"udp {TO_B} forward 1 50 backward 1 50 {second(1, 4)}", f"udp {TALK} 1 30 backward 0 0 {second(2)}",
     f"p58 {BARE} forward 1 52 backward 1 52 {second(3, 5)}", f"tcp {TO_B} forward 1 60 backward 0 0 {second(6)}",
-    f"udp [2001:db8::1]:2000 [2001:db8::2]:1000 forward 0 0 backward 1 50 {second(7)}", f"udp 0.0.0.1:1000 0.0.0.2:2000 forward 1 30 backward 0 0 {second(8)}",
-    f"udp [::1]:1000 [::2]:2000 forward 1 50 backward 0 0 {second(9)}", f"udp [::ffff:a00:1]:1000 [::ffff:a00:2]:2000 forward 1 50 backward 0 0 {second(10)}",
+    f"udp [2001:db8::1]:2000 [2001:db8::2]:1000 forward 0 0 backward 1 50 {second(7)}",
+    f"udp 0.0.0.1:1000 0.0.0.2:2000 forward 1 30 backward 0 0 {second(8)}",
+    f"udp [::1]:1000 [::2]:2000 forward 1 50 backward 0 0 {second(9)}",
+    f"udp [::ffff:a00:1]:1000 [::ffff:a00:2]:2000 forward 1 50 backward 0 0 {second(10)}",
     f"p59 9:: 10:: forward 0 0 backward 1 40 {second(11)}", f"p59 7fff:: 8000:: forward 0 0 backward 1 40 {second(12)}",
     f"udp [2001:db8::1]:1000 [2001:db8::1]:2000 forward 1 50 backward 1 50 {second(13, 14)}",
     f"tcp [2001:db8::1]:2000 [2001:db8::2]:1000 forward 0 0 backward 1 1514 {second(15)}",
 ]
 COUNTED_6 = [0, 1, 2, 0, 2, 3, 4, 5, 6, 7, 8, 9, 10, 10, 11]      # the conversation of each packet
-READ_6.append((MIXED, [f"counted {MIXED_TALKS[place].partition(' forward ')[0]}" for place in COUNTED_6], frames_6(counted=15, talks=MIXED_TALKS)))
+READ_6.append((MIXED, [f"counted {MIXED_TALKS[place].partition(' forward ')[0]}" for place in COUNTED_6],
+               frames_6(counted=15, talks=MIXED_TALKS)))
 # With --top, by the bytes both ways: 1,514, 104, 100, 100 and 60.
 TOP_6 = [MIXED_TALKS[11], MIXED_TALKS[2], MIXED_TALKS[0], MIXED_TALKS[10], MIXED_TALKS[3]]
 
 # From ::a to ::2, and from port 10 to port 9 of one address: ends are numbers, not texts.
 TENTH = "00000000 00000000 00000000 0000000a"
-READ_6.append((of_link(101, at(1, six(17, UDP_6, ends=f"{TENTH[:-8]}0000000a {TENTH[:-8]}00000002")), at(2, six(17, "000a0009 00080000", ends=f"{TENTH} {TENTH}"))),
+READ_6.append((of_link(101, at(1, six(17, UDP_6, ends=f"{TENTH[:-8]}0000000a {TENTH[:-8]}00000002")),
+                       at(2, six(17, "000a0009 00080000", ends=f"{TENTH} {TENTH}"))),
                ["counted udp [::2]:2000 [::a]:1000", "counted udp [::a]:9 [::a]:10"],
                frames_6(counted=2, talks=[f"udp [::2]:2000 [::a]:1000 forward 0 0 backward 1 50 {second(1)}",
                                           f"udp [::a]:9 [::a]:10 forward 0 0 backward 1 48 {second(2)}"])))
 
-# Fragments of IPv6 are no groups: a datagram's two stay unjoined; 1,025 give none up, nor a group of IPv4; a whole datagram of IPv6 flushes none.
+# Fragments of IPv6 are no groups: a datagram's two stay unjoined; 1,025 give none up, nor a group of IPv4; a whole
+# datagram of IPv6 flushes none.
 FIRST_6, LAST_6 = six(44, "1100 0001 00000009 03e807d0 00100000"), six(44, "1100 0008 00000009 a0a1a2a3 a4a5a6a7")
 WHOLE_6 = six(44, "1100 0000 00000009 03e807d0 00080000")
 READ_6 += [
-    (of_link(101, at(1, FIRST_6), at(2, LAST_6)), ["fragment identification 9 fragment-offset 0", "fragment identification 9 fragment-offset 8"],
+    (of_link(101, at(1, FIRST_6), at(2, LAST_6)), ["fragment identification 9 fragment-offset 0",
+                                                   "fragment identification 9 fragment-offset 8"],
      frames_6(unjoined=2)),
     (of_link(101, at(1, LAST), at(2, WHOLE_6), at(3, LAST_6), at(4, FIRST)),
-     ["fragment identification 9 fragment-offset 8", f"counted udp {TO_B}", "fragment identification 9 fragment-offset 8",
+     ["fragment identification 9 fragment-offset 8", f"counted udp {TO_B}",
+      "fragment identification 9 fragment-offset 8",
       "fragment identification 9 fragment-offset 0"],
-     frames_6(joined=1, unjoined=1, counted=3, talks=[f"udp {TO_B} forward 1 56 backward 0 0 {second(2)}", f"udp {TALK} 2 56 backward 0 0 {second(1, 4)}"])),
-    (of_link(101, at(1, LAST), *(at(1, six(44, f"1100 0001 {n:08x} 03e807d0 00100000")) for n in range(1_025)), at(1, FIRST)), None,
+     frames_6(joined=1, unjoined=1, counted=3, talks=[f"udp {TO_B} forward 1 56 backward 0 0 {second(2)}",
+                                                      f"udp {TALK} 2 56 backward 0 0 {second(1, 4)}"])),
+    (of_link(101, at(1, LAST), *(at(1, six(44, f"1100 0001 {n:08x} 03e807d0 00100000")) for n in range(1_025)),
+             at(1, FIRST)), None,
      frames_6(joined=1, unjoined=1_025, counted=2, talks=[f"udp {TALK} 2 56 backward 0 0 {times(SECOND)}"])),
     # one without a time, and two link types
     (f"{SECTION} {interface(link='e500', snaplen='00000000')} {OF_IP} 03000000 44000000 32000000 {ONE_UDP} 0000 44000000 "
      f"06000000 54000000 01000000 00000000 40420f00 32000000 32000000 {six(17, UDP_BACK_6, ends=B_TO_A)} 0000 54000000",
-     [f"counted udp {TO_B}"] * 2, frames_6(counted=2, talks=[f"udp {TO_B} forward 1 50 backward 1 50 {times(SECOND)}"])),
+     [f"counted udp {TO_B}"] * 2, frames_6(counted=2,
+                                           talks=[f"udp {TO_B} forward 1 50 backward 1 50 {times(SECOND)}"])),
 ]
 
 # Packets of each kind, and what is printed of them with --json.
 SIX = of_link(101, at(1, ONE_UDP), at(2, UDP), at(3, REPLY), at(4, "70"), at(5, FIRST_6), at(6, "60"))
 JSON_ENDS = '"a":{"address":"%s","port":1000},"b":{"address":"%s","port":2000}'
-ENDS_JSON = [f'"protocol":17,{JSON_ENDS % ("2001:db8::1", "2001:db8::2")}', f'"protocol":17,{JSON_ENDS % ("10.0.0.1", "10.0.0.2")}',
+ENDS_JSON = [f'"protocol":17,{JSON_ENDS % ("2001:db8::1", "2001:db8::2")}',
+             f'"protocol":17,{JSON_ENDS % ("10.0.0.1", "10.0.0.2")}',
              '"protocol":58,"a":{"address":"2001:db8::1"},"b":{"address":"2001:db8::2"}']
 SIX_JSON = "".join((
     '{"type":"files","files":1}\n',
@@ -723,9 +815,11 @@ SIX_JSON = "".join((
 SIX_CLASSES_JSON = "".join(
     f'{{"type":"packet","n":{n},"offset":{offset},"time":[{n},0,1000000],"captured":{size},"original":{size},"link":101,"data":"","class":{told}}}\n'
     for n, (offset, size, told) in enumerate((
-        (24, 50, f'"counted",{ENDS_JSON[0]}'), (90, 30, f'"counted",{ENDS_JSON[1]}'), (136, 52, f'"counted",{ENDS_JSON[2]}'), (204, 1, '"not-ip"'),
+        (24, 50, f'"counted",{ENDS_JSON[0]}'), (90, 30, f'"counted",{ENDS_JSON[1]}'),
+        (136, 52, f'"counted",{ENDS_JSON[2]}'), (204, 1, '"not-ip"'),
         (221, 56, '"fragment","identification":9,"fragment_offset":0'), (293, 1, '"bad","reason":"header-short"')), 1))
-SIX_TALKS = [f"udp {TO_B} forward 1 50 backward 0 0 {second(1)}", f"udp {TALK} 1 30 backward 0 0 {second(2)}", f"p58 {BARE} forward 0 0 backward 1 52 {second(3)}"]
+SIX_TALKS = [f"udp {TO_B} forward 1 50 backward 0 0 {second(1)}", f"udp {TALK} 1 30 backward 0 0 {second(2)}",
+             f"p58 {BARE} forward 0 0 backward 1 52 {second(3)}"]
 SIX_HEAD = "files 1\nfile 1 pcap packets 6 bytes 190 truncated 0 skipped 0 first 1+0/1000000 last 6+0/1000000\ntotal packets 6 bytes 190 truncated 0\n"
 SIX_UNREAD = SIX_HEAD + frames(not_ipv4=5, counted=1, talks=SIX_TALKS[1:2])
 SIX_TEXT = SIX_HEAD + frames_6(not_ipv4=1, bad=1, unjoined=1, counted=3, talks=SIX_TALKS)
@@ -733,7 +827,8 @@ SIX_TEXT = SIX_HEAD + frames_6(not_ipv4=1, bad=1, unjoined=1, counted=3, talks=S
 # Captures of which some have IPv6, in another order than their times, and the end of their report.
 TOGETHER_6 = [
     ([of_link(101, at(2, UDP), at(4, UDP)), of_link(229, at(1, ONE_UDP), at(3, six(17, UDP_BACK_6, ends=B_TO_A)))],
-     frames_6(counted=4, talks=[f"udp {TO_B} forward 1 50 backward 1 50 {second(1, 3)}", f"udp {TALK} 2 60 backward 0 0 {second(2, 4)}"])),
+     frames_6(counted=4, talks=[f"udp {TO_B} forward 1 50 backward 1 50 {second(1, 3)}",
+                                f"udp {TALK} 2 60 backward 0 0 {second(2, 4)}"])),
     ([SIX, of_link(1, at(7, f"{MACS} 86dd {ECHO}"))],
      frames_6(not_ipv4=1, bad=1, unjoined=1, counted=4,
               talks=[*SIX_TALKS[:2], f"p58 {BARE} forward 1 66 backward 1 52 {second(3, 7)}"])),
@@ -1004,14 +1099,18 @@ JOINED_AS_PCAP = [
 # The same in the unit of time that is asked for, with the task.
 CARRIED_NANO = f"{NANO} 01000000 {at(2, '01020304', micros=500_000_000)}"
 IN_UNITS = [
-    ("pcap-micro", [CARRIED], CARRIED, None), ("pcap-nano", [CARRIED], CARRIED_NANO, None), ("pcap-nano", [CARRIED_NANO], CARRIED_NANO, None),
+    ("pcap-micro", [CARRIED], CARRIED, None), ("pcap-nano", [CARRIED], CARRIED_NANO, None),
+    ("pcap-nano", [CARRIED_NANO], CARRIED_NANO, None),
     ("pcap-micro", [CARRIED_NANO], CARRIED, None), ("pcap-nano", [vector("CARRY_PCAPNG").hex()], CARRIED_NANO, None),
     # times in nanoseconds that are whole microseconds, and one that isn't
     ("pcap-micro", [of_units(9, 2_000_001_000)], of_link(1, at(2, "0a", micros=1)), None),
-    ("pcap-micro", [of_units(9, 2_000_001_000, 2_000_001_001)], of_link(1, at(2, "0a", micros=1)), "file 1 offset 92 rule 19 inexact"),
+    ("pcap-micro", [of_units(9, 2_000_001_000, 2_000_001_001)], of_link(1, at(2, "0a", micros=1)),
+     "file 1 offset 92 rule 19 inexact"),
     # 512, 8 and 1 of 1,024 parts of a second
-    ("pcap-micro", [of_units(138, 512, 8)], of_link(1, at(0, "0a", micros=500_000)), "file 1 offset 92 rule 19 inexact"),
-    ("pcap-nano", [of_units(138, 8, 1)], f"{NANO} 01000000 {at(0, '0a', micros=7_812_500)}", "file 1 offset 92 rule 19 inexact"),
+    ("pcap-micro", [of_units(138, 512, 8)], of_link(1, at(0, "0a", micros=500_000)),
+     "file 1 offset 92 rule 19 inexact"),
+    ("pcap-nano", [of_units(138, 8, 1)], f"{NANO} 01000000 {at(0, '0a', micros=7_812_500)}",
+     "file 1 offset 92 rule 19 inexact"),
     # an interface without a packet; no interface; a packet without a time; a record that is cut
     ("pcap-nano", [ETHERNET], f"{NANO} 01000000", None), ("pcap-nano", [SECTION], "", NO_PACKET),
     ("pcap-nano", [f"{SECTION} {PLAIN} {enhanced(0)} {SIMPLE}"], CARRIED_NANO, "file 1 offset 84 rule 17 no-time"),
@@ -1020,10 +1119,13 @@ IN_UNITS = [
     ("pcap-nano", [f"{SECTION} {LAST_SECOND}" + packet(0, 0, b"\x0b").hex() + packet(0, 1_000_000, b"\x0b").hex()],
      f"{NANO} 01000000 {at(2**32 - 1, '0b')}", "file 1 offset 96 rule 20 time-range"),
     # a time that isn't whole in the fraction of the first packet, and one that isn't whole in any
-    ("merge-nano", [of_link(1, at(0, "0b")), of_units(9, 1_000_000_001)], f"{NANO} 01000000 {at(0, '0b')} {at(1, '0a', micros=1)}", None),
-    ("merge-nano", [of_link(1, at(0, "0b")), of_units(138, 1_025)], f"{NANO} 01000000 {at(0, '0b')}", "file 2 offset 56 rule 19 inexact"),
+    ("merge-nano", [of_link(1, at(0, "0b")), of_units(9, 1_000_000_001)],
+     f"{NANO} 01000000 {at(0, '0b')} {at(1, '0a', micros=1)}", None),
+    ("merge-nano", [of_link(1, at(0, "0b")), of_units(138, 1_025)], f"{NANO} 01000000 {at(0, '0b')}",
+     "file 2 offset 56 rule 19 inexact"),
     # the first packet's interface has nanoseconds
-    ("merge-micro", [of_units(9, 1_000), of_link(1, at(1, "0b", micros=5))], of_link(1, at(0, "0a", micros=1), at(1, "0b", micros=5)), None),
+    ("merge-micro", [of_units(9, 1_000), of_link(1, at(1, "0b", micros=5))],
+     of_link(1, at(0, "0a", micros=1), at(1, "0b", micros=5)), None),
     ("merge-micro", [of_units(9, 1), of_link(1, at(1, "0b"))], ETHERNET, "file 1 offset 56 rule 19 inexact"),
     # a second link; a packet without a time; no packet
     ("merge-nano", [of_link(1, at(1, "0a"), at(3, "0c")), of_link(101, at(2, "0b"))], f"{NANO} 01000000 {at(1, '0a')}",
@@ -1232,19 +1334,25 @@ LINES = [
     ("check --names cut --digest a none", (1, checked(CUT_AT_60, "whole", "open", names=("cut", "a", "none"), has_digest=True).encode(), b"", None)),
     ("check --digest --json a none", (1, ((CHECK_JSON % (1, "a")).replace(*DIGEST_IN_CHECK)
                                           + (OPEN_JSON % (2, "none")).replace(*NO_DIGEST_IN_CHECK)).encode(), b"", None)),
-    ("info --skip-refused a b", prints(TWO)), ("info --json --skip-refused cut a", (1, (LEFT_OUT_JSON % 1 + INFO_ONE_JSON).encode(), b"", None)),
-    ("report --skip-refused a cut b", (1, f"left out 2 offset 60 rule 3 cut\n{TWO}total packets 2 bytes 8 truncated 0\n{frames(short=2)}".encode(), b"", None)),
-    ("report --ipv6 six", prints(SIX_TEXT)), ("report --json six --ipv6", prints(SIX_JSON)), ("report six", prints(SIX_UNREAD)),
+    ("info --skip-refused a b", prints(TWO)), ("info --json --skip-refused cut a", (1,
+        (LEFT_OUT_JSON % 1 + INFO_ONE_JSON).encode(), b"", None)),
+    ("report --skip-refused a cut b", (1,
+                                       f"left out 2 offset 60 rule 3 cut\n{TWO}total packets 2 bytes 8 truncated 0\n{frames(short=2)}".encode(), b"", None)),
+    ("report --ipv6 six", prints(SIX_TEXT)), ("report --json six --ipv6", prints(SIX_JSON)),
+    ("report six", prints(SIX_UNREAD)),
     ("report --ipv6 --skip-refused cut six", (1, b"left out 1 offset 60 rule 3 cut\n" + SIX_TEXT.encode(), b"", None)),
     ("report --top=1 --ipv6 six", prints(f"{SIX_TEXT.partition('talk ')[0]}talk {SIX_TALKS[2]}\n")),
     ("report --ipv6 --time utc six", prints(re.sub(r"(\d)\+0/1000000", r"1970-01-01T00:00:0\1.000000Z", SIX_TEXT))),
     ("report --ipv6 a", prints(f"files 1\n{TOLD.format(1)}total packets 1 bytes 4 truncated 0\n{frames_6(short=1)}")),
-    ("list --class --ipv6 --json --data 0 six", prints(SIX_CLASSES_JSON)), ("list --ipv6 --class a", prints(f"{listed(1, 60)[:-1]} class short\n")),
+    ("list --class --ipv6 --json --data 0 six", prints(SIX_CLASSES_JSON)),
+    ("list --ipv6 --class a", prints(f"{listed(1, 60)[:-1]} class short\n")),
     ("report --skip-refused --allow-cut cut", prints(f"{TOLD_CUT}total packets 0 bytes 0 truncated 0\n{frames()}")),
     ("info --skip-refused cut", (1, b"left out 1 offset 60 rule 3 cut\n", b"", None)), ("info --skip-refused -", INPUT),
     ("info --skip-refused cut none", (1, b"", b"fault: open file 2\n", None)), ("report --skip-refused a -", INPUT),
-    ("info --skip-refused --explain cut none a", (1, b"", b"fault: open file 2\n  none: No such file or directory (os error 2)\n", None)),
-    ("info --explain --skip-refused --allow-cut none", (1, b"", b"fault: open file 1\n  none: No such file or directory (os error 2)\n", None)),
+    ("info --skip-refused --explain cut none a", (1, b"",
+                                                  b"fault: open file 2\n  none: No such file or directory (os error 2)\n", None)),
+    ("info --explain --skip-refused --allow-cut none", (1, b"",
+                                                        b"fault: open file 1\n  none: No such file or directory (os error 2)\n", None)),
     ("info --allow-cut --explain --skip-refused moved empty cut a",
      (1, TOLD_SKIPPED.encode(), b"cut: file 3 offset 60, 35 bytes dropped\n", None)),
     ("report a b", prints(f"{TWO}total packets 2 bytes 8 truncated 0\n{frames(short=2)}")), ("report - -", INPUT),
@@ -1255,8 +1363,10 @@ LINES = [
     ("merge --to pcap -o c a", writes(CARRIED)), ("merge --to=pcap --order big -o - -", gives(CARRIED_BIG)),
     ("merge --share-interfaces -o c a b -", writes(SHARED)), ("merge --to=pcapng -o c a b - --share-interfaces", writes(SHARED)),
     ("merge -o c --to pcapng a b -", writes(THRICE)), ("merge --whole --to pcap -o c a", writes(CARRIED)),
-    ("convert --to pcap --unit nano -o c a", writes(CARRIED_NANO)), ("convert --unit=micro --to pcap -o - -", gives(CARRIED)),
-    ("merge --unit nano --to pcap -o c a", writes(CARRIED_NANO)), ("merge --to=pcap --unit=micro -o c a", writes(CARRIED)),
+    ("convert --to pcap --unit nano -o c a", writes(CARRIED_NANO)),
+    ("convert --unit=micro --to pcap -o - -", gives(CARRIED)),
+    ("merge --unit nano --to pcap -o c a", writes(CARRIED_NANO)),
+    ("merge --to=pcap --unit=micro -o c a", writes(CARRIED)),
     ("join --to pcap --unit nano -o c a b", (1, b"", f"refused: {NO_PACKET}\n".encode(), b"")),
     ("join --to pcap -o c a b", (1, b"", f"refused: {NO_PACKET}\n".encode(), b"")), ("join --to pcapng -o c --order=big a b", writes(SECTION_BIG)),
     ("merge -o c - -", INPUT), ("merge -o a a b", OUTPUT), ("merge -o a a - -", INPUT), (f"merge -o a a - - {'a ' * 30}", FILES),
@@ -1301,13 +1411,17 @@ LINES = [
         "merge --to pcap --to pcap -o c a", "report --to pcap a", "merge --share-interfaces --to pcap -o c a",
         "merge --share-interfaces=yes -o c a", "merge --share-interfaces --share-interfaces -o c a", "join --share-interfaces -o c a",
         "convert --share-interfaces --to pcapng -o c a",
-        "convert --to pcapng --unit nano -o c a", "merge --unit micro -o c a", "merge --to pcapng --unit micro -o c a", "join --unit nano -o c a",
-        "convert --to pcap --unit milli -o c a", "convert --to pcap --unit -o c a", "convert --to pcap --unit= -o c a", "report --unit nano a",
+        "convert --to pcapng --unit nano -o c a", "merge --unit micro -o c a", "merge --to pcapng --unit micro -o c a",
+        "join --unit nano -o c a",
+        "convert --to pcap --unit milli -o c a", "convert --to pcap --unit -o c a", "convert --to pcap --unit= -o c a",
+        "report --unit nano a",
         "convert --to pcap --unit nano --unit nano -o c a", "merge --to pcap --unit NANO -o c a", "list --unit micro a",
         "list --data 4 a", "list --data 4 --allow-cut a", "list --json --data", "list --json --data= a", "list --json --data +4 a",
         "list --json --data 4.0 a", "list --json --data -4 a", "list --json --data 262145 a", "list --json --data 4 --data 4 a",
-        "report --ipv6", "report --ipv6=yes a", "report --ipv6 --ipv6 a", "list --ipv6 a", "list --json --ipv6 a", "list --class --ipv6",
-        "list --class --ipv6 --ipv6 a", "info --ipv6 a", "blocks --ipv6 a", "check --ipv6 a", "digest --ipv6 a", "diff --ipv6 a b",
+        "report --ipv6", "report --ipv6=yes a", "report --ipv6 --ipv6 a", "list --ipv6 a", "list --json --ipv6 a",
+        "list --class --ipv6",
+        "list --class --ipv6 --ipv6 a", "info --ipv6 a", "blocks --ipv6 a", "check --ipv6 a", "digest --ipv6 a",
+        "diff --ipv6 a b",
         "convert --ipv6 --to pcap -o c a", "merge --ipv6 -o c a", "join --ipv6 -o c a",
         "list --class", "list --class=yes a", "list --class --class a", "blocks --class a", "report --class a", "merge --class -o c a",
         "list --json --json a", "list --json=yes a", "blocks --json --data 4 a", "digest --json --data 4 a", "check --json --data 4 a",
@@ -1315,11 +1429,15 @@ LINES = [
         "report --json --data 4 a", "report --top 0 a", "report --top 00 a", "report --top a", "report --top", "report --top= a", "report --top +1 a",
         "report --top -1 a", "report --top 1.0 a", "report --top 4294967296 a", "report --top 1 --top 1 a", "report --top=x a", "info --top 1 a",
         "list --top 1 a", "check --top 1 a", "merge --top 1 -o c a",
-        "list --time", "list --time a", "list --time= a", "list --time local a", "list --time UTC a", "list --time utc --time utc a",
-        "info --time exact,utc a", "report --time 0 a", "check --time iso a", "diff --time rfc3339 a b", "blocks --time utc a",
-        "digest --time utc a", "convert --time utc --to pcap -o c a", "merge --time utc -o c a", "join --time utc -o c a",
+        "list --time", "list --time a", "list --time= a", "list --time local a", "list --time UTC a",
+        "list --time utc --time utc a",
+        "info --time exact,utc a", "report --time 0 a", "check --time iso a", "diff --time rfc3339 a b",
+        "blocks --time utc a",
+        "digest --time utc a", "convert --time utc --to pcap -o c a", "merge --time utc -o c a",
+        "join --time utc -o c a",
         "list --skip-refused a", "check --skip-refused a",
-        "merge --skip-refused -o c a", "info --skip-refused=yes a", "info --skip-refused --skip-refused a", "report --skip-refused",
+        "merge --skip-refused -o c a", "info --skip-refused=yes a", "info --skip-refused --skip-refused a",
+        "report --skip-refused",
         "convert --json --to pcap -o c a", "merge --json -o c a", "join --json -o c a")),
 ]
 
@@ -1350,15 +1468,18 @@ def is_json(count, bench, contents, tasks=None):
 def is_read(count, bench, shim, task, contents, text="", classes=None):
     """Holds a task, by the program and by the model, to what it says of each packet, or to the end of a report."""
     name, contents = f"{task} of {contents[0][:200]}", [bytes.fromhex(content) for content in contents]
-    answers = [(name, bench.run(task, contents)[:3]), (f"{name}, by one byte", bench.run(task, contents, faults=(shim, {"PIECE": 1}))[:3]),
+    answers = [(name, bench.run(task, contents)[:3]), (f"{name}, by one byte", bench.run(task, contents, faults=(shim,
+        {"PIECE": 1}))[:3]),
                (f"the model's {name}", wanted_of(task, contents))]
     for name, (status, out, error) in answers:
         out, is_so = out.decode(), (status, error) == (0, b"")
         if classes is None:
-            count.check(name, is_so and out.endswith(text), f"wanted {text[-600:]!r}\n  saw {status} {out[-600:]!r} {error}")
+            count.check(name, is_so and out.endswith(text),
+                        f"wanted {text[-600:]!r}\n  saw {status} {out[-600:]!r} {error}")
         else:
             told = [line.partition(" class ")[2] for line in out.splitlines()]
-            other = [(n, want, seen) for n, (want, seen) in enumerate(itertools.zip_longest(classes, told), 1) if want != seen]
+            other = [(n, want, seen) for n, (want, seen) in enumerate(itertools.zip_longest(classes, told), 1)
+                     if want != seen]
             count.check(name, is_so and not other, status, error, other[:5])
 
 
@@ -1372,29 +1493,35 @@ def all_ipv6(count, bench, shim):
     for contents, text in TOGETHER_6:
         is_read(count, bench, shim, "report-ipv6", contents, text)
     for contents in ([READ_6[len(SIXES)][0]], [MIXED], [SIX], TOGETHER_6[0][0]):
-        is_json(count, bench, [bytes.fromhex(content) for content in contents], ("report-ipv6", "classed-ipv6", "top-ipv6", "report-skipping-ipv6"))
-    # a capture of IPv4 alone has the report that it has without the word, but for the name of a class; two of these have the type or the first four bits
+        is_json(count, bench, [bytes.fromhex(content) for content in contents],
+                ("report-ipv6", "classed-ipv6", "top-ipv6", "report-skipping-ipv6"))
+    # a capture of IPv4 alone has the report that it has without the word, but for the name of a class; two of these
+    # have the type or the first four bits
     # of IPv6, and no header of it
     for content, text in REPORTED:
         text = frames_6(bad=1) if " not-ipv4 1 " in text else text.replace(" not-ipv4 0 ", " not-ip 0 ")
         is_read(count, bench, shim, "report-ipv6", [content], text)
     for content, told in DESCRIBED:
-        is_read(count, bench, shim, "classed-ipv6", [content], classes=["bad reason header-short" if it == "not-ipv4" else it for it in told])
+        is_read(count, bench, shim, "classed-ipv6", [content],
+                classes=["bad reason header-short" if it == "not-ipv4" else it for it in told])
     # without the word IPv6 is a network that isn't read, and 229 a link type that isn't
     is_read(count, bench, shim, "classed", [READ_6[len(SIXES)][0]], classes=["other-link"] * len(SIXES))
     of_ipv4 = [MIXED_TALKS[1], MIXED_TALKS[5]]
-    told = [f"counted {talk.partition(' forward ')[0]}" if talk in of_ipv4 else "not-ipv4" for talk in (MIXED_TALKS[place] for place in COUNTED_6)]
+    told = [f"counted {talk.partition(' forward ')[0]}" if talk in of_ipv4 else "not-ipv4"
+            for talk in (MIXED_TALKS[place] for place in COUNTED_6)]
     is_read(count, bench, shim, "classed", [MIXED], classes=told)
     is_read(count, bench, shim, "report", [MIXED], frames(not_ipv4=13, counted=2, talks=of_ipv4))
     name = bench.name(bytes.fromhex(MIXED))
     for most in range(1, 6):
         seen = run(["report", "--top", str(most), "--ipv6", name], program)
-        text = frames_6(counted=15, talks=MIXED_TALKS).partition("talk ")[0] + "".join(f"talk {talk}\n" for talk in TOP_6[:most])
+        text = frames_6(counted=15, talks=MIXED_TALKS).partition("talk ")[0] + "".join(f"talk {talk}\n"
+            for talk in TOP_6[:most])
         count.check(f"report --top {most} --ipv6", seen[0::2] == (0, b"") and seen[1].decode().endswith(text), seen)
     pairs = some_addresses(2_000)
     packets = [six(59, ends=f"{lesser.packed.hex()} {greater.packed.hex()}") for lesser, greater in pairs]
     content = bytes.fromhex(of_link(101, *(at(1, packet) for packet in packets)))
-    for name, out in (("capt", run(["report", "--ipv6", bench.name(content)], program)[1].decode()), ("the model", model.answer("report-ipv6", [content])[0])):
+    for name, out in (("capt", run(["report", "--ipv6", bench.name(content)], program)[1].decode()),
+                      ("the model", model.answer("report-ipv6", [content])[0])):
         seen = [tuple(line.split()[2:4]) for line in out.splitlines() if line.startswith("talk ")]
         wanted = [(lesser.compressed, greater.compressed) for lesser, greater in pairs]
         other = [(want, printed) for want, printed in itertools.zip_longest(wanted, seen) if want != printed]
@@ -1412,13 +1539,16 @@ def is_timed(count, bench, content, forms):
             wanted = re.sub(rf"(?<= )(time|first|last) {re.escape(usual)}(?= |\n)", rf"\1 {time}", shown[1].decode())
             count.check(f"{words} --time {times} of {usual}", seen == (shown[0], wanted.encode(), shown[2]), seen)
             count.check(f"{words} has {usual}", words[0] == "diff" or usual in shown[1].decode(), shown)
-        found = [json.loads(line) for line in run(["list", "--json", "--time", times, name], bench.program)[1].splitlines()]
-        exact = [int(word) for word in re.split(r"[+/]", time)] if times == "exact" and time != "-" else None if time == "-" else time
+        found = [json.loads(line) for line in run(["list", "--json", "--time", times, name],
+                                                  bench.program)[1].splitlines()]
+        exact = [int(word) for word in re.split(r"[+/]",
+                                                time)] if times == "exact" and time != "-" else None if time == "-" else time
         count.check(f"list --json --time {times} of {usual}", [it["time"] for it in found] == [exact], found)
     other = bench.name(content[:-8] + bytes([content[-8] ^ 1]) + content[-7:])
     for times, time in forms.items():
         seen = run(["diff", "--time", times, name, other], bench.program)
-        count.check(f"diff --time {times} of {usual}", seen[0] == 3 and seen[1].decode().count(f" time {time} ") == 2, seen)
+        count.check(f"diff --time {times} of {usual}", seen[0] == 3 and seen[1].decode().count(f" time {time} ") == 2,
+                    seen)
 
 
 def seen_of(folder, program, words):
@@ -1473,11 +1603,13 @@ def main():
             holds(content, "info", [content], False, lambda *seen: seen == (0, f"files 1\n{text}".encode(), b""))
         for contents, allow_cut, text in KEPT:
             status = 1 if text.startswith("left out ") else 0
-            holds([content[:200] for content in contents], "info-skipping", contents, allow_cut, lambda *seen: seen == (status, text.encode(), b""))
+            holds([content[:200] for content in contents], "info-skipping", contents, allow_cut,
+                  lambda *seen: seen == (status, text.encode(), b""))
             told = wanted_of("info-skipping", [bytes.fromhex(content) for content in contents], allow_cut)
             count.check("the model's info --skip-refused", told == (status, text.encode(), b""), told)
         for content, text in REPORTED:
-            holds(f"a cut file and {content[:200]}", "report-skipping", [CUT, content], False, lambda status, out, error: (status, error) == (1, b"")
+            holds(f"a cut file and {content[:200]}", "report-skipping", [CUT, content], False, lambda status, out,
+                  error: (status, error) == (1, b"")
                   and out.startswith(b"left out 1 offset 24 rule 3 cut\nfiles 1\n") and out.endswith(text.encode()))
         for contents, texts, packets in DIGESTED:
             wanted = digests(texts, packets).encode()

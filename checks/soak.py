@@ -8,16 +8,20 @@ from collections import Counter
 from concurrent.futures import ProcessPoolExecutor
 
 import model
-from captures import (ENDS_6, PROGRAM, VECTORS, WRITING, Bench, datagram, extension, fragment_header, ipv6, make_shim, run, udp,
+from captures import (ENDS_6, PROGRAM, VECTORS, WRITING, Bench, datagram, extension, fragment_header, ipv6, make_shim,
+                      run, udp,
                       vector, wanted_of, words_of)
 
 IN_UNITS = ["pcap-micro", "pcap-nano", "merge-micro", "merge-nano", "join-micro", "join-nano"]
 OF_IPV6 = ["report-ipv6", "top-ipv6", "report-skipping-ipv6", "classed-ipv6"]
-TASKS = ["list", "classed", "blocks", "diff", "info", "report", "top", "info-skipping", "report-skipping", *OF_IPV6, "digest", "check", "check-digest",
+TASKS = ["list", "classed", "blocks", "diff", "info", "report", "top", "info-skipping", "report-skipping", *OF_IPV6,
+         "digest", "check", "check-digest",
          "merge", "join", "pcap", "pcapng", "merge-shared", "merge-pcap", "join-pcap", *IN_UNITS]
-MANY = ("info", "report", "top", "info-skipping", "report-skipping", *OF_IPV6[:3], "digest", "check", "check-digest", "merge", "join", "merge-shared",
+MANY = ("info", "report", "top", "info-skipping", "report-skipping", *OF_IPV6[:3], "digest", "check", "check-digest",
+        "merge", "join", "merge-shared",
         "merge-pcap", "join-pcap", *IN_UNITS[2:])
-TIMED = ("list", "classed", "diff", "info", "report", "top", "info-skipping", "report-skipping", *OF_IPV6, "check", "check-digest")
+TIMED = ("list", "classed", "diff", "info", "report", "top", "info-skipping", "report-skipping", *OF_IPV6, "check",
+         "check-digest")
 NUMBERS = [0, 1, 2, 3, 4, 28, 32, 262_144, 262_145, 524_288, 524_292, 2**31, 2**32 - 4, 2**32 - 1]
 LINE = re.compile(rb"refused: file \d+ offset \d+ rule \d+ [a-z-]+\n|fault: (read file \d+ offset \d+|write|memory|open file \d+|create output)\n|")
 MOST_MEMORY = 16 * 1024     # KiB
@@ -25,7 +29,8 @@ MOST_MEMORY = 16 * 1024     # KiB
 
 def payload(rng):
     """The data of a datagram: mostly of UDP or TCP with few ports."""
-    return rng.choice([udp((rng.randrange(3), rng.randrange(3)), bytes(rng.randrange(30))), rng.randbytes(rng.randrange(60)),
+    return rng.choice([udp((rng.randrange(3), rng.randrange(3)), bytes(rng.randrange(30))),
+                       rng.randbytes(rng.randrange(60)),
                        struct.pack(">HHIIBBHHH", 1, 2, 3, 4, 0x50, 0, 0, 0, 0), b""])
 
 
@@ -36,7 +41,8 @@ def some_ipv6(rng):
         # the last header is the first that is made
         number = rng.choice([0, 43, 60, 135, 139, 140, 44, 44, 51])
         if number == 44:
-            start, more = rng.choice([(0, False), (0, True), (8 * rng.randrange(4), True), (8 * rng.randrange(4), False), (65_528, False)])
+            start, more = rng.choice([(0, False), (0, True), (8 * rng.randrange(4), True),
+                                      (8 * rng.randrange(4), False), (65_528, False)])
             header = fragment_header(kind, start, more, rng.randrange(3))
         else:
             size = 4 * rng.randrange(2, 6) if number == 51 else 8 * rng.randrange(1, 4)
@@ -45,7 +51,8 @@ def some_ipv6(rng):
     if data and rng.random() < 0.15:
         place = rng.choice([rng.randrange(len(data)), min(1, len(data) - 1)])
         data = data[:place] + rng.randbytes(1) + data[place + 1:]
-    addresses = [*ENDS_6, 0x0A000001, 0x0A000002, rng.choice([0, 1, 0xFFFF_0A000001, 1 << 127, rng.getrandbits(128) & rng.getrandbits(128)])]
+    addresses = [*ENDS_6, 0x0A000001, 0x0A000002, rng.choice([0, 1, 0xFFFF_0A000001, 1 << 127,
+        rng.getrandbits(128) & rng.getrandbits(128)])]
     length = len(data) + rng.choice([0] * 12 + [1, -1, -8, 8, 1_000, -len(data)])
     return ipv6(data, kind, (rng.choice(addresses), rng.choice(addresses)), min(max(length, 0), 65_535))
 
@@ -145,7 +152,8 @@ def some_large(rng):
     kind = rng.randrange(6)
     if kind == 5:
         headers = extension(60) * (8_189 - rng.choice([0, 0, 1, 190])) + extension(44)
-        return head + records([ipv6(headers + fragment_header(17, 8 * rng.randrange(2), near > 0) + bytes(6 + near), 60), ipv6(udp((1, 2)))])
+        return head + records([ipv6(headers + fragment_header(17, 8 * rng.randrange(2), near > 0) + bytes(6 + near),
+                                    60), ipv6(udp((1, 2)))])
     if kind == 0:
         return head + records([rng.randbytes(262_144 + near), b"\1"])
     if kind == 1:

@@ -35,7 +35,8 @@ ROOTS = {
         "cap_merge.Files.clocked_run", "cap_merge.Files.endings_of_files", TELLS,
     ],
     "report --ipv6": [
-        "cap_talks.talks.ReportText.report_for", "cap_talks.talks.ReportText.report_refusal_for", "cap_merge.Files.clocked_run",
+        "cap_talks.talks.ReportText.report_for", "cap_talks.talks.ReportText.report_refusal_for",
+        "cap_merge.Files.clocked_run",
         "cap_merge.Files.endings_of_files", TELLS,
     ],
     "digest": ["cap_tool.CheckedNames.ChecksNames"],

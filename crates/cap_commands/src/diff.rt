@@ -21,7 +21,7 @@ ghost use Rattle.cap_commands.specs.inner.DiffWalk.{given, known_packet, parted}
 ghost use Rattle.cap_commands.specs.Left.{done_of};
 ghost use Rattle.cap_talks.specs.talks.Telling.{Tells};
 
-use crate::diff_lines::{differ_line, end_line, no_packet_line, same_line, side_head};
+use crate::diff_lines::{differ_line, end_line, no_packet_line, row_start, same_line, side_head};
 use crate::lines::{Behind, MOST_SHOWN, write_side};
 use crate::list::put_long_packet;
 use cap_bytes::{CutRest, Fault, Sink, Source, Tail, put_all};
@@ -408,16 +408,6 @@ fn data_place<F: PacketFeed>(divergence: &Divergence, first: &F, second: &F) -> 
             None => None,
             Some(_) => place_of(first.frame(), second.frame()),
         },
-    }
-}
-
-// The first byte of the row in which a place is.
-fn row_start(place: Option<usize>) -> usize
-    ensures { result ≡ row_start place }
-{
-    match place {
-        None => 0,
-        Some(place) => place / 16 * 16,
     }
 }
 

@@ -4,7 +4,7 @@ ghost use Rattle.std.specs.Prelude.{◌≡◌, ◌+◌, ◌≤◌, ◌++◌, ◌
 ghost use Rattle.cap_print.specs.Lines.{room_in, text_in};
 ghost use Rattle.cap_print.specs.declared.forms.Form.TheVariants.{Json, Text};
 ghost use Rattle.cap_commands.specs.DiffText.{before_side, cut_fact, data_place_in, difference_line, from_json};
-ghost use Rattle.cap_commands.specs.DiffText.{no_side, same_line};
+ghost use Rattle.cap_commands.specs.DiffText.{no_side, row_start, same_line};
 ghost use Rattle.cap_commands.specs.DiffText.{words_of};
 ghost use Rattle.cap_commands.specs.inner.DiffWords.{quoted_if};
 
@@ -157,6 +157,16 @@ pub(crate) fn no_packet_line(form: Form, cut: bool) -> Line
         Form::Json(_) => b"null",
     });
     line
+}
+
+/// The first byte of the row of 16 bytes that a place is in; 0 without a place.
+pub(crate) fn row_start(place: Option<usize>) -> usize
+    ensures { result ≡ row_start place }
+{
+    match place {
+        None => 0,
+        Some(place) => place / 16 * 16,
+    }
 }
 
 // Puts in JSON from which byte on a packet's bytes are shown, if that isn't the first.

@@ -7,8 +7,8 @@ ghost use Rattle.cap_line.specs.Command.{IsIgnoreRule, IsJoin, IsListing, IsMerg
 ghost use Rattle.cap_line.specs.Command.{IsRequiredToRule, IsTimeRule, IsTimed, IsToRule, IsUnitRule, IsWriting};
 ghost use Rattle.cap_line.specs.Command.{blocks_app, capt_alone, check_app, choice_rule, timing_app};
 ghost use Rattle.cap_line.specs.Command.{cutting_app, data_rule, digest_app, file_rule, files_rule, flag_rule};
-ghost use Rattle.cap_line.specs.Command.{info_app, list_app, list_rule, listed_rule, option_rule};
-ghost use Rattle.cap_line.specs.Command.{out_rule, reading_app, report_app, required_rule, showing_app, skipping_app};
+ghost use Rattle.cap_line.specs.Command.{info_app, list_app, list_rule, listed_rule, option_rule, out_rule};
+ghost use Rattle.cap_line.specs.Command.{reading_app, report_app, required_rule, showing_app, skipping_app};
 ghost use Rattle.cap_line.specs.Command.{surveying_app, top_rule, verify_rule};
 
 use crate::texts;
@@ -16,17 +16,15 @@ use crate::usage::USAGE;
 use clap::{Arg, ArgAction, Command};
 use std::alloc::{AllocError, Global};
 
-// The names of the orders, and of the formats.
+// The words that an option takes: orders, formats, forms of times, units of time, and what can be ignored.
 static ORDERS: [&str; 2] = ["big", "little"];
 
 static FORMATS: [&str; 2] = ["pcap", "pcapng"];
 
-// The names of the forms of times.
 static TIMES: [&str; 3] = ["exact", "decimal", "utc"];
-// The names of the units of time.
+
 static UNITS: [&str; 2] = ["micro", "nano"];
 
-// The names of what can be ignored.
 static KINDS: [&str; 3] = ["time", "link", "original"];
 
 // The flag of that name
@@ -375,8 +373,7 @@ fn timing<'a>(
     with_argument(showing(alloc, name, about, help), time(alloc))
 }
 
-// A subcommand with `[--allow-cut] [--explain] [--order ORDER] [--unit UNIT] -o OUT [--whole]`, before its other
-// arguments
+// A subcommand with `.. [--order ORDER] [--unit UNIT] -o OUT [--whole]`, before its other arguments
 fn writing<'a>(
     alloc: Global,
     name: &'a str,
@@ -429,8 +426,7 @@ fn diff<'a>(alloc: Global) -> Result<Command<'a>, AllocError>
     )
 }
 
-// A command that takes any number of captures, with `[--names] [--files0-from LIST] [FILE..]` behind its other
-// arguments
+// A command that takes any number of captures, with `.. [--names] [--files0-from LIST] [FILE..]`
 fn surveying<'a>(
     alloc: Global,
     before: Result<Command<'a>, AllocError>,

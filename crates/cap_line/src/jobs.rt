@@ -346,8 +346,8 @@ pub fn can_show(task: Task, json: bool, count: Option<u32>) -> bool
     }
 }
 
-/// Whether a task can read IPv6 packets, if that is asked for: `list` looks into no packet unless it is to say of which
-/// class each is. No other task but `report` is asked for it.
+/// Whether a task can read IPv6 packets, if that is asked for: `list` looks into packets only to name their classes. No
+/// other task but `report` is asked for it.
 pub fn can_read_ipv6(task: Task, class: bool, ipv6: bool) -> bool
     ensures { result ≡ can_read_ipv6 task class ipv6 }
 {

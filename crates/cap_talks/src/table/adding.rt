@@ -13,7 +13,7 @@ ghost use Rattle.cap_talks.specs.table.CountedUnits.{ipv6_unit, listed, whole_un
 
 use crate::table::conversations::{Conversations, ConversationsFault};
 use crate::table::ipv4_units::{Ipv4End, Ipv4Ends, Ipv4Unit};
-use crate::table::units::{Address, CountedUnit, ends_of, ports_of, timed_frame};
+use crate::table::units::{Address, CountedUnit, ends_of, ports_seen, timed_frame};
 use cap_ip::{Header, Transport, transport};
 use cap_ipv6::Ipv6Packet;
 use cap_join::{Datagram, Stamped};
@@ -30,7 +30,7 @@ pub(crate) fn whole_unit(
     ensures { option_map unit_of_ipv4 result ≡ whole_unit header.now captured.now stamped }
 {
     let key = header.key();
-    let (source, destination) = ports_of(seen)?;
+    let (source, destination) = ports_seen(seen)?;
     let ends = Ipv4Ends {
         protocol: key.protocol,
         source: Ipv4End {

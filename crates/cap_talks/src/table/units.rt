@@ -2,7 +2,7 @@
 ghost use Rattle.std.specs.Prelude.{◌≡◌};
 ghost use Rattle.std.specs.Option.{option_cmp};
 ghost use Rattle.std.specs.Ordering.{is_gt, nat_cmp};
-ghost use Rattle.cap_talks.specs.inner.table.Ipv4Units.{ports_of};
+ghost use Rattle.cap_talks.specs.inner.table.Ipv4Units.{ports_seen};
 ghost use Rattle.cap_talks.specs.inner.table.Packed.{IsNarrowAddress};
 ghost use Rattle.cap_talks.specs.table.CountedUnits.{timed_frame};
 ghost use Rattle.cap_talks.specs.table.Units.{end_cmp, ends_of, number_of, version_of};
@@ -86,8 +86,8 @@ pub(crate) fn is_greater(a: &Endpoint, b: &Endpoint) -> bool
 
 /// The ports of a datagram whose transport was read, that of its source first; `None` if that is bad or cut.
 #[inline(always)]
-pub(crate) fn ports_of(transport: Transport) -> Option<(Option<u16>, Option<u16>)>
-    ensures { result ≡ ports_of transport }
+pub(crate) fn ports_seen(transport: Transport) -> Option<(Option<u16>, Option<u16>)>
+    ensures { result ≡ ports_seen transport }
 {
     match transport {
         Transport::Ports(source, destination) => Some((Some(source), Some(destination))),
@@ -106,7 +106,7 @@ pub fn ends_of(
 ) -> Option<(Endpoint, Endpoint)>
     ensures { result ≡ ends_of source destination transport }
 {
-    let (source_port, destination_port) = ports_of(transport)?;
+    let (source_port, destination_port) = ports_seen(transport)?;
     Some((
         Endpoint {
             address: source,

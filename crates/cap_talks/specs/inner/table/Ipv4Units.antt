@@ -39,8 +39,8 @@ frame_delta forward frame =
     }
 
 -- the ports of a datagram, that of its source first, by what its data says of them
-abbrev pub ports_of : Transport → Option (Option ℕ × Option ℕ)
-ports_of (Ports from to) = Some (Some from, Some to)
-ports_of NoPorts = Some (None, None)
-ports_of Bad = None
-ports_of Cut = None
+abbrev pub ports_seen : Transport → Option (Option ℕ × Option ℕ)
+ports_seen (Ports from to) = Some (Some from, Some to)
+ports_seen NoPorts = Some (None, None)
+ports_seen Bad = None
+ports_seen Cut = None
