@@ -28,6 +28,7 @@ mod NeverCut
 mod OneFile
 mod PcapWritten
 mod Rounds
+mod RowTimes
 mod Rules
 mod SameRun
 mod SkippedFiles

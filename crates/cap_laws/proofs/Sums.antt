@@ -1,10 +1,9 @@
--- Of packets that are no fragments, the report is a sum over the packets, and so over the files.
+-- Of packets that are no IPv4 fragments, the report is a sum over the packets, and so over the files, whether it reads
+-- IPv6 packets or not.
 use Rattle.std.proofs.Common.{◌≡◌, ◌+◌, ◌++◌, ℕ, List, [], ◌∷◌, map, Bool, true, false, Option, Some, None, refl, sym}
 use Rattle.std.proofs.Common.{ap}
 use Rattle.std.proofs.Common.{◌∙◌, arith, filter, length, option_map}
 use Rattle.std.specs.Prelude.{if◌then◌else◌, not, ◌&&◌, ◌||◌, ◌==◌}
-use Rattle.std.specs.Ordering.{is_gt, is_lt, nat_cmp, ordering_then}
-use Rattle.std.specs.declared.cmp.Ordering.{Ordering}
 use Rattle.std.specs.List.{list_any, sum_by}
 use Rattle.std.proofs.lemmas.List.Elements.{filter-append}
 use Rattle.std.proofs.lemmas.List.Sums.{sum_by-cons}
@@ -17,12 +16,15 @@ use Rattle.cap_ip.specs.Header.{HeaderFields}
 use Rattle.cap_ip.specs.Read.{Reading, bad, cut, found, read_of}
 use Rattle.cap_ip.specs.Transport.{transport_of}
 use Rattle.cap_ip.specs.declared.headers.Fragment.{Fragment}
+use Rattle.cap_ipv6.specs.Read as ipv6
 use Rattle.cap_join.specs.Completed.{completed_pieces_at}
 use Rattle.cap_join.specs.History.{Event}
 use Rattle.cap_join.specs.Places.{marks, times_given_up}
-use Rattle.cap_laws.specs.InOrder.{classes_at, groups_at, marks_of, unit_after, unit_by_places, units_at}
+use Rattle.cap_laws.specs.InOrder.{classes_at, groups_at, marks_of, unit_after, unit_after_for, unit_by_places}
+use Rattle.cap_laws.specs.InOrder.{units_at}
 use Rattle.cap_join.specs.Joiners.{open_limit}
 use Rattle.cap_join.specs.declared.datagrams.Stamped.{Stamped}
+use Rattle.cap_laws.proofs.RowTimes.{greatest-from, least-by}
 use Rattle.cap_laws.proofs.Totals.{IsSum, adds_up, totals-law}
 use Rattle.cap_laws.specs.Sums.{LoneClasses, ReportSums, is_by, is_from, is_part, parts_among}
 use Rattle.cap_laws.specs.Sums.{row_among}
@@ -36,28 +38,23 @@ use Rattle.cap_source.specs.Feed.{Item, packet, refused, refusal_of}
 use Rattle.cap_source.specs.declared.packets.Meta.{Meta}
 use Rattle.cap_talks.specs.declared.table.rows.TalkKey.{TalkKey}
 use Rattle.cap_talks.specs.declared.table.rows.TalkRow.{TalkRow}
-use Rattle.cap_talks.specs.declared.table.units.Address.TheVariants.{Ipv4}
+use Rattle.cap_talks.specs.declared.table.units.Address.TheVariants.{Ipv4, Ipv6}
 use Rattle.cap_talks.specs.declared.table.units.CountedUnit.{CountedUnit}
 use Rattle.cap_talks.specs.declared.table.units.Endpoint.{Endpoint}
-use Rattle.cap_talks.specs.declared.table.units.TimedFrame.{TimedFrame}
-use Rattle.cap_talks.specs.table.CountedUnits.{counted_in, listed, timed_frame, unit_of, whole_unit}
+use Rattle.cap_talks.specs.table.CountedUnits.{counted_in, listed, timed_frame, unit_of, unit_seen, whole_unit}
 use Rattle.cap_class.specs.Counting.{is_class, times}
 use Rattle.cap_class.specs.Classes.{class_by, classes_in, lone_class}
-use Rattle.cap_talks.specs.table.Conversations.{by_time, by_time_down, earlier_frame, frame_time, frames_of}
-use Rattle.cap_talks.specs.table.Conversations.{greatest_frame}
-use Rattle.cap_talks.specs.table.Conversations.{is_forward, later_frame, least_frame, same_talk, talk_key}
-use Rattle.cap_talks.specs.table.Conversations.{units_bytes}
+use Rattle.cap_class.specs.Ipv6.{class_seen, classes_seen, ipv6_read, lone_class_for}
+use Rattle.cap_talks.specs.table.Conversations.{frame_time, frames_of, is_forward, same_talk, talk_key, units_bytes}
 use Rattle.cap_talks.specs.table.Conversations.{units_of_talk}
 use Rattle.cap_talks.specs.table.Units.{ends_of}
-use Rattle.cap_time.proofs.StampForms.{stamp_upto_trans, stamp_upto_turned}
-use Rattle.cap_time.specs.Stamp.{stamp_cmp}
 use Rattle.cap_time.specs.declared.stamps.Stamp.{Stamp}
 use Rattle.cap_source.specs.Times.{meta_time}
 use Rattle.cap_class.specs.Runs.{taken_after, with_item}
 
--- ---- what holds of packets that are no fragments
+-- ---- what holds of packets that are no IPv4 fragments
 
--- what each of some packets adds, if it is no fragment, and the sum
+-- what each of some packets adds, if it is no IPv4 fragment, and the sum
 pub record IsSumOf (count : List Taken → ℕ) (adds : Item → ℕ) : Type 0 where
   pub sum : List Taken → ℕ
   pub is : IsSum sum adds
@@ -105,6 +102,10 @@ of_files count adds it tail files none lone =
 
 -- ---- classes
 
+-- the class of each packet alone
+lone_classes : Bool → List Taken → List Class
+lone_classes reads xs = map (λ x. lone_class_for reads x.meta x.frame) xs
+
 -- a packet's class without groups is the same at every place
 by-place : (o : Option Fragment) (h : HeaderFields) (captured : List ℕ) (s t : Stamped)
     → class_by [] (classify_by o h captured s) ≡ class_by [] (classify_by o h captured t)
@@ -131,25 +132,32 @@ lone-place n clock meta frame =
     carried-place (network_of meta.interface.link frame meta.original) (is_captured_whole frame meta.original)
     (stamped_of n meta) (stamped_of 0 meta)
 
-one_of_class : Class → Item → ℕ
-one_of_class c (packet meta frame) = if is_class c (lone_class meta frame) then 1 else 0
-one_of_class c (refused refusal) = 0
+lone-in : (xs : List Taken) → classes_in [] xs ≡ map (λ x. lone_class x.meta x.frame) xs
+lone-in [] = refl
+lone-in (x ∷ xs) = λ i. lone-place (length xs) x.clock x.meta x.frame i ∷ lone-in xs i
 
-class_step : (c : Class) (x : Clocked Item) (i : Item) (xs : List Taken)
-    → times c (classes_in [] (with_item x.clock i xs)) ≡ times c (classes_in [] xs) + one_of_class c i
-unfolding one_of_class
-class_step c x (packet meta frame) xs =
-    omega (
-      arith,
-      ap (λ k. (if is_class c k then 1 else 0) + times c (classes_in [] xs))
-          (lone-place (length xs) x.clock meta frame),
-    )
-class_step c x (refused refusal) xs = omega arith
+lone-seen : (xs : List Taken) → classes_seen [] xs ≡ lone_classes true xs
+unfolding lone_classes lone_class_for
+lone-seen [] = refl
+lone-seen (x ∷ xs) = λ i.
+    class_seen (ipv6_read x.meta x.frame) (lone-place (length xs) x.clock x.meta x.frame i) ∷ lone-seen xs i
 
-class_numbered : (c : Class) (file : ℕ) (x : Item) → one_of_class c (in_file file x) ≡ one_of_class c x
-unfolding one_of_class lone_class classify
-class_numbered c file (packet meta frame) = refl
-class_numbered c file (refused refusal) = refl
+one_of_class : Bool → Class → Item → ℕ
+one_of_class reads c (packet meta frame) = if is_class c (lone_class_for reads meta frame) then 1 else 0
+one_of_class reads c (refused refusal) = 0
+
+class_step : (reads : Bool) (c : Class) (x : Clocked Item) (i : Item) (xs : List Taken)
+    → times c (lone_classes reads (with_item x.clock i xs)) ≡ times c (lone_classes reads xs) + one_of_class reads c i
+unfolding lone_classes one_of_class
+class_step reads c x (packet meta frame) xs = omega arith
+class_step reads c x (refused refusal) xs = omega arith
+
+class_numbered : (reads : Bool) (c : Class) (file : ℕ) (x : Item)
+    → one_of_class reads c (in_file file x) ≡ one_of_class reads c x
+unfolding one_of_class lone_class_for lone_class classify ipv6_read
+class_numbered false c file (packet meta frame) = refl
+class_numbered true c file (packet meta frame) = refl
+class_numbered reads c file (refused refusal) = refl
 
 -- ---- no groups
 
@@ -214,12 +222,18 @@ none-given (x ∷ xs) none =
     given-same (classify (length xs) x) x.clock (events_of xs) (no-part x xs none)
     ∙ none-given xs (no-parts x xs none)
 
-of_class : (c : Class) → IsSumOf (λ xs. times c (classes_at xs)) (one_of_class c)
-of_class c =
+pub lone-law : LoneClasses
+unfolding lone_classes lone_class_for
+lone-law false xs none = ap (λ groups. classes_in groups xs) (no-groups xs none) ∙ lone-in xs
+lone-law true xs none = ap (λ groups. classes_seen groups xs) (no-groups xs none) ∙ lone-seen xs
+
+of_class : (reads : Bool) (c : Class) → IsSumOf (λ xs. times c (classes_at reads xs)) (one_of_class reads c)
+unfolding lone_classes
+of_class reads c =
     record {
-      sum = λ xs. times c (classes_in [] xs);
-      is = record { none = refl; step = λ x. class_step c x x.item; numbered = class_numbered c };
-      same = λ xs none. ap (λ groups. times c (classes_in groups xs)) (no-groups xs none);
+      sum = λ xs. times c (lone_classes reads xs);
+      is = record { none = refl; step = λ x. class_step reads c x x.item; numbered = class_numbered reads c };
+      same = λ xs none. ap (times c) (lone-law reads xs none);
     }
 
 -- nothing is joined or given up
@@ -346,153 +360,103 @@ own-carried dir each d e key carries.not_ipv4 whole n m meta = refl
 own-carried dir each d e key carries.short whole n m meta = refl
 own-carried dir each d e key carries.cut whole n m meta = refl
 
+own-seen : (dir : CountedUnit → Bool) (each : CountedUnit → ℕ) → ReadsNoPlace dir → ReadsNoPlace each → (key : TalkKey)
+    (o : Option ipv6.Reading) (u v : Option CountedUnit) (n m : ℕ) (meta : Meta)
+    → of_unit key dir each u ≡ of_unit key dir each v
+    → of_unit key dir each (unit_seen o (stamped_of n meta) u)
+    ≡ of_unit key dir each (unit_seen o (stamped_of m meta) v)
+own-seen dir each d e key None u v n m meta same = same
+own-seen dir each d e key (Some (ipv6.datagram header captured)) u v n m meta same =
+    own-ends dir each d e key header.protocol meta.original n m meta
+    (ends_of (Ipv6 header.source) (Ipv6 header.destination)
+    (transport_of header.protocol captured header.data_length))
+own-seen dir each d e key (Some (ipv6.fragment f)) u v n m meta same = refl
+own-seen dir each d e key (Some (ipv6.bad why)) u v n m meta same = refl
+own-seen dir each d e key (Some (ipv6.cut why)) u v n m meta same = refl
+
+-- the unit of a packet by itself, of IPv4 and in a report that reads IPv6 packets or not
+lone_unit : Meta → List ℕ → Option CountedUnit
+lone_unit meta frame = own_unit (classify 0 (taken None meta frame)) (stamped_of 0 meta)
+
+lone_unit_for : Bool → Meta → List ℕ → Option CountedUnit
+lone_unit_for false meta frame = lone_unit meta frame
+lone_unit_for true meta frame = unit_seen (ipv6_read meta frame) (stamped_of 0 meta) (lone_unit meta frame)
+
 -- what a packet adds by itself, and the sum over some
-own_value : TalkKey → (CountedUnit → Bool) → (CountedUnit → ℕ) → Meta → List ℕ → ℕ
-own_value key dir each meta frame =
-    of_unit key dir each (own_unit (classify 0 (taken None meta frame)) (stamped_of 0 meta))
+own_value : Bool → TalkKey → (CountedUnit → Bool) → (CountedUnit → ℕ) → Meta → List ℕ → ℕ
+own_value reads key dir each meta frame = of_unit key dir each (lone_unit_for reads meta frame)
 
-one_value : TalkKey → (CountedUnit → Bool) → (CountedUnit → ℕ) → Item → ℕ
-one_value key dir each (packet meta frame) = own_value key dir each meta frame
-one_value key dir each (refused refusal) = 0
+one_value : Bool → TalkKey → (CountedUnit → Bool) → (CountedUnit → ℕ) → Item → ℕ
+one_value reads key dir each (packet meta frame) = own_value reads key dir each meta frame
+one_value reads key dir each (refused refusal) = 0
 
-own_values : TalkKey → (CountedUnit → Bool) → (CountedUnit → ℕ) → List Taken → ℕ
-own_values key dir each [] = 0
-own_values key dir each (x ∷ xs) = own_values key dir each xs + own_value key dir each x.meta x.frame
+own_values : Bool → TalkKey → (CountedUnit → Bool) → (CountedUnit → ℕ) → List Taken → ℕ
+own_values reads key dir each [] = 0
+own_values reads key dir each (x ∷ xs) =
+    own_values reads key dir each xs + own_value reads key dir each x.meta x.frame
 
-value_step : (key : TalkKey) (dir : CountedUnit → Bool) (each : CountedUnit → ℕ) (x : Clocked Item) (i : Item)
-    (xs : List Taken)
-    → own_values key dir each (with_item x.clock i xs) ≡ own_values key dir each xs + one_value key dir each i
+value_step : (reads : Bool) (key : TalkKey) (dir : CountedUnit → Bool) (each : CountedUnit → ℕ) (x : Clocked Item)
+    (i : Item) (xs : List Taken)
+    → own_values reads key dir each (with_item x.clock i xs)
+    ≡ own_values reads key dir each xs + one_value reads key dir each i
 unfolding own_values one_value
-value_step key dir each x (packet meta frame) xs = refl
-value_step key dir each x (refused refusal) xs = omega arith
+value_step reads key dir each x (packet meta frame) xs = refl
+value_step reads key dir each x (refused refusal) xs = omega arith
 
-value_numbered : (key : TalkKey) (dir : CountedUnit → Bool) (each : CountedUnit → ℕ) (file : ℕ) (x : Item)
-    → one_value key dir each (in_file file x) ≡ one_value key dir each x
-unfolding one_value own_value classify
-value_numbered key dir each file (packet meta frame) = refl
-value_numbered key dir each file (refused refusal) = refl
+value_numbered : (reads : Bool) (key : TalkKey) (dir : CountedUnit → Bool) (each : CountedUnit → ℕ) (file : ℕ)
+    (x : Item) → one_value reads key dir each (in_file file x) ≡ one_value reads key dir each x
+unfolding one_value own_value lone_unit_for lone_unit classify ipv6_read
+value_numbered false key dir each file (packet meta frame) = refl
+value_numbered true key dir each file (packet meta frame) = refl
+value_numbered reads key dir each file (refused refusal) = refl
 
 -- what the unit at a packet adds
-at-packet : (dir : CountedUnit → Bool) (each : CountedUnit → ℕ) → ReadsNoPlace dir → ReadsNoPlace each → (key : TalkKey)
+at-ipv4 : (dir : CountedUnit → Bool) (each : CountedUnit → ℕ) → ReadsNoPlace dir → ReadsNoPlace each → (key : TalkKey)
     (x : Taken) (xs : List Taken) → parts_among (x ∷ xs) ≡ 0
-    → of_unit key dir each (unit_after xs x) ≡ own_value key dir each x.meta x.frame
-unfolding own_value classify
-at-packet dir each d e key x xs none =
+    → of_unit key dir each (unit_after xs x) ≡ of_unit key dir each (lone_unit x.meta x.frame)
+unfolding lone_unit classify
+at-ipv4 dir each d e key x xs none =
     ap (of_unit key dir each)
     (own-is (classify (length xs) x) (stamped_of (length xs) x.meta) x.clock (events_of xs) (no-part x xs none))
     ∙ own-carried dir each d e key (network_of x.meta.interface.link x.frame x.meta.original)
     (is_captured_whole x.frame x.meta.original) (length xs) 0 x.meta
 
-row-same : (total : List CountedUnit → ℕ) (each : CountedUnit → ℕ) (dir : CountedUnit → Bool) → Adds total each
-    → ReadsNoPlace dir → ReadsNoPlace each → (key : TalkKey) (xs : List Taken) → parts_among xs ≡ 0
-    → of_row total dir key (units_at xs) ≡ own_values key dir each xs
-unfolding units_at own_values of_unit
-row-same total each dir adds d e key [] none = row-listed total each adds dir key None
-row-same total each dir adds d e key (x ∷ xs) none =
-    row-append total each adds dir key (units_at xs) (listed (unit_after xs x))
-    ∙ (λ i. row-same total each dir adds d e key xs (no-parts x xs none) i
-    + (row-listed total each adds dir key (unit_after xs x) ∙ at-packet dir each d e key x xs none) i)
+at-packet : (reads : Bool) (dir : CountedUnit → Bool) (each : CountedUnit → ℕ) → ReadsNoPlace dir → ReadsNoPlace each
+    → (key : TalkKey) (x : Taken) (xs : List Taken) → parts_among (x ∷ xs) ≡ 0
+    → of_unit key dir each (unit_after_for reads xs x) ≡ own_value reads key dir each x.meta x.frame
+unfolding own_value lone_unit_for
+at-packet false dir each d e key x xs none = at-ipv4 dir each d e key x xs none
+at-packet true dir each d e key x xs none =
+    own-seen dir each d e key (ipv6_read x.meta x.frame) (unit_after xs x) (lone_unit x.meta x.frame) (length xs) 0
+    x.meta (at-ipv4 dir each d e key x xs none)
 
-of_talk : (total : List CountedUnit → ℕ) (each : CountedUnit → ℕ) (dir : CountedUnit → Bool) → Adds total each
-    → ReadsNoPlace dir → ReadsNoPlace each → (key : TalkKey)
-    → IsSumOf (λ xs. of_row total dir key (units_at xs)) (one_value key dir each)
+row-same : (reads : Bool) (total : List CountedUnit → ℕ) (each : CountedUnit → ℕ) (dir : CountedUnit → Bool)
+    → Adds total each → ReadsNoPlace dir → ReadsNoPlace each → (key : TalkKey) (xs : List Taken) → parts_among xs ≡ 0
+    → of_row total dir key (units_at reads xs) ≡ own_values reads key dir each xs
+unfolding units_at own_values of_unit
+row-same reads total each dir adds d e key [] none = row-listed total each adds dir key None
+row-same reads total each dir adds d e key (x ∷ xs) none =
+    row-append total each adds dir key (units_at reads xs) (listed (unit_after_for reads xs x))
+    ∙ (λ i. row-same reads total each dir adds d e key xs (no-parts x xs none) i
+    + (row-listed total each adds dir key (unit_after_for reads xs x)
+    ∙ at-packet reads dir each d e key x xs none) i)
+
+of_talk : (reads : Bool) (total : List CountedUnit → ℕ) (each : CountedUnit → ℕ) (dir : CountedUnit → Bool)
+    → Adds total each → ReadsNoPlace dir → ReadsNoPlace each → (key : TalkKey)
+    → IsSumOf (λ xs. of_row total dir key (units_at reads xs)) (one_value reads key dir each)
 unfolding own_values
-of_talk total each dir adds d e key =
+of_talk reads total each dir adds d e key =
     record {
-      sum = own_values key dir each;
+      sum = own_values reads key dir each;
       is = record {
         none = refl;
-        step = λ x. value_step key dir each x x.item;
-        numbered = value_numbered key dir each;
+        step = λ x. value_step reads key dir each x x.item;
+        numbered = value_numbered reads key dir each;
       };
-      same = row-same total each dir adds d e key;
+      same = row-same reads total each dir adds d e key;
     }
 
 -- ---- times
-
-then-lt : (r q : Ordering) → is_lt (ordering_then r q) ≡ true → is_gt r ≡ false
-then-lt r q h = grind arith
-
-then-not-lt : (r q : Ordering) → is_lt (ordering_then r q) ≡ false → is_lt r ≡ false
-then-not-lt r q h = grind arith
-
-or-left : (x y : Bool) → (y ≡ false → x ≡ false) → not x ≡ (not x || not y)
-or-left true true h = refl
-or-left true false h = grind (arith, h refl)
-or-left false y h = refl
-
-or-right : (x y : Bool) → (x ≡ false → y ≡ false) → not y ≡ (not x || not y)
-or-right true y h = refl
-or-right false true h = grind (arith, h refl)
-or-right false false h = refl
-
-or-none : (x : Bool) → x ≡ (x || false)
-or-none true = refl
-or-none false = refl
-
-earlier-case : (until : Stamp) (a b : TimedFrame) (c : Bool) → is_lt (by_time b a) ≡ c
-    → is_by until (frame_time (earlier_frame (Some a) (Some b)))
-    ≡ (is_by until (Some a.time) || is_by until (Some b.time))
-earlier-case until a b true is =
-    rw is
-    (or-right (is_gt (stamp_cmp a.time until)) (is_gt (stamp_cmp b.time until))
-    (stamp_upto_trans b.time a.time until (then-lt (stamp_cmp b.time a.time) (nat_cmp b.place a.place) is)))
-earlier-case until a b false is =
-    rw is
-    (or-left (is_gt (stamp_cmp a.time until)) (is_gt (stamp_cmp b.time until))
-    (stamp_upto_trans a.time b.time until (stamp_upto_turned b.time a.time
-    (then-not-lt (stamp_cmp b.time a.time) (nat_cmp b.place a.place) is))))
-
-earlier-by : (until : Stamp) (a b : Option TimedFrame)
-    → is_by until (frame_time (earlier_frame a b)) ≡ (is_by until (frame_time a) || is_by until (frame_time b))
-earlier-by until None b = refl
-earlier-by until (Some a) None = or-none (is_by until (Some a.time))
-earlier-by until (Some a) (Some b) = earlier-case until a b (is_lt (by_time b a)) refl
-
-later-case : (since : Stamp) (a b : TimedFrame) (c : Bool) → is_lt (by_time_down b a) ≡ c
-    → is_from since (frame_time (later_frame (Some a) (Some b)))
-    ≡ (is_from since (Some a.time) || is_from since (Some b.time))
-later-case since a b true is =
-    rw is
-    (or-right (is_gt (stamp_cmp since a.time)) (is_gt (stamp_cmp since b.time))
-    (λ h. stamp_upto_trans since a.time b.time h
-    (then-lt (stamp_cmp a.time b.time) (nat_cmp b.place a.place) is)))
-later-case since a b false is =
-    rw is
-    (or-left (is_gt (stamp_cmp since a.time)) (is_gt (stamp_cmp since b.time))
-    (λ h. stamp_upto_trans since b.time a.time h (stamp_upto_turned a.time b.time
-    (then-not-lt (stamp_cmp a.time b.time) (nat_cmp b.place a.place) is))))
-
-later-from : (since : Stamp) (a b : Option TimedFrame)
-    → is_from since (frame_time (later_frame a b)) ≡ (is_from since (frame_time a) || is_from since (frame_time b))
-later-from since None b = refl
-later-from since (Some a) None = or-none (is_from since (Some a.time))
-later-from since (Some a) (Some b) = later-case since a b (is_lt (by_time_down b a)) refl
-
-one-more : (d : Bool) (unit : CountedUnit) (units : List CountedUnit)
-    → (d || not (length units == 0)) ≡ not (length (if d then unit ∷ units else units) == 0)
-one-more true unit units = grind arith
-one-more false unit units = refl
-
-least-by : (until : Stamp) (units : List CountedUnit)
-    → is_by until (frame_time (least_frame units))
-    ≡ not (length (filter (λ unit. is_by until (frame_time unit.first)) units) == 0)
-least-by until [] = refl
-least-by until (unit ∷ units) =
-    earlier-by until unit.first (least_frame units)
-    ∙ ap (λ b. is_by until (frame_time unit.first) || b) (least-by until units)
-    ∙ one-more (is_by until (frame_time unit.first)) unit
-    (filter (λ unit. is_by until (frame_time unit.first)) units)
-
-greatest-from : (since : Stamp) (units : List CountedUnit)
-    → is_from since (frame_time (greatest_frame units))
-    ≡ not (length (filter (λ unit. is_from since (frame_time unit.last)) units) == 0)
-greatest-from since [] = refl
-greatest-from since (unit ∷ units) =
-    later-from since unit.last (greatest_frame units)
-    ∙ ap (λ b. is_from since (frame_time unit.last) || b) (greatest-from since units)
-    ∙ one-more (is_from since (frame_time unit.last)) unit
-    (filter (λ unit. is_from since (frame_time unit.last)) units)
 
 -- the time of a frame doesn't hang on its place
 time-of : (n m : ℕ) (time : Option Stamp)
@@ -542,73 +506,68 @@ over_each : Tail → List (List ℕ) → List (List Taken)
 over_each tail files = map (λ bytes. taken_after [] (clocked_run tail (bytes ∷ []))) files
 
 -- a count of a row
-count-rows : (f : TalkRow → ℕ) (total : List CountedUnit → ℕ) (value : CountedUnit → ℕ) (dir : CountedUnit → Bool)
-    → Adds total value → ReadsNoPlace dir → ReadsNoPlace value → (key : TalkKey)
-    → ((xs : List Taken) → f (row_among key xs) ≡ of_row total dir key (units_at xs))
+count-rows : (reads : Bool) (f : TalkRow → ℕ) (total : List CountedUnit → ℕ) (value : CountedUnit → ℕ)
+    (dir : CountedUnit → Bool) → Adds total value → ReadsNoPlace dir → ReadsNoPlace value → (key : TalkKey)
+    → ((xs : List Taken) → f (row_among reads key xs) ≡ of_row total dir key (units_at reads xs))
     → (tail : Tail) (files : List (List ℕ)) → refusal_of (run_of_files tail files) ≡ None
     → parts_among (taken_after [] (clocked_run tail files)) ≡ 0
-    → f (row_among key (taken_after [] (clocked_run tail files)))
-    ≡ sum_by f (map (row_among key) (over_each tail files))
+    → f (row_among reads key (taken_after [] (clocked_run tail files)))
+    ≡ sum_by f (map (row_among reads key) (over_each tail files))
 unfolding over_each
-count-rows f total value dir adds d e key is tail files none lone =
-    let row = of_talk total value dir adds d e key in
-    of_files (λ xs. f (row_among key xs)) (one_value key dir value)
+count-rows reads f total value dir adds d e key is tail files none lone =
+    let row = of_talk reads total value dir adds d e key in
+    of_files (λ xs. f (row_among reads key xs)) (one_value reads key dir value)
     (record { sum = row.sum; is = row.is; same = λ xs no. is xs ∙ row.same xs no }) tail files none lone
-    ∙ sum-rows f (row_among key) (over_each tail files)
+    ∙ sum-rows f (row_among reads key) (over_each tail files)
 
 -- whether a row has a time, as one of its units has
-time-rows : (q : TalkRow → Bool) (dir : CountedUnit → Bool) → ReadsNoPlace dir → (key : TalkKey)
-    → ((xs : List Taken) → q (row_among key xs) ≡ not (length (filter dir (units_of_talk key (units_at xs))) == 0))
+time-rows : (reads : Bool) (q : TalkRow → Bool) (dir : CountedUnit → Bool) → ReadsNoPlace dir → (key : TalkKey)
+    → ((xs : List Taken) → q (row_among reads key xs)
+    ≡ not (length (filter dir (units_of_talk key (units_at reads xs))) == 0))
     → (tail : Tail) (files : List (List ℕ)) → refusal_of (run_of_files tail files) ≡ None
     → parts_among (taken_after [] (clocked_run tail files)) ≡ 0
-    → q (row_among key (taken_after [] (clocked_run tail files)))
-    ≡ list_any q (map (row_among key) (over_each tail files))
+    → q (row_among reads key (taken_after [] (clocked_run tail files)))
+    ≡ list_any q (map (row_among reads key) (over_each tail files))
 unfolding over_each of_row
-time-rows q dir reads key is tail files none lone =
+time-rows reads q dir same key is tail files none lone =
     let each = over_each tail files in
-    let count : List Taken → ℕ = λ xs. length (filter dir (units_of_talk key (units_at xs))) in
+    let count : List Taken → ℕ = λ xs. length (filter dir (units_of_talk key (units_at reads xs))) in
     let one : ReadsNoPlace (λ (unit : CountedUnit). 1) = record { same = λ p b n m meta ends. refl } in
     is (taken_after [] (clocked_run tail files))
-    ∙ ap (λ n. not (n == 0)) (of_files count (one_value key dir (λ unit. 1))
-    (of_talk length (λ unit. 1) dir units-add reads one key) tail files none lone)
+    ∙ ap (λ n. not (n == 0)) (of_files count (one_value reads key dir (λ unit. 1))
+    (of_talk reads length (λ unit. 1) dir units-add same one key) tail files none lone)
     ∙ any-of count each
-    ∙ any-rows q (row_among key) (λ xs. not (count xs == 0)) is each
+    ∙ any-rows q (row_among reads key) (λ xs. not (count xs == 0)) is each
 
 pub sums-law : ReportSums
 unfolding of_row over_each
-sums-law tail files none lone =
+sums-law reads tail files none lone =
     let goes-forward : ReadsNoPlace is_forward = record { same = λ p b n m meta ends. refl } in
     let goes-back : ReadsNoPlace (λ unit. not (is_forward unit)) = record { same = λ p b n m meta ends. refl } in
     let in-frames : ReadsNoPlace (λ unit. unit.frames) = record { same = λ p b n m meta ends. refl } in
     let in-bytes : ReadsNoPlace (λ unit. unit.bytes) = record { same = λ p b n m meta ends. refl } in
     record {
       totals = totals-law tail files none;
-      of_class = λ c. of_files (λ xs. times c (classes_at xs)) (one_of_class c) (of_class c) tail files none lone;
+      of_class = λ c. of_files (λ xs. times c (classes_at reads xs)) (one_of_class reads c) (of_class reads c) tail
+          files none lone;
       joined = of_files (λ xs. counted_in (groups_at xs)) (λ item. 0)
           (nothing (λ xs. counted_in (groups_at xs)) (λ xs no. ap counted_in (no-groups xs no))) tail files none lone;
       given_up = of_files (λ xs. times_given_up (marks_of xs)) (λ item. 0)
           (nothing (λ xs. times_given_up (marks_of xs)) none-given) tail files none lone;
       rows = λ key. record {
-        forward_frames = count-rows (λ r. r.forward_frames) frames_of _ is_forward frames-add goes-forward in-frames key
+        forward_frames = count-rows reads (λ r. r.forward_frames) frames_of _ is_forward frames-add goes-forward
+            in-frames key (λ xs. refl) tail files none lone;
+        forward_bytes = count-rows reads (λ r. r.forward_bytes) units_bytes _ is_forward bytes-add goes-forward
+            in-bytes key (λ xs. refl) tail files none lone;
+        backward_frames = count-rows reads (λ r. r.backward_frames) frames_of _ _ frames-add goes-back in-frames key
             (λ xs. refl) tail files none lone;
-        forward_bytes = count-rows (λ r. r.forward_bytes) units_bytes _ is_forward bytes-add goes-forward in-bytes key
+        backward_bytes = count-rows reads (λ r. r.backward_bytes) units_bytes _ _ bytes-add goes-back in-bytes key
             (λ xs. refl) tail files none lone;
-        backward_frames = count-rows (λ r. r.backward_frames) frames_of _ _ frames-add goes-back in-frames key
-            (λ xs. refl) tail files none lone;
-        backward_bytes = count-rows (λ r. r.backward_bytes) units_bytes _ _ bytes-add goes-back in-bytes key
-            (λ xs. refl) tail files none lone;
-        first = λ time. time-rows (λ r. is_by time r.first) (λ unit. is_by time (frame_time unit.first))
+        first = λ time. time-rows reads (λ r. is_by time r.first) (λ unit. is_by time (frame_time unit.first))
             (record { same = λ p b n m meta ends. ap (is_by time) (time-of n m (meta_time meta)) }) key
-            (λ xs. least-by time (units_of_talk key (units_at xs))) tail files none lone;
-        last = λ time. time-rows (λ r. is_from time r.last) (λ unit. is_from time (frame_time unit.last))
+            (λ xs. least-by time (units_of_talk key (units_at reads xs))) tail files none lone;
+        last = λ time. time-rows reads (λ r. is_from time r.last) (λ unit. is_from time (frame_time unit.last))
             (record { same = λ p b n m meta ends. ap (is_from time) (time-of n m (meta_time meta)) }) key
-            (λ xs. greatest-from time (units_of_talk key (units_at xs))) tail files none lone;
+            (λ xs. greatest-from time (units_of_talk key (units_at reads xs))) tail files none lone;
       };
     }
-
-lone-in : (xs : List Taken) → classes_in [] xs ≡ map (λ x. lone_class x.meta x.frame) xs
-lone-in [] = refl
-lone-in (x ∷ xs) = λ i. lone-place (length xs) x.clock x.meta x.frame i ∷ lone-in xs i
-
-pub lone-law : LoneClasses
-lone-law xs none = ap (λ groups. classes_in groups xs) (no-groups xs none) ∙ lone-in xs

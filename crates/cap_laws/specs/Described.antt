@@ -5,7 +5,7 @@ use Rattle.cap_laws.specs.InOrder.{classes_at}
 use Rattle.cap_laws.specs.Sums.{parts_among}
 use Rattle.cap_source.specs.declared.packets.Meta.{Meta}
 use Rattle.cap_class.specs.Ipv6.{lone_class_for}
-use Rattle.cap_talks.specs.table.Descriptions.{describe_for, describe_of, described_class}
+use Rattle.cap_talks.specs.table.Descriptions.{describe_for, described_class}
 
 -- It is the class that the packet has in a report over it alone, whether both read IPv6 packets or not.
 abbrev pub DescribedAlone : Type 0
@@ -13,7 +13,9 @@ DescribedAlone =
     (reads : Bool) (meta : Meta) (frame : List ℕ)
     → described_class (describe_for reads meta frame) ≡ lone_class_for reads meta frame
 
--- If none of some packets is a fragment, it is the class that each has in the report over all of them.
+-- If none of some packets is an IPv4 fragment, it is the class that each has in the report over all of them, if both
+-- read IPv6 packets, and if neither does.
 abbrev pub DescribedTogether : Type 0
 DescribedTogether =
-    (xs : List Taken) → parts_among xs ≡ 0 → classes_at xs ≡ map (λ x. described_class (describe_of x.meta x.frame)) xs
+    (reads : Bool) (xs : List Taken) → parts_among xs ≡ 0
+    → classes_at reads xs ≡ map (λ x. described_class (describe_for reads x.meta x.frame)) xs

@@ -1,5 +1,6 @@
--- The report over several files that have no fragments is the sum of the reports over each file. With fragments it
--- isn't: those of one datagram may come in two files. The report is the one by places (`InOrder.antt`).
+-- The report over several files that have no IPv4 fragments is the sum of the reports over each file, whether it reads
+-- IPv6 packets or not. With such fragments it isn't: those of one datagram may come in two files. Fragments of IPv6
+-- aren't joined, so each is counted by itself. The report is the one by places (`InOrder.antt`).
 use Rattle.std.specs.Prelude.{◌≡◌, ◌+◌, ℕ, List, [], ◌∷◌, Bool, true, false, map, Option, Some, None, not}
 use Rattle.std.specs.Prelude.{if◌then◌else◌}
 use Rattle.std.specs.List.{list_any, sum_by}
@@ -15,27 +16,28 @@ use Rattle.cap_source.specs.Feed.{refusal_of}
 use Rattle.cap_talks.specs.declared.table.rows.TalkKey.{TalkKey}
 use Rattle.cap_talks.specs.declared.table.rows.TalkRow.{TalkRow}
 use Rattle.cap_class.specs.Counting.{times}
-use Rattle.cap_class.specs.Classes.{lone_class}
+use Rattle.cap_class.specs.Ipv6.{lone_class_for}
 use Rattle.cap_talks.specs.table.Conversations.{row_of, units_of_talk}
 use Rattle.cap_talks.specs.table.CountedUnits.{counted_in}
 use Rattle.cap_class.specs.Runs.{taken_after}
 use Rattle.cap_time.specs.Stamp.{stamp_cmp}
 use Rattle.cap_time.specs.declared.stamps.Stamp.{Stamp}
 
--- whether a packet is a fragment of a datagram, by itself
+-- whether a packet is a fragment of an IPv4 datagram, by itself
 abbrev pub is_part : Classification → Bool
 is_part (plain c) = false
 is_part (datagram header captured) = false
 is_part (fragment p) = true
 
--- how many of some packets are fragments
+-- how many of some packets are IPv4 fragments
 abbrev pub parts_among : List Taken → ℕ
 parts_among [] = 0
 parts_among (x ∷ xs) = parts_among xs + (if is_part (classify 0 x) then 1 else 0)
 
--- the row of a conversation in the report over some packets: that of no datagram, if it has none there
-abbrev pub row_among : TalkKey → List Taken → TalkRow
-row_among key xs = row_of (units_of_talk key (units_at xs))
+-- the row of a conversation in the report over some packets, which reads IPv6 packets or not: that of no datagram, if
+-- it has none there
+abbrev pub row_among : Bool → TalkKey → List Taken → TalkRow
+row_among reads key xs = row_of (units_of_talk key (units_at reads xs))
 
 -- a time is there and isn't after another, or isn't before it
 abbrev pub is_by : Stamp → Option Stamp → Bool
@@ -56,25 +58,28 @@ pub record RowAddsUp (row : TalkRow) (rows : List TalkRow) : Type 0 where
   pub first : (time : Stamp) → is_by time row.first ≡ list_any (λ r. is_by time r.first) rows
   pub last : (time : Stamp) → is_from time row.last ≡ list_any (λ r. is_from time r.last) rows
 
--- All that the report over some packets counts is the sum of what the reports over several lists of packets count: the
--- line `total`, the packets of each class, the datagrams that were joined, the groups that were given up, and the row
--- of each conversation.
-pub record ReportAddsUp (all : List Taken) (each : List (List Taken)) : Type 0 where
+-- All that the report over some packets counts, which reads IPv6 packets or not, is the sum of what the reports over
+-- several lists of packets count: the line `total`, the packets of each class, the datagrams that were joined, the
+-- groups that were given up, and the row of each conversation.
+pub record ReportAddsUp (reads : Bool) (all : List Taken) (each : List (List Taken)) : Type 0 where
   pub totals : TotalsAddUp all each
-  pub of_class : (c : Class) → times c (classes_at all) ≡ sum_by (λ xs. times c (classes_at xs)) each
+  pub of_class : (c : Class) → times c (classes_at reads all) ≡ sum_by (λ xs. times c (classes_at reads xs)) each
   pub joined : counted_in (groups_at all) ≡ sum_by (λ xs. counted_in (groups_at xs)) each
   pub given_up : times_given_up (marks_of all) ≡ sum_by (λ xs. times_given_up (marks_of xs)) each
-  pub rows : (key : TalkKey) → RowAddsUp (row_among key all) (map (row_among key) each)
+  pub rows : (key : TalkKey) → RowAddsUp (row_among reads key all) (map (row_among reads key) each)
 
--- If none of some files is refused, and none of their packets is a fragment, the report over all of them is the sum of
--- the reports over each file alone.
+-- If none of some files is refused, and none of their packets is an IPv4 fragment, the report over all of them is the
+-- sum of the reports over each file alone, if all read IPv6 packets, and if none does.
 abbrev pub ReportSums : Type 0
 ReportSums =
-    (tail : Tail) (files : List (List ℕ)) → refusal_of (run_of_files tail files) ≡ None
+    (reads : Bool) (tail : Tail) (files : List (List ℕ)) → refusal_of (run_of_files tail files) ≡ None
     → parts_among (taken_after [] (clocked_run tail files)) ≡ 0
-    → ReportAddsUp (taken_after [] (clocked_run tail files))
+    → ReportAddsUp reads (taken_after [] (clocked_run tail files))
     (map (λ bytes. taken_after [] (clocked_run tail (bytes ∷ []))) files)
 
--- If none of some packets is a fragment, each has the class that it has in a report over it alone.
+-- If none of some packets is an IPv4 fragment, each has the class that it has in a report over it alone, if both read
+-- IPv6 packets, and if neither does.
 abbrev pub LoneClasses : Type 0
-LoneClasses = (xs : List Taken) → parts_among xs ≡ 0 → classes_at xs ≡ map (λ x. lone_class x.meta x.frame) xs
+LoneClasses =
+    (reads : Bool) (xs : List Taken) → parts_among xs ≡ 0
+    → classes_at reads xs ≡ map (λ x. lone_class_for reads x.meta x.frame) xs

@@ -6,7 +6,7 @@ ghost use Rattle.cap_laws.specs.Diffs.{SameAsConverted, SameButIgnored, SameExac
 ghost use Rattle.cap_laws.specs.ExactTimes.{TimesReadBack};
 ghost use Rattle.cap_laws.specs.FirstDifferences.{DifferencePlaced, DifferencesNamed, FirstDifference};
 ghost use Rattle.cap_laws.specs.Forms.{BodyParts, PcapReport};
-ghost use Rattle.cap_laws.specs.InOrder.{ByPlaces, ReportByPlaces};
+ghost use Rattle.cap_laws.specs.InOrder.{ByPlaces, Ipv6Apart, ReportByPlaces};
 ghost use Rattle.cap_laws.specs.JoinedByPlaces.{JoinedByPlaces};
 ghost use Rattle.cap_laws.specs.JoinedUnits.{JoinedUnits};
 ghost use Rattle.cap_laws.specs.JsonDifferences.{IsDifferLine, IsSideLine};
@@ -156,24 +156,27 @@ pub fn check_counts()
 {}
 
 /// If none of some files is refused, whatever bytes they hold, the packets, bytes and packets captured in part that the
-/// report over them counts in its line `total` are the sums of those that the reports over each file alone count.
+/// report over them counts in its line `total` are the sums of those that the reports over each file alone count. That
+/// line is the same whether a report reads IPv6 packets or not.
 pub fn report_totals()
     ensures { ReportTotals }
 {}
 
-/// If none of some files is refused, and none of their packets is a fragment, all that the report over them counts is
-/// the sum of what the reports over each file alone count: the line `total`, the packets of each class, and the row of
-/// each conversation in both directions, whose first time is the least of theirs and whose last is the greatest. So
-/// machines may share an archive, and add up (`sums`). Each packet has the class then that it has in a report over it
-/// alone (`alone`).
+/// If none of some files is refused, and none of their packets is an IPv4 fragment, all that the report over them
+/// counts is the sum of what the reports over each file alone count: the line `total`, the packets of each class, and
+/// the row of each conversation in both directions, whose first time is the least of theirs and whose last is the
+/// greatest. So machines may share an archive, and add up (`sums`). Each packet has the class then that it has in a
+/// report over it alone (`alone`). Both hold of reports that read IPv6 packets, fragments among them, and of reports
+/// that don't.
 pub fn report_sums()
     ensures sums { ReportSums }
     ensures alone { LoneClasses }
 {}
 
 /// What `list --class` says of a packet is the class that it has in a report over it alone, a fragment being unjoined
-/// there (`alone`). If none of some packets is a fragment, it is the class that each has in the report over all of them
-/// (`together`): so the packets that the report counts as bad are those that `list --class` calls bad.
+/// there (`alone`). If none of some packets is an IPv4 fragment, it is the class that each has in the report over all
+/// of them (`together`): so the packets that the report counts as bad are those that `list --class` calls bad. Both
+/// hold if the list and the report read IPv6 packets, and if neither does.
 pub fn described_classes()
     ensures alone { DescribedAlone }
     ensures together { DescribedTogether }
@@ -256,12 +259,15 @@ pub fn one_class()
     ensures { (xs : List Taken) → OneClass xs }
 {}
 
-/// In every run of files the groups of fragments are those by places, at each of its packets: so the report in either
-/// form and the refusal that is returned instead are those by places. So are, after each packet, the classes and the
-/// units of the packets so far, how many datagrams were joined and groups given up, and which groups are open.
+/// In every run of files the groups of IPv4 fragments are those by places, at each of its packets: so the report in
+/// either form and the refusal that is returned instead are those by places (`report`). So are, after each packet, the
+/// classes and the units of the packets so far, how many datagrams were joined and groups given up, and which groups
+/// are open (`after`). Both hold of a report that reads IPv6 packets, and of one that doesn't. No IPv6 packet changes a
+/// group: so its fragments are never joined (`apart`).
 pub fn report_by_places()
     ensures report { ReportByPlaces }
     ensures after { ByPlaces }
+    ensures apart { Ipv6Apart }
 {}
 
 /// The report on four fragments that overlap, after two of them and after all, and on three tagged frames, by
