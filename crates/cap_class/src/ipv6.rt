@@ -16,6 +16,7 @@ use cap_source::Meta;
 /// What the IPv6 packet of a captured frame is by itself; `None` if the frame carries none. `meta` is what is known of
 /// it beside its bytes: its link type and how many bytes it had. `classify` calls such a packet `Plain`, of the class
 /// `NotIpv4`, or `OtherLink` if its link type is 229 IPV6.
+#[inline(always)]
 #[tactic(auto, unfolding(crate::specs::Ipv6::ipv6_read))]
 pub fn read_ipv6<'a>(meta: &Meta, frame: &'a [u8]) -> Option<Ipv6Packet<'a>>
     ensures value { option_map packet_seen result ≡ ipv6_read meta.now frame.entry.now }
@@ -31,6 +32,7 @@ pub fn read_ipv6<'a>(meta: &Meta, frame: &'a [u8]) -> Option<Ipv6Packet<'a>>
 
 /// The class of an IPv6 packet in a report that reads them: `Unjoined` of a fragment, since those of IPv6 aren't
 /// joined; of a whole datagram it is that of its ports, as of IPv4.
+#[inline(always)]
 pub fn ipv6_class(packet: &Ipv6Packet<'_>) -> Class
     ensures { result ≡ ipv6_class (packet_seen packet.now) }
 {

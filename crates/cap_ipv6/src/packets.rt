@@ -121,6 +121,7 @@ fn packet_of<'a>(bytes: &[u8], led: Led<'a>) -> Ipv6Packet<'a>
 ///    ends past 65,535; else a `Fragment`. Any other number is the protocol of the data that follows.
 ///
 /// It takes time in proportion to the bytes, however many extension headers there are.
+#[inline(always)]
 #[tactic(auto, unfolding(crate::specs::Read::read_of))]
 pub fn read(bytes: &[u8], captured_whole: bool) -> Ipv6Packet<'_>
     ensures { packet_seen result ≡ read_of bytes.now captured_whole }

@@ -74,6 +74,7 @@ pub(crate) fn joined_unit(datagram: &Datagram) -> Option<CountedUnit>
 }
 
 /// The unit that an IPv6 packet is, if it is a whole datagram.
+#[inline(always)]
 pub(crate) fn ipv6_unit(read: &Ipv6Packet<'_>, stamped: Stamped) -> Option<CountedUnit>
     ensures { result ≡ ipv6_unit (packet_seen read.now) stamped }
 {

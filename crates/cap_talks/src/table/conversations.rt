@@ -3,6 +3,7 @@ ghost use Rattle.std.specs.Prelude.{◌≡◌, ◌+◌, ◌≤◌, ◌<◌, ◌^
 ghost use Rattle.std.specs.Prelude.{Err, IfErr, IfOk, OnOk, OnErr, false};
 ghost use Rattle.std.specs.List.{list_any};
 ghost use Rattle.indexmap.specs.IndexMap.{insert_entry};
+ghost use Rattle.indexmap.specs.IndexSet.{insert_key};
 ghost use Rattle.indexmap.specs.Layout.{set_value_at};
 ghost use Rattle.cap_talks.specs.inner.table.Knowing.{GrowsBy, IsKeyOf};
 ghost use Rattle.cap_talks.specs.inner.table.Adding.{with_talk_delta};
@@ -13,6 +14,7 @@ ghost use Rattle.cap_talks.specs.table.Conversations.{talk_key, row_of};
 ghost use Rattle.cap_talks.specs.table.Rows.{TalksStandFor, is_refused, is_limit, talk_limit, frames_in, bytes_in};
 ghost use Rattle.cap_talks.specs.table.Rows.{frames_of_row, bytes_of_row, row_in, with_delta, with_talk, IsUnitInOrder};
 ghost use Rattle.cap_talks.specs.table.Rows.{is_in_order, are_all_in_order};
+ghost use Rattle.cap_talks.specs.declared.table.keys.WideKey.{WideKey};
 ghost use Rattle.cap_talks.specs.declared.table.units.CountedUnit.{CountedUnit};
 
 use crate::table::ipv4_units::{Ipv4Ends, Ipv4Unit};
@@ -77,7 +79,7 @@ impl Conversations {
     ///
     /// Returns `Limit` exactly if the unit's conversation is a new one and there are 1,048,576 already, `Memory`
     /// if a growth was refused. Both leave the table as it was.
-    #[inline(never)]
+    #[inline(always)]
     pub fn add(&mut self, unit: &CountedUnit) -> Result<(), ConversationsFault>
         requires frames { frames_in self.old.rows + unit.now.frames < 2 ^ 64 }
         requires bytes { bytes_in self.old.rows + unit.now.bytes < 2 ^ 128 }
@@ -192,9 +194,33 @@ fn add_row(
     }
 }
 
+// Makes a key known if one more conversation is allowed beside those that there are: its place among those known. It
+// isn't inlined, so that a key that is known already need not be in memory.
+#[inline(never)]
+fn add_known(
+    known: &mut IndexSet<WideKey>,
+    talks: usize,
+    key: WideKey,
+) -> Result<usize, ConversationsFault>
+    ensures stored { IfOk result (λ place. (it : WideKey) × (slice_get known.new.keys place ≡ Some it)
+        × (same_wide key it ≡ true)) }
+    ensures within { IfOk result (λ place. place < length known.new.keys) }
+    ensures keys { OnOk result (known.new.keys ≡ insert_key same_wide known.old.keys key) }
+    ensures limit { IfErr result (λ e. is_limit (Err e) ≡ not (nat_lt talks talk_limit)) }
+    ensures err { OnErr result (known.new.keys ≡ known.old.keys) }
+{
+    if talks >= TALK_LIMIT {
+        return Err(ConversationsFault::Limit);
+    }
+    match known.insert_full(key) {
+        Ok((place, _)) => Ok(place),
+        Err(_) => Err(ConversationsFault::Memory),
+    }
+}
+
 // The key of the conversation that a unit with an end of IPv6 belongs to, and whether it goes from the lesser of its
 // ends. It is known from then on: if it is new, and there are that many conversations, one more must be allowed.
-#[inline(never)]
+#[inline(always)]
 fn known_key(
     known: &mut IndexSet<WideKey>,
     talks: usize,
@@ -212,13 +238,8 @@ fn known_key(
     if let Some(place) = known.get_index_of(&key) {
         return Ok((PackedKey::at(place), forward));
     }
-    if talks >= TALK_LIMIT {
-        return Err(ConversationsFault::Limit);
-    }
-    match known.insert_full(key) {
-        Ok((place, _)) => Ok((PackedKey::at(place), forward)),
-        Err(_) => Err(ConversationsFault::Memory),
-    }
+    let place = add_known(known, talks, key)?;
+    Ok((PackedKey::at(place), forward))
 }
 
 // The key of the conversation that a unit belongs to, and whether it goes from the lesser of its ends.

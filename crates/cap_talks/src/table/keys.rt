@@ -100,6 +100,7 @@ fn end_of(number: u64) -> Endpoint
 }
 
 // An end without its address, as a number: the port, and below it the network.
+#[inline(always)]
 fn side_number(end: &Endpoint) -> u64
     ensures value { result ≡ side_number end.now }
     ensures bound { result < 262144 }
@@ -156,6 +157,7 @@ impl PackedKey {
     }
 
     /// The key that is at a place among those known.
+    #[inline(always)]
     pub(crate) fn at(place: usize) -> PackedKey
         ensures { result ≡ record { lesser = mark; greater = place } }
     {
@@ -186,6 +188,7 @@ impl PackedKey {
 }
 
 // The key of a conversation between two ends, the lesser first.
+#[inline(always)]
 fn wide_key(protocol: u8, lesser: &Endpoint, greater: &Endpoint) -> WideKey
     ensures value { result ≡ widened (record {
       protocol = protocol;
@@ -206,6 +209,7 @@ fn wide_key(protocol: u8, lesser: &Endpoint, greater: &Endpoint) -> WideKey
 impl WideKey {
     /// The key of the conversation that a unit belongs to, and whether it goes from the lesser of its ends, or from an
     /// end to itself.
+    #[inline(always)]
     pub(crate) fn of(unit: &CountedUnit) -> (WideKey, bool)
         ensures value { result.0 ≡ widened (talk_key unit.now) }
         ensures forward { result.1 ≡ is_forward unit.now }

@@ -251,6 +251,7 @@ impl Tally {
     }
 
     // Counts an IPv6 packet, while no datagram waits; as any other it has that class.
+    #[inline(always)]
     fn take_ipv6(
         &mut self,
         packet: RunPacket<'_>,
@@ -283,6 +284,7 @@ impl Tally {
     }
 
     // Counts the datagram that waits, and with it the packet that completed it.
+    #[inline(never)]
     fn take_waiting(&mut self) -> Result<(), ConversationsFault>
         requires some { IsSome self.old.waiting }
         requires few { self.old.place < 2 ^ 62 }

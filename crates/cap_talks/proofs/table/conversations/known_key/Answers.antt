@@ -10,15 +10,16 @@ returns-in-Some-clause-key c =
     c.of-forward.ensures.value (within-bool c.in-Some.place _ c.in-Some.ensures.within) c.of-forward.ensures.narrow
     c.of-forward.ensures.forward
 
-pub returns-in-Ok-clause-key : goal.returns-in-Ok-clause-key
-returns-in-Ok-clause-key c =
-    let (k, at, same) = c.in-Ok.ensures.stored in
-    key-of-known c.insert_full.new.self.keys c.args.unit.now c.of-forward.result.0 c.in-Ok.place _ c.at-in-Ok.ensures
-    (stored-at c.insert_full.new.self.keys c.of-forward.result.0 k c.in-Ok.place at same) c.of-forward.ensures.value
-    (within-bool c.in-Ok.place _ c.in-Ok.ensures.within) c.of-forward.ensures.narrow c.of-forward.ensures.forward
+pub returns-clause-key : goal.returns-clause-key
+returns-clause-key c =
+    let (it, at, same) = c.in_ok-place.ensures.stored in
+    key-of-known c.add_known.new.known.keys c.args.unit.now c.of-forward.result.0 c.in_ok-place.place _ c.at-2.ensures
+    (stored-at c.add_known.new.known.keys c.of-forward.result.0 it c.in_ok-place.place at same)
+    c.of-forward.ensures.value (within-bool c.in_ok-place.place _ c.in_ok-place.ensures.within)
+    c.of-forward.ensures.narrow c.of-forward.ensures.forward
 
-pub returns-in-Ok-clause-known : goal.returns-in-Ok-clause-known
-returns-in-Ok-clause-known c =
-    known-grown c.args.known.now.keys c.insert_full.new.self.keys c.of-forward.result.0 c.requires.known
+pub returns-clause-known : goal.returns-clause-known
+returns-clause-known c =
+    known-grown c.args.known.now.keys c.add_known.new.known.keys c.of-forward.result.0 c.requires.known
     (ap is_wide c.of-forward.ensures.value
     ∙ widened-wide _ c.of-forward.ensures.narrow c.requires.wide) (sym c.in_default.ensures.found) (grind arith)
