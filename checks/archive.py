@@ -1,9 +1,10 @@
 #!/usr/bin/env python3
-"""The catalogue of an archive, `python -m capt.archive`, over captures whose facts, conversations, digests and merged bytes are
-worked out by hand: what each command prints and how it ends, what is in the tables, that the reports add up; a run that is killed
-or interrupted goes on, one process writes; unchanged captures are left out, changed ones are read again, bad ones are named and
-gone on over; a digest that is no longer so; captures merged in rounds; engines that have `map`, dask's too where it is installed;
-and what docs/ARCHIVE.md shows. No libcapt.so is there.
+"""The catalogue of an archive, `python -m capt.archive`, over captures whose facts, conversations, digests and merged
+bytes are worked out by hand: what each command prints and how it ends, what is in the tables, that the reports add up,
+with conversations of IPv6 and without; a run that is killed or interrupted goes on, one process writes; unchanged
+captures are left out, changed ones are read again, bad ones are named and gone on over; a digest that is no longer so;
+captures merged in rounds; engines that have `map`, dask's too where it is installed; catalogues of either version; and
+what docs/ARCHIVE.md shows. No libcapt.so is there.
 
 Use: checks/archive.py [PROGRAM]     (as after `rt run` or `rt ci` in crates/capt; less than a minute)"""
 import sys
@@ -14,7 +15,8 @@ import hashlib, json, os, re, shutil, signal, sqlite3, stat, struct, subprocess,
 from contextlib import closing
 from multiprocessing.pool import ThreadPool
 
-from captures import PROGRAM, SECTION, TOP, Count, block, datagram, packet, pcap_header, record, udp
+from captures import (ENDS_6, PROGRAM, SECTION, TOP, Count, block, datagram, fragment_header, ipv6, packet, pcap_header,
+                      record, udp)
 
 PACKAGE = os.path.join(TOP, "bindings", "python")
 ENDS = 0x0A000001, 0x0A000002
@@ -23,6 +25,15 @@ ANSWER = datagram(udp((2000, 1000), b"you"), ends=ENDS[::-1])
 OTHER = datagram(udp((7, 9)), ends=(0x0A000003, 0x0A000004))
 PING = datagram(b"ping", protocol=1, ends=(0x0A000004, 0x0A000001))
 FIRST, REST = datagram(bytes(8), 0, True), datagram(b"rest", 8)
+# a datagram of IPv4 in fragments, and one whose UDP length is wrong
+JOINED = datagram(udp((1, 2), b"12345678")[:8], 0, True), datagram(b"12345678", 8)
+BAD = datagram(bytes(4) + b"\0\x04" + bytes(2), 0, True), REST
+# of IPv6: UDP there and back, ICMPv6, and a datagram in fragments; a header has 40 bytes, and that of a fragment 8
+TALK_6 = ipv6(udp((1000, 2000), b"hi"))
+ANSWER_6 = ipv6(udp((2000, 1000), b"you"), ends=ENDS_6[::-1])
+PING_6 = ipv6(b"ping", 58, (0xFE80 << 112 | 1, 0xFF02 << 112 | 1))
+FIRST_6, REST_6 = (ipv6(fragment_header(17, start, not start, 7) + data, 44) for start, data in
+                   ((0, udp((1, 2), b"rest")[:8]), (8, b"rest")))
 
 
 def pcap(*packets, link=101):
@@ -209,9 +220,11 @@ def check_ends(count, archive):
     for want in ("10.0.0.1:53", "10.0.0.1", "[2001:db8::1]:443", "2001:db8::1", "[::1]:0"):
         seen = lines._end_text(*commands.end_of(want))
         count.check(f"the end {want}, printed", seen == want, seen)
+    seen = archive.run("index", "ends.db", "--ipv6", "one.pcap")
+    count.check("ends: index", seen[0] == 0, seen)
     for words in (["2001:db8::1"], ["[2001:db8::1]:53", "--talks"]):
-        seen = archive.run("index", "ends.db", "one.pcap"), archive.run("find", "ends.db", *words)
-        count.check(f"find {words}", seen[1] == (0, "", ""), seen)
+        seen = archive.run("find", "ends.db", *words)
+        count.check(f"find {words}", seen == (0, "", ""), seen)
 
 
 def check_times(count, archive):
@@ -272,12 +285,11 @@ def check_bad(count, archive):
 
 def check_fragments(count, archive):
     """Captures that have fragments are named, where the reports needn't add up: also if only their datagram is bad."""
-    bad = datagram(bytes(4) + b"\0\x04" + bytes(2), 0, True), datagram(b"rest", 8)
     archive.put("first.pcap", pcap((1, FIRST)))
     archive.put("rest.pcap", pcap((2, REST)))
-    archive.put("joined.pcap", pcap((1, datagram(udp((1, 2), b"12345678")[:8], 0, True)), (2, datagram(b"12345678", 8))))
+    archive.put("joined.pcap", pcap((1, JOINED[0]), (2, JOINED[1])))
     # its list is longer than a pipe holds
-    archive.put("bad.pcap", pcap((1, bad[0]), (2, bad[1]), *[(3, b"\x45")] * 2000))
+    archive.put("bad.pcap", pcap((1, BAD[0]), (2, BAD[1]), *[(3, b"\x45")] * 2000))
     archive.put("worse.pcap", pcap((1, b"\x45")))
     names = ["first.pcap", "rest.pcap", "joined.pcap", "bad.pcap", "worse.pcap"]
     seen = archive.run("index", "fragments.db", *names)
@@ -287,6 +299,222 @@ def check_fragments(count, archive):
             "frames other-link 0 not-ipv4 0 short 0 cut 0 bad 2003 unjoined 2 counted 2\njoined 1 given-up 0\ntalks 1\nsums is-report no\n"
             + "".join(f"fragments name {name}\n" for name in sorted(names[:4])))
     count.check("fragments: totals", seen == (0, want, ""), seen, want)
+
+
+# three captures of both networks: an IPv4 packet in the first, one of neither network in the second
+BOTH = {"six.pcap": pcap((1, TALK_6), (2, ANSWER_6), (3, TALK)),
+        "ping.pcapng": pcapng((4 * 10**6, TALK_6), (5 * 10**6, PING_6), (6 * 10**6, b"\x10")),
+        "later.pcap": pcap((9, TALK_6))}
+SUMS_6 = f"""files 3
+total packets 7 bytes {50 + 51 + 30 + 50 + 44 + 1 + 50} truncated 0
+frames other-link 0 not-ip 1 short 0 cut 0 bad 0 unjoined 0 counted 6
+joined 0 given-up 0
+talks 3
+"""
+TALKS_6 = ("talk udp [2001:db8::1]:1000 [2001:db8::2]:2000 forward 3 150 backward 1 51 "
+           "first 1+0/1000000 last 9+0/1000000")
+PINGS_6 = "talk p58 fe80::1 ff02::1 forward 1 44 backward 0 0 first 5+0/1000000 last 5+0/1000000"
+TALKS_4 = "talk udp 10.0.0.1:1000 10.0.0.2:2000 forward 1 30 backward 0 0 first 3+0/1000000 last 3+0/1000000"
+
+
+def lines_of_report(archive, names):
+    """What the program reports of captures, with conversations of IPv6, but for the lines of the files."""
+    words = [archive.program, "report", "--ipv6", *map(archive.path, names)]
+    told = subprocess.run(words, stdout=subprocess.PIPE, check=True).stdout.decode()
+    return sorted(line for line in told.splitlines() if not line.startswith("file "))
+
+
+def check_both(count, archive):
+    """A catalogue that is made with --ipv6 has conversations of IPv6 too, and goes on so without the word."""
+    for name, content in BOTH.items():
+        archive.put(name, content)
+    for words, files, read in [(["--ipv6", "six.pcap", "ping.pcapng"], 2, 2), (["six.pcap", "later.pcap"], 2, 1),
+                               (["--ipv6", "later.pcap"], 1, 0), (["--again", "ping.pcapng"], 1, 1)]:
+        seen = archive.run("index", "archive.db", *words)
+        want = f"indexed files {files} read {read} unchanged {files - read} not-whole 0\n"
+        count.check(f"both: index {words}", seen == (0, want, ""), seen)
+
+    def capture(name, packets, size, *span):
+        first, last = (f"{second}+0/1000000" for second in span)
+        return f"capture talks 1 packets {packets} bytes {size} first {first} last {last} name {name}\n"
+
+    six, four = capture("six.pcap", 2, 101, 1, 2), capture("six.pcap", 1, 30, 3, 3)
+    talk, ping = capture("ping.pcapng", 1, 50, 4, 4), capture("ping.pcapng", 1, 44, 5, 5)
+    later = capture("later.pcap", 1, 50, 9, 9)
+    for words, want in [
+        *(([word], later + talk + six) for word in (
+            "2001:db8::1", "2001:DB8:0:0:0:0:0:1", "2001:0db8::0.0.0.1", "[2001:db8::1]:1000",
+            "[2001:0db8:0::0:1]:01000", "2001:db8::2", "[2001:db8::2]:2000")),
+        *(([word], "") for word in (
+            "[2001:db8::1]:2000", "2001:db8::1:1000", "2001:db8::3", "[ff02::1]:0", "::ffff:10.0.0.1", "10.0.0.3",
+            "::")),
+        (["ff02::1"], ping), (["fe80::1"], ping), (["10.0.0.1"], four), (["10.0.0.2:2000"], four),
+        (["2001:db8::1", "--to", "2"], six), (["2001:db8::1", "--from", "2.000001", "--to", "4"], talk),
+        (["[2001:db8::1]:1000", "--from", "4.5"], later), (["fe80::1", "--from", "5.5"], ""),
+        (["2001:db8::2", "--to", "1", "--talks"], "talk udp [2001:db8::1]:1000 [2001:db8::2]:2000 forward 1 50 "
+         "backward 1 51 first 1+0/1000000 last 2+0/1000000 name six.pcap\n"),
+    ]:
+        seen = archive.run("find", "archive.db", *words)
+        count.check(f"both: find {words}", seen == (0, want, ""), seen)
+    for words, want in [([], [TALKS_6, PINGS_6, TALKS_4]), (["--count", "1", "--by", "packets"], [TALKS_6])]:
+        seen = archive.run("top", "archive.db", *words)
+        count.check(f"both: top {words}", seen == (0, "".join(f"{line}\n" for line in want), ""), seen)
+    seen = archive.run("totals", "archive.db", "--talks")
+    want = f"{SUMS_6}{TALKS_4}\n{TALKS_6}\n{PINGS_6}\nsums is-report yes\n"
+    count.check("both: totals", seen == (0, want, ""), seen)
+    told = lines_of_report(archive, BOTH)
+    count.check("both: the report over all", told == sorted([*SUMS_6.splitlines(), TALKS_4, TALKS_6, PINGS_6]), told)
+    seen = archive.run("verify", "archive.db")
+    count.check("both: verify", seen == (0, "verified files 3 same 3 changed 0\n", ""), seen)
+    seen = archive.run("totals", "archive.db", "--json")
+    frames = [it for it in map(json.loads, seen[1].splitlines()) if it["type"] == "frames"]
+    want = {"type": "frames", "other_link": 0, "not_ip": 1, "short": 0, "cut": 0, "bad": 0, "unjoined": 0, "counted": 6}
+    count.check("both: totals as JSON", seen[0] == 0 and frames == [want], seen)
+    seen = archive.run("find", "archive.db", "FE80::1", "--talks", "--json")
+    want = {"type": "talk", "protocol": 58, "a": {"address": "fe80::1"}, "b": {"address": "ff02::1"},
+            "forward": {"packets": 1, "bytes": 44}, "backward": {"packets": 0, "bytes": 0}, "first": [5, 0, 1000000],
+            "last": [5, 0, 1000000], "path": "ping.pcapng"}
+    count.check("both: find as JSON", seen[0] == 0 and list(map(json.loads, seen[1].splitlines())) == [want], seen)
+    seen = archive.rows("SELECT protocol, a, a_port, b, b_port FROM talks JOIN files ON id = file "
+                        "WHERE path LIKE '%ping%'")
+    want = [(17, "2001:db8::1", 1000, "2001:db8::2", 2000), (58, "fe80::1", None, "ff02::1", None)]
+    count.check("both: the table talks", seen == want, seen)
+    seen = archive.rows("SELECT path, not_ip, unjoined, counted, fragments FROM totals JOIN files ON id = file "
+                        "ORDER BY path")
+    want = [(archive.path(name), *counts) for name, *counts in
+            [("later.pcap", 0, 0, 1, 0), ("ping.pcapng", 1, 0, 2, 0), ("six.pcap", 0, 0, 3, 0)]]
+    count.check("both: the table totals", seen == want, seen)
+
+
+def check_both_fragments(count, archive):
+    """Fragments of IPv6 are unjoined, and the reports add up; captures that have some of IPv4 are named, as without
+    --ipv6."""
+    whole = ipv6(fragment_header(17) + udp((1, 2)), 44)
+    captures = {"half.pcap": [FIRST_6], "other half.pcap": [REST_6], "bad.pcap": [FIRST_6, b"\x60", b"\x45"],
+                "whole.pcap": [whole]}
+    more = {"four.pcap": [FIRST_6, FIRST], "joined.pcap": [REST_6, *JOINED], "worse.pcap": [FIRST_6, *BAD],
+            "only bad.pcap": [*BAD, b"\x60"]}
+    for name, packets in {**captures, **more}.items():
+        archive.put(name, pcap(*enumerate(packets, 1)))
+    seen = archive.run("index", "six.db", "--ipv6", *captures)
+    count.check("fragments of IPv6: index", seen[0] == 0, seen)
+    seen = archive.run("totals", "six.db")
+    want = (f"files 4\ntotal packets 6 bytes {56 + 52 + 56 + 1 + 1 + 56} truncated 0\n"
+            "frames other-link 0 not-ip 0 short 0 cut 0 bad 2 unjoined 3 counted 1\njoined 0 given-up 0\ntalks 1\n")
+    count.check("fragments of IPv6: totals", seen == (0, f"{want}sums is-report yes\n", ""), seen)
+    told = lines_of_report(archive, captures)
+    line = "talk udp [2001:db8::1]:1 [2001:db8::2]:2 forward 1 56 backward 0 0 first 1+0/1000000 last 1+0/1000000"
+    count.check("fragments of IPv6: the report over all", told == sorted([*want.splitlines(), line]), told)
+    seen = archive.run("index", "six.db", *more)
+    count.check("fragments of both: index", seen[0] == 0, seen)
+    seen = archive.run("totals", "six.db")
+    want = (f"files 8\ntotal packets 17 bytes {222 + 56 + 28 + 52 + 28 + 28 + 56 + 28 + 24 + 28 + 24 + 1} truncated 0\n"
+            "frames other-link 0 not-ip 0 short 0 cut 0 bad 7 unjoined 7 counted 3\njoined 1 given-up 0\ntalks 2\n"
+            "sums is-report no\n" + "".join(f"fragments name {name}\n" for name in sorted(more)))
+    count.check("fragments of both: totals", seen == (0, want, ""), seen, want)
+    # without the word the fragments of IPv6 are none
+    seen = archive.run("index", "four.db", *captures, "four.pcap"), archive.run("totals", "four.db")
+    want = (f"files 5\ntotal packets 8 bytes {222 + 56 + 28} truncated 0\n"
+            "frames other-link 0 not-ipv4 6 short 0 cut 0 bad 1 unjoined 1 counted 0\njoined 0 given-up 0\ntalks 0\n"
+            "sums is-report no\nfragments name four.pcap\n")
+    count.check("fragments of IPv6: without the word", seen[1] == (0, want, ""), seen)
+
+
+# the tables of version 1, as the package for capt 1.0.0 makes them, and a capture in them
+VERSION_1 = """
+CREATE TABLE files (
+    id INTEGER PRIMARY KEY, path NOT NULL UNIQUE, size INTEGER, mtime_ns INTEGER, digest TEXT, format TEXT,
+    packets INTEGER, bytes INTEGER, first TEXT, last TEXT, first_ns INTEGER, last_ns INTEGER, outcome TEXT NOT NULL);
+CREATE INDEX files_digest ON files (digest);
+CREATE TABLE talks (
+    file INTEGER NOT NULL REFERENCES files, protocol INTEGER NOT NULL, a TEXT NOT NULL, a_port INTEGER, b TEXT NOT NULL,
+    b_port INTEGER, forward_packets INTEGER NOT NULL, forward_bytes INTEGER NOT NULL,
+    backward_packets INTEGER NOT NULL, backward_bytes INTEGER NOT NULL, first TEXT, last TEXT, first_ns INTEGER,
+    last_ns INTEGER);
+CREATE INDEX talks_file ON talks (file);
+CREATE TABLE totals (
+    file INTEGER PRIMARY KEY REFERENCES files, truncated INTEGER NOT NULL, backward INTEGER NOT NULL,
+    untimed INTEGER NOT NULL, skipped INTEGER NOT NULL, interfaces INTEGER NOT NULL, other_link INTEGER NOT NULL,
+    not_ipv4 INTEGER NOT NULL, short INTEGER NOT NULL, cut INTEGER NOT NULL, bad INTEGER NOT NULL,
+    unjoined INTEGER NOT NULL, counted INTEGER NOT NULL, joined INTEGER NOT NULL, given_up INTEGER NOT NULL,
+    fragments INTEGER NOT NULL);
+CREATE INDEX talks_a ON talks (a, a_port);
+CREATE INDEX talks_b ON talks (b, b_port);
+INSERT INTO files VALUES
+    (1, '/gone.pcap', 70, 0, 'ab', 'pcap', 2, 29, '7+0/1', '7+0/1', 7000000000, 7000000000, 'whole');
+INSERT INTO talks VALUES
+    (1, 17, '10.0.0.1', 1000, '10.0.0.2', 2000, 1, 28, 0, 0, '7+0/1', '7+0/1', 7000000000, 7000000000);
+INSERT INTO totals VALUES (1, 0, 0, 0, 0, 1, 0, 1, 0, 0, 0, 0, 1, 0, 0, 0);
+PRAGMA application_id = 1667330164;
+PRAGMA user_version = 1;
+"""
+
+
+def check_versions(count, archive):
+    """A catalogue says by its version whether it has conversations of IPv6, and stays so; one of an unknown version is
+    refused."""
+    for name, content in BOTH.items():
+        archive.put(name, content)
+    with closing(sqlite3.connect(archive.path("old.db"))) as connection:
+        connection.executescript(VERSION_1)
+    seen = archive.run("index", "old.db", "six.pcap")
+    count.check("versions: an old catalogue", seen == (0, "indexed files 1 read 1 unchanged 0 not-whole 0\n", ""), seen)
+    seen = archive.run("find", "old.db", "10.0.0.1")
+    want = ("capture talks 1 packets 1 bytes 28 first 7+0/1 last 7+0/1 name /gone.pcap\n"
+            "capture talks 1 packets 1 bytes 30 first 3+0/1000000 last 3+0/1000000 name six.pcap\n")
+    count.check("versions: find in it", seen == (0, want, ""), seen)
+    seen = archive.run("totals", "old.db")
+    want = f"files 2\ntotal packets 5 bytes {29 + 131} truncated 0\nframes other-link 0 not-ipv4 3 "
+    count.check("versions: totals of it", seen[0] == 0 and seen[1].startswith(want), seen)
+    for words in ["index", "new.db", "six.pcap"], ["index", "both.db", "--ipv6", "six.pcap"]:
+        seen = archive.run(*words)
+        count.check(f"versions: {words}", seen[0] == 0, seen)
+    names = "SELECT group_concat(name) FROM pragma_table_info('{}')"
+    for table in "files", "talks", "totals":
+        seen = [archive.rows(names.format(table), archive.path(name))[0][0] for name in ("old.db", "new.db", "both.db")]
+        want = seen[0].replace("not_ipv4", "not_ip")
+        count.check(f"versions: the columns of {table}", seen == [seen[0], seen[0], want], seen)
+    for name, version in ("old.db", 1), ("new.db", 1), ("both.db", 2):
+        seen = archive.rows("PRAGMA user_version", archive.path(name))
+        count.check(f"versions: that of {name}", seen == [(version,)], seen)
+    said = "python -m capt.archive: {}: it was made without --ipv6; leave the word out, or name a new catalogue\n"
+    nothing = ("python -m capt.archive: {}: it has no conversations of IPv6; `index --ipv6` makes a new catalogue that "
+               "has\n")
+    for name in "old.db", "new.db":
+        for words, want in [(["index", name, "--ipv6", "later.pcap"], said), (["find", name, "2001:db8::1"], nothing),
+                            (["find", name, "[2001:db8::1]:1000", "--talks", "--json"], nothing)]:
+            before = tables(archive, archive.path(name))
+            seen = archive.run(*words)
+            is_so = seen == (1, "", want.format(name)) and tables(archive, archive.path(name)) == before
+            count.check(f"versions: {words}", is_so, seen)
+    sys.path.insert(0, PACKAGE)
+    from capt import archive as package
+
+    class Here:
+        map = staticmethod(map)
+
+    with package.writing(archive.path("here.db"), ipv6=True) as catalogue:
+        paths = map(archive.path, BOTH)
+        found = [it.outcome for it, _ in package.index(catalogue, paths, Here(), program=archive.program)]
+        seen = [(os.path.basename(it.path), it.talk[5:9]) for it in catalogue.find("2001:0DB8::1", 1000)]
+        want = [("later.pcap", (1, 50, 0, 0)), ("ping.pcapng", (1, 50, 0, 0)), ("six.pcap", (1, 50, 1, 51))]
+        count.check("versions: from a program", catalogue.ipv6 and found == ["whole"] * 3 and seen == want, found, seen)
+    for name, wanted, refused in [("here.db", None, False), ("here.db", True, False), ("here.db", False, True),
+                                  ("new.db", None, False), ("new.db", False, False), ("new.db", True, True)]:
+        try:
+            with package.writing(archive.path(name), ipv6=wanted) as catalogue:
+                seen = catalogue.ipv6
+        except package.ArchiveError as error:
+            seen = error
+        is_so = isinstance(seen, package.ArchiveError) if refused else seen == (name == "here.db")
+        count.check(f"versions: {name}, opened with {wanted}", is_so, seen)
+    with closing(sqlite3.connect(archive.path("new.db"))) as connection:
+        connection.execute("PRAGMA user_version = 3")
+    said = "python -m capt.archive: new.db: it is a catalogue of version 3, and this package reads versions 1 and 2\n"
+    for words in (["find", "new.db", "10.0.0.1"], ["index", "new.db", "six.pcap"],
+                  ["index", "new.db", "--ipv6", "six.pcap"]):
+        seen = archive.run(*words)
+        count.check(f"versions: another, {words}", seen == (1, "", said), seen)
 
 
 def check_again(count, archive):
@@ -597,7 +825,7 @@ def check_page(count, folder, program):
 
 
 CHECKS = (check_engines, check_killed, check_answers, check_merge, check_wrong, check_times, check_ends, check_again,
-          check_bad, check_fragments,
+          check_bad, check_fragments, check_both, check_both_fragments, check_versions,
           check_duplicates)
 
 

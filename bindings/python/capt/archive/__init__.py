@@ -15,6 +15,8 @@ futures of them, in the order of the items. `concurrent.futures` has such object
     with archive.reading("archive.db") as catalogue:
         for talk in catalogue.find("10.0.0.1"):
             print(talk.path, talk.first, talk.last)
+
+A catalogue that is made by `archive.writing("archive.db", ipv6=True)` has conversations of IPv6 too.
 """
 from .catalogue import Catalogue, Entry, Found, NotWhole, Totals, TalkRow, reading, writing
 from .engines import Engine, local, results

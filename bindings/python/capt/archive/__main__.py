@@ -1,6 +1,5 @@
 """The command line: `python -m capt.archive index | find | top | duplicates | verify | totals | merge`."""
 import argparse
-import ipaddress
 import os
 import re
 import shutil
@@ -14,9 +13,9 @@ from fractions import Fraction
 from itertools import groupby
 from typing import Any, Iterable, Iterator, List, Optional, Tuple
 
-from . import catalogue, engines, indexing, lines, merging
+from . import catalogue, ends, engines, indexing, lines, merging
 from .errors import ArchiveError
-from .program import CLASSES, JOINED, is_whole
+from .program import JOINED, classes, is_whole
 
 _NAME = "python -m capt.archive"
 _EPOCH = datetime(1970, 1, 1, tzinfo=timezone.utc)
@@ -28,24 +27,14 @@ def end_of(text: str) -> Tuple[str, Optional[int]]:
     found = bracketed or re.fullmatch("([^:]*):([^:]*)", text)
     address, port = found.groups() if found else (text, None)
     try:
-        address = _ipv6_text(address) if bracketed or ":" in address else str(ipaddress.IPv4Address(address))
+        if bracketed and ":" not in address:
+            raise ValueError(text)
+        address = ends.address_of(address)
     except ValueError:
         raise argparse.ArgumentTypeError(f"{text}: an address is one of IPv4 or IPv6, as 10.0.0.1 or 2001:db8::1")
     if port is not None and not (re.fullmatch("[0-9]{1,5}", port) and int(port) < 65536):
         raise argparse.ArgumentTypeError(f"{text}: a port is a number from 0 to 65535")
     return address, None if port is None else int(port)
-
-
-def _ipv6_text(text: str) -> str:
-    """An IPv6 address as capt prints it, which has no other form for one that maps an IPv4 address; newer versions of
-    Python have. No packet has an address with a zone, as fe80::1%eth0."""
-    if "%" in text:
-        raise ValueError(text)
-    address = ipaddress.IPv6Address(text)
-    if address.ipv4_mapped is None:
-        return str(address)
-    low = int(address) & 0xFFFFFFFF
-    return f"::ffff:{low >> 16:x}:{low & 0xFFFF:x}"
 
 
 def instant(text: str) -> Fraction:
@@ -126,6 +115,7 @@ def words_of(command: str) -> argparse.ArgumentParser:
     words.archive().reads()
     if command == "index":
         words.files().works().tells().add("--again", action="store_true", help="read unchanged captures too")
+        words.add("--ipv6", action="store_true", help="make a catalogue that has conversations of IPv6 too")
     if command == "verify":
         words.works().tells()
     if command == "find":
@@ -195,7 +185,7 @@ def engine_of(words: argparse.Namespace) -> Iterator[engines.Engine]:
 def index(words: argparse.Namespace) -> int:
     """Reads captures into the catalogue."""
     paths, counts, progress = paths_of(words), Counter(), lines.Progress(words.progress)
-    with catalogue.writing(words.archive) as archive, engine_of(words) as engine:
+    with catalogue.writing(words.archive, words.ipv6 or None) as archive, engine_of(words) as engine:
         how = {"program": words.program, "allow_cut": words.allow_cut, "again": words.again}
         for found, is_new in indexing.index(archive, paths, engine, **how):
             counts["read" if is_new else "unchanged"] += 1
@@ -282,7 +272,7 @@ def totals(words: argparse.Namespace) -> int:
     """The reports over each capture, added up, as `report` prints one; and whether that is the report over them."""
     with catalogue.reading(words.archive) as archive:
         found = archive.totals()
-        put_counts(found, words.json)
+        put_counts(found, classes(archive.ipv6), words.json)
         for talk in archive.talks() if words.talks else ():
             lines.put_talk(talk, words.json)
         is_report = not found.fragments
@@ -295,10 +285,10 @@ def totals(words: argparse.Namespace) -> int:
         return 1 if missing else 0
 
 
-def put_counts(found: catalogue.Totals, as_json: bool) -> None:
-    """Prints the counts of a report, line by line."""
+def put_counts(found: catalogue.Totals, frames: Tuple[str, ...], as_json: bool) -> None:
+    """Prints the counts of a report, line by line, where the line `frames` has these classes."""
     counts = {"files": found.files, **found.counts}
-    kinds = {"files": ("files",), "total": ("packets", "bytes", "truncated"), "frames": CLASSES, "joined": JOINED,
+    kinds = {"files": ("files",), "total": ("packets", "bytes", "truncated"), "frames": frames, "joined": JOINED,
              "talks": ("talks",)}
     for kind, names in kinds.items():
         facts = {name: counts[name] for name in names}

@@ -7,14 +7,16 @@ from fractions import Fraction
 from typing import Any, Dict, Iterable, Iterator, List, NamedTuple, Optional, Tuple, Union
 from urllib.parse import quote
 
+from . import ends
 from .errors import ArchiveError
-from .program import CHECKED, CLASSES, JOINED, Found, Talk, is_whole, nanoseconds
+from .program import CHECKED, JOINED, Found, Talk, classes, is_whole, nanoseconds
 
-# `application_id` marks a database as a catalogue, `user_version` is that of its tables
-_MARK, _VERSION = 0x63617074, 1
+# `application_id` marks a database as a catalogue. `user_version` is that of its tables: those of version 2 have
+# conversations of IPv6 too, and the column `not_ip` in place of `not_ipv4`.
+_MARK = 0x63617074
+_VERSIONS = {1: False, 2: True}
 _FACTS = ("digest", "format", "packets", "bytes", "first", "last", "first_ns", "last_ns")
-_COUNTS = (*CHECKED, *CLASSES, *JOINED, "fragments")
-_TABLES = f"""
+_TABLES = """
 CREATE TABLE files (
     id INTEGER PRIMARY KEY, path NOT NULL UNIQUE, size INTEGER, mtime_ns INTEGER, digest TEXT, format TEXT,
     packets INTEGER, bytes INTEGER, first TEXT, last TEXT, first_ns INTEGER, last_ns INTEGER, outcome TEXT NOT NULL);
@@ -25,10 +27,6 @@ CREATE TABLE talks (
     backward_packets INTEGER NOT NULL, backward_bytes INTEGER NOT NULL, first TEXT, last TEXT, first_ns INTEGER,
     last_ns INTEGER);
 CREATE INDEX talks_file ON talks (file);
-CREATE TABLE totals (
-    file INTEGER PRIMARY KEY REFERENCES files, {", ".join(f"{name} INTEGER NOT NULL" for name in _COUNTS)});
-PRAGMA application_id = {_MARK};
-PRAGMA user_version = {_VERSION};
 """
 # the indexes by ends, whose pages are written all over: many captures are put in first, and then all is indexed at once
 _BY_ENDS = ("a", "b")
@@ -98,11 +96,28 @@ def _path(column: Union[str, bytes]) -> str:
     return os.fsdecode(column) if isinstance(column, bytes) else column
 
 
-class Catalogue:
-    """The catalogue of an open database. `reading` and `writing` open one."""
+def _counted(ipv6: bool) -> Tuple[str, ...]:
+    """The columns of the table `totals`, with conversations of IPv6 or without."""
+    return (*CHECKED, *classes(ipv6), *JOINED, "fragments")
 
-    def __init__(self, connection: sqlite3.Connection):
-        self._database = connection
+
+def _tables(ipv6: bool) -> str:
+    """What makes the tables, with conversations of IPv6 or without."""
+    columns = ", ".join(f"{name} INTEGER NOT NULL" for name in _counted(ipv6))
+    version, = (version for version, has_ipv6 in _VERSIONS.items() if has_ipv6 == ipv6)
+    return f"""{_TABLES}
+CREATE TABLE totals (file INTEGER PRIMARY KEY REFERENCES files, {columns});
+PRAGMA application_id = {_MARK};
+PRAGMA user_version = {version};
+"""
+
+
+class Catalogue:
+    """The catalogue of an open database. `reading` and `writing` open one. `ipv6` says whether it has conversations of
+    IPv6 too."""
+
+    def __init__(self, connection: sqlite3.Connection, path: str, ipv6: bool):
+        self._database, self._path, self.ipv6 = connection, path, ipv6
 
     def known(self) -> Dict[str, Tuple[Optional[int], Optional[int], str]]:
         """The size, the time of the last change, and the outcome of each capture when it was read."""
@@ -133,7 +148,7 @@ class Catalogue:
             for table in ("talks", "totals"):
                 database.execute(f"DELETE FROM {table} WHERE file = ?", (file,))
             if found.counts:
-                counts = [found.counts[name] for name in _COUNTS]
+                counts = [found.counts[name] for name in _counted(self.ipv6)]
                 database.execute(f"INSERT INTO totals VALUES (?{', ?' * len(counts)})", (file, *counts))
             marks = ", ?" * len(Talk._fields)
             database.executemany(f"INSERT INTO talks VALUES (?{marks})", ((file, *talk) for talk in found.talks))
@@ -150,7 +165,12 @@ class Catalogue:
     def find(self, address: str, port: Optional[int] = None, since: Time = None,
              until: Time = None) -> Iterator[TalkRow]:
         """The conversations of an address, or of a port of it, in the order of the captures' paths. With `since` or
-        `until` those whose span, from their first packet to their last, meets the time between; none without a time."""
+        `until` those whose span, from their first packet to their last, meets the time between; none without a time.
+        An address of IPv6 is looked for only in a catalogue that has such ones: elsewhere this is an ArchiveError."""
+        address = ends.address_of(address)
+        if ":" in address and not self.ipv6:
+            raise ArchiveError(f"{self._path}: it has no conversations of IPv6; `index --ipv6` makes a new catalogue "
+                               "that has")
         is_end = "{0} = :address" + (" AND {0}_port = :port" if port is not None else "")
         span = " AND last_ns >= :since" * (since is not None) + " AND first_ns <= :until" * (until is not None)
         query = f"""SELECT files.path, {", ".join(f"talks.{name}" for name in Talk._fields)}
@@ -196,7 +216,7 @@ class Catalogue:
 
     def totals(self) -> Totals:
         """The reports over each whole capture, added up."""
-        names = ("packets", "bytes", *_COUNTS[:-1])
+        names = ("packets", "bytes", *_counted(self.ipv6)[:-1])
         counts, files, fragments = dict.fromkeys(names, 0), 0, []
         query = f"SELECT path, fragments, {', '.join(names)} FROM files JOIN totals ON file = id ORDER BY path"
         for path, has_fragments, *numbers in self._database.execute(query):
@@ -244,8 +264,8 @@ def _summed(rows: List[Tuple[Any, ...]]) -> Talk:
     return Talk(*rows[0][:5], *sums, *_timed(*spanned((row[9], row[10]) for row in rows)))
 
 
-def _checked(connection: sqlite3.Connection, path: str) -> Catalogue:
-    """The catalogue of a database, if it has the mark of one."""
+def _checked(connection: sqlite3.Connection, path: str, ipv6: Optional[bool] = None) -> Catalogue:
+    """The catalogue of a database, if it has the mark of one, and conversations of IPv6 or none, if that is said."""
     try:
         names = "application_id", "user_version"
         mark, version = (connection.execute(f"PRAGMA {name}").fetchone()[0] for name in names)
@@ -253,11 +273,17 @@ def _checked(connection: sqlite3.Connection, path: str) -> Catalogue:
         raise ArchiveError(f"{path}: it is no catalogue: {error}")
     if mark != _MARK:
         raise ArchiveError(f"{path}: it is no catalogue, but another database")
-    if version != _VERSION:
-        raise ArchiveError(f"{path}: it is a catalogue of version {version}, and this package reads version {_VERSION}")
+    if version not in _VERSIONS:
+        known = " and ".join(map(str, _VERSIONS))
+        raise ArchiveError(f"{path}: it is a catalogue of version {version}, and this package reads versions {known}")
+    has_ipv6 = _VERSIONS[version]
+    if ipv6 is True and not has_ipv6:
+        raise ArchiveError(f"{path}: it was made without --ipv6; leave the word out, or name a new catalogue")
+    if ipv6 is False and has_ipv6:
+        raise ArchiveError(f"{path}: it was made with --ipv6, so it is written with conversations of IPv6")
     # in KiB
     connection.execute("PRAGMA cache_size = -200000")
-    return Catalogue(connection)
+    return Catalogue(connection, path, has_ipv6)
 
 
 @contextmanager
@@ -270,21 +296,22 @@ def reading(path: str) -> Iterator[Catalogue]:
 
 
 @contextmanager
-def writing(path: str) -> Iterator[Catalogue]:
-    """Opens a catalogue for writing, and makes it if it isn't there. One process at a time writes it: another one gets
-    an ArchiveError."""
+def writing(path: str, ipv6: Optional[bool] = None) -> Iterator[Catalogue]:
+    """Opens a catalogue for writing, and makes it if it isn't there, with conversations of IPv6 too if `ipv6` is True.
+    If it is there, `ipv6` is None or what it was made with. One process at a time writes it: another one gets an
+    ArchiveError."""
     if os.path.exists(path):
         # a file that is no catalogue stays as it is
         with closing(_opened(path, "ro")) as connection:
             if not _is_empty(connection, path):
-                _checked(connection, path)
+                _checked(connection, path, ipv6)
     with _locked(path), closing(_opened(path, "rwc")) as connection:
         # a kill loses nothing that was put in; the captures are the copy of what a power failure may take
         for setting in ("journal_mode = WAL", "synchronous = NORMAL", "wal_autocheckpoint = 50000"):
             connection.execute(f"PRAGMA {setting}")
         if _is_empty(connection, path):
-            connection.executescript(f"BEGIN; {_TABLES} COMMIT;")
-        yield _checked(connection, path)
+            connection.executescript(f"BEGIN; {_tables(bool(ipv6))} COMMIT;")
+        yield _checked(connection, path, ipv6)
         # one file again, unless someone reads it now
         with suppress(sqlite3.OperationalError):
             connection.execute("PRAGMA busy_timeout = 0")

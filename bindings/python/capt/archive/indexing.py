@@ -21,7 +21,7 @@ def index(catalogue: Catalogue, paths: Iterable[str], engine: Engine, *, program
           again: bool = False) -> Iterator[Tuple[Found, bool]]:
     """Reads captures and puts each into the catalogue, as soon as it comes. Gives what was found of each, and True; or,
     if its size and the time of its last change are those that the catalogue has, what the catalogue has, and False.
-    With `again` each is read."""
+    With `again` each is read. Conversations of IPv6 are read if the catalogue has such ones."""
     known = {} if again else catalogue.known()
     waiting: Dict[str, int] = {}
     for path in dict.fromkeys(map(os.path.abspath, paths)):
@@ -34,7 +34,8 @@ def index(catalogue: Catalogue, paths: Iterable[str], engine: Engine, *, program
     ordered = sorted(waiting, key=lambda path: -waiting[path])
     run = time.time_ns()
     catalogue.begin(len(ordered))
-    for found in results(engine, look, (Task(program, path, allow_cut, run) for path in ordered)):
+    tasks = (Task(program, path, allow_cut, run, catalogue.ipv6) for path in ordered)
+    for found in results(engine, look, tasks):
         catalogue.put(found)
         yield found, True
     catalogue.end()

@@ -11,17 +11,22 @@ from .errors import ArchiveError
 MOST = 2**63 - 1
 # the counts of `check` and of the line `frames` and `joined` of `report`, by the columns of the table `totals`
 CHECKED = ("truncated", "backward", "untimed", "skipped", "interfaces")
-CLASSES = ("other_link", "not_ipv4", "short", "cut", "bad", "unjoined", "counted")
 JOINED = ("joined", "given_up")
 
 
+def classes(ipv6: bool) -> Tuple[str, ...]:
+    """The classes of packets in the line `frames`, with conversations of IPv6 or without."""
+    return ("other_link", "not_ip" if ipv6 else "not_ipv4", "short", "cut", "bad", "unjoined", "counted")
+
+
 class Task(NamedTuple):
-    """A capture to be read: by which program, under which name, and whether a cut end is dropped. `run` is another
-    number in each run, so that no engine returns what it kept of an earlier one."""
+    """A capture to be read: by which program, under which name, whether a cut end is dropped, and whether conversations
+    of IPv6 are read. `run` is another number in each run, so that no engine returns what it kept of an earlier one."""
     program: str
     path: str
     allow_cut: bool
     run: int
+    ipv6: bool = False
 
 
 class Talk(NamedTuple):
@@ -183,7 +188,7 @@ def _checked(task: Task) -> Tuple[Dict[str, Any], Dict[str, int], str]:
 def _reported(task: Task, outcome: str, talks: List[Talk]) -> Tuple[Dict[str, int], str]:
     """What `report` counts, and how the capture ended; puts its conversations in a list."""
     counts: Dict[str, int] = {}
-    for told in objects(_words(task, "report")):
+    for told in objects(_words(task, "report", *["--ipv6"] * task.ipv6)):
         kind = told.pop("type")
         if kind == "talk":
             talks.append(_talk(told))
@@ -191,17 +196,20 @@ def _reported(task: Task, outcome: str, talks: List[Talk]) -> Tuple[Dict[str, in
             counts.update(told)
         elif kind in ("refused", "fault"):
             return {}, fault_of({"type": kind, **told})
-    if not all(name in counts for name in CLASSES + JOINED):
+    if not all(name in counts for name in classes(task.ipv6) + JOINED):
         return {}, "fault no report"
     counts["fragments"] = int(_has_fragments(task, counts))
     return counts, outcome
 
 
 def _has_fragments(task: Task, counts: Dict[str, int]) -> bool:
-    """Whether a packet of a capture is a fragment. A fragment is unjoined, or its datagram is joined, or that datagram
-    is bad: only then the packets have to be listed."""
-    if counts["joined"] or counts["unjoined"] or not counts["bad"]:
-        return bool(counts["joined"] or counts["unjoined"])
+    """Whether a packet of a capture is a fragment of IPv4. If one is, its datagram is joined, or it is unjoined, or its
+    datagram is bad. Packets are also bad for other reasons, and fragments of IPv6 are unjoined, but never joined: so
+    these two counts don't always tell, and then the packets are listed, without IPv6."""
+    if counts["joined"] or counts["unjoined"] and not task.ipv6:
+        return True
+    if not counts["unjoined"] and not counts["bad"]:
+        return False
     try:
         with _running(_words(task, "list", "--class", "--data", "0")) as lines:
             # any line is looked at, but one of a fragment ends the run
