@@ -1,21 +1,22 @@
 #!/usr/bin/env python3
-"""docs/DEFINITIONS.md from the comments of specs/: what must be believed, file by file, in the order of crates.txt.
+"""Prints the page DEFINITIONS.md of the packages from the comments of specs/: each definition read aloud, file by file, in the order of
+crates.txt.
 
 What stands in specs/inner/ isn't listed. A file's comment heads its table; a row has the definitions that stand under one comment,
 with the comment. A file without a comment, or a definition above the first comment of its file, is named and makes the
-status 1.
+status 1: checks/papers.sh sees to that.
 
-Use: checks/definitions.py     prints the page, which checks/papers.sh compares
+Use: checks/definitions.py
 """
 import pathlib, re, sys, textwrap
 
 TOP = pathlib.Path(__file__).resolve().parent.parent
 HEAD = """# Definitions
 
-For verifiers: the definitions of `specs/`, read aloud. `checks/definitions.py` makes this page from the comments there,
-and `checks/papers.sh` compares it. Whole numbers are unlimited in a definition; a list counts from place 0.
-[TRUSTED.md](TRUSTED.md) has the ones on which one command rests. What stands in `specs/inner/`, what one crate promises
-another, need not be believed and isn't listed.
+For verifiers: the definitions of `specs/`, read aloud. In capt's repository `checks/definitions.py` prints this page
+from the comments there. Whole numbers are unlimited in a definition; a list counts from place 0.
+[TRUSTED.md](TRUSTED.md) lists the definitions on which each command depends. What stands in `specs/inner/`, what one
+crate promises another, need not be believed and isn't listed.
 """
 NAME = re.compile(r"^(?:(?:abbrev|unfoldable) )*pub (?:record |data )?([^\s:({]+)", re.M)
 

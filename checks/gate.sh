@@ -1,17 +1,16 @@
 #!/usr/bin/env bash
-# The gate, from nothing: a look at all edits by the compiler's front end, then `rt ci`, the other edits and the scripts of this
-# folder. Its last line adds up what they count: 'N passed, M failed'. The status is 0 if nothing failed.
+# The gate, from nothing: a look at all edits by the compiler's front end, then `rt ci`, the other edits, and the scripts of this folder
+# that checks/run runs. Its last line adds up what they count: 'N passed, M failed'. The status is 0 if nothing failed.
 #
-# `rt ci` proves crates one on another, often with one process at a time. So edits.py begins beside it, with what it leaves of the
-# processors: a crate's edits want the crates below it alone. The scripts begin once `rt ci` has ended.
+# `rt ci` proves crates one on another, often with one process at a time. So edits.py begins beside it: a crate's edits want the crates
+# below it alone. The scripts begin once `rt ci` has ended. All have one niceness, since what has a worse one starves beside the work of
+# others.
 #
 # It removes crates/*/out, so that nothing is taken from earlier runs: run it in a clone if you want to keep them.
 #
 # Use: checks/gate.sh     (the scripts want a C compiler, binutils and Python 3)
 set -u
 cd "$(dirname "$0")/.." || exit
-scripts=(program.sh edits_test.py clib.py devices.sh hints.py stack.sh papers.sh columns.py rounds.sh archive.py rows.py objects.py
-    invariance.py corpus.py hostile.py limits.py 'faults.py growths' 'faults.py devices')
 passed=0
 failed=0
 logs=$(mktemp -d)
@@ -47,14 +46,12 @@ if [ "$failed" != 0 ]; then
     exit 1
 fi
 
-# begin NAME NICENESS SCRIPT [WORD]..: runs a script of this folder in the background
+# begin SCRIPT [WORD]..: runs a script of this folder in the background
 begin() {
-    local name=$1 niceness=$2
-    shift 2
     {
-        nice -n "$niceness" "checks/$1" "${@:2}" > "$logs/$name" 2>&1
-        echo $? > "$logs/$name, its status"
-        ended "$name"
+        "checks/$1" "${@:2}" > "$logs/$1" 2>&1
+        echo $? > "$logs/$1, its status"
+        ended "$1"
     } &
 }
 
@@ -62,7 +59,8 @@ rm -rf crates/*/out
 anew=()
 if rt --help 2>&1 | grep -q -- '--anew'; then anew=(--anew); fi
 : > "$logs/rt-ci"
-begin edits.py 19 edits.py --beside "$logs/rt-ci"
+begin edits.py --beside "$logs/rt-ci"
+begin edits_test.py
 rt ci "${anew[@]}" 2>&1 | tee "$logs/rt-ci"
 counted rt-ci "${PIPESTATUS[0]}"
 # (so that edits.py doesn't wait for more, however it ended)
@@ -71,13 +69,11 @@ echo '0 passed, 0 failed' >> "$logs/rt-ci"
 if grep 'only because a proof file names what the edit took away' "$logs/rt-ci"; then failed=$((failed + 1)); fi
 ended 'rt ci'
 
-# program.sh times what it sees, so the others take only what it leaves of the processors
-for script in "${scripts[@]}"; do
-    # shellcheck disable=SC2086  # a script's name may have a word after it
-    begin "$script" "$([ "$script" = program.sh ] && echo 0 || echo 19)" $script
-done
+checks/run oracle devices surface library pages 2>&1 | tee "$logs/run"
+counted run "${PIPESTATUS[0]}"
+ended run
 wait
-for script in edits.py "${scripts[@]}"; do
+for script in edits.py edits_test.py; do
     cat "$logs/$script"
     counted "$script" "$(cat "$logs/$script, its status")"
 done

@@ -1,12 +1,14 @@
 #!/usr/bin/env bash
 # What the pages show is so:
 # - each line that begins with `$ ` in a block of README.md, docs/GUIDE.md or docs/RECIPES.md is run over a copy of examples/, with the
-#   lines that go on with it, and prints what stands under it, on both streams; the captures are made anew by examples/make.py;
-# - docs/RULES.md and the manual page have the numbers and names of the rules, whose definitions and functions stand where the first says;
-#   the manual page has the lines that the helps show; docs/CLAIMS.md has the lengths of what must be read and names each test,
-#   docs/TRUSTED.md has the definitions' names;
-# - each file that a page names or links to is there, and so is each heading; a block that names a file is a part of it; FILES has a
-#   row for each file of code;
+#   lines that go on with it, and prints what stands under it, on both streams; the captures are made anew by examples/make.py. Those of
+#   docs/VERIFYING.md are run in the top folder;
+# - docs/RULES.md and the manual page have the numbers and names of the rules, whose definitions stand where the first says;
+#   the manual page has the options of the helps, and the lines that they show;
+# - what docs/CLAIMS.md claims is carried by functions that are there, and watched by edits and tests (checks/claims.py); each definition
+#   has a comment (checks/definitions.py), each file says what it is (checks/files.py), and the definitions behind a command and a law are
+#   as many as the pages say (checks/trusted.py);
+# - each file that a page names or links to is there, and so is each heading; a block that names a file is a part of it;
 # - a page says for whom it is, has lines of 120 columns, and is as short as it is to be;
 # - the version, the kits and what the program needs are as README and others say; the manual page and the completions are read without a
 #   complaint, if the programs for them are there.
@@ -22,7 +24,7 @@ ln -s "$program" "$work/bin/capt"
 python3 "$top/examples/make.py" "$work/files"
 
 PATH="$work/bin:$PATH" python3 - "$top" "$work/files" <<'PY'
-import glob, os, re, shutil, subprocess, sys, tempfile
+import os, re, shutil, subprocess, sys, tempfile
 
 top, folder = sys.argv[1], sys.argv[2]
 passed = failed = 0
@@ -54,10 +56,28 @@ def status_after(text):
     refused = refused or any(" sha256 " not in line and '"sha256":' not in line for line in digested)
     return 1 if refused else 3 if text.startswith(("differ ", '{"type":"differ"')) else 0
 
+# how many words a page has at most
+LENGTHS = {
+    "README.md": 1_400,
+    "CONTRIBUTING.md": 1_500,
+    "docs/ARCHITECTURE.md": 1_300,
+    "docs/CHANGING.md": 1_800,
+    "docs/CLAIMS.md": 3_000,
+    "docs/DECISIONS.md": 1_800,
+    "docs/GUIDE.md": 3_200,
+    "docs/LIBRARY.md": 1_800,
+    "docs/PROOFS.md": 1_600,
+    "docs/RECIPES.md": 1_300,
+    "docs/RULES.md": 1_000,
+    "docs/VERIFYING.md": 2_300,
+}
+
 # A command goes on in the lines after it that begin with two spaces.
-for page in ("README.md", "docs/GUIDE.md", "docs/RECIPES.md"):
-    place = tempfile.mkdtemp(dir=os.path.dirname(folder))
-    shutil.copytree(f"{top}/examples", place, dirs_exist_ok=True)
+for page in ("README.md", "docs/GUIDE.md", "docs/RECIPES.md", "docs/VERIFYING.md"):
+    place = top
+    if page != "docs/VERIFYING.md":
+        place = tempfile.mkdtemp(dir=os.path.dirname(folder))
+        shutil.copytree(f"{top}/examples", place, dirs_exist_ok=True)
     for block in re.findall(r"^```\w*\n(.*?)^```$", text_of(page), re.M | re.S):
         for line, wanted in re.findall(r"^\$ (.*\n(?:  .*\n)*)((?:(?!\$ ).*\n)*)", block, re.M):
             if "jq " in line and not shutil.which("jq"):
@@ -82,6 +102,11 @@ lines = set(re.sub(r"^\.B |\\f.", "", page, flags=re.M).replace("\\-", "-").spli
 whole = re.sub(r"\n    (?=\w)", " ", text_of("checks/says.txt"))
 shown = set(re.findall(r"^  ((?:left out|files?|total|frames|joined|talks?|packet|block|same|differ|digest|check) \S.*)$", whole, re.M))
 judged("man/capt.1, lines", len(shown) == 17 and shown <= lines, f"{len(shown)} lines, lacks {sorted(shown - lines)}")
+# the manual has the options of the helps
+options = set(re.findall(r"^ +(?:-\w, )?(--[\w-]+)(?: |$)", text_of("checks/says.txt"), re.M))
+told = page[page.index("\n.SH OPTIONS\n"):page.index("\n.SH LINES\n")]
+told = {it.replace("\\-", "-") for it in re.findall(r"^\.TP\n\.B\w* [^\n]*?(\\-\\-[\w\\-]+)", told, re.M)}
+judged("man/capt.1, options", options and told == options, f"other options: {sorted(told ^ options)}")
 
 # a pipe into or out of capt fails if any of its programs does
 TASK = "(?:report|info|list|blocks|diff|digest|check|convert|merge|join)"
@@ -91,37 +116,30 @@ for page in ("README.md", "docs/GUIDE.md", "docs/RULES.md", "docs/RECIPES.md", "
     lost = [lines[n] for n in pipes if "pipefail" not in " ".join(lines[max(0, n - 2):n + 1])]
     judged(f"{page}, pipes", pipes and not lost, f"without pipefail: {lost}")
 
-ran = subprocess.run([f"{top}/checks/trusted.py"], capture_output=True, text=True)
-for command, definitions, lines, crates in re.findall(r"^(\w[\w -]*): (\d+) definitions, (\d+) lines \((.*)\)$", ran.stdout, re.M):
-    row = f"| `{command}` | {definitions} | {lines} | {crates} |"
-    judged(f"docs/CLAIMS.md, {command}", row in text_of("docs/CLAIMS.md"), f"wants the row {row}")
+def ran_check(*words):
+    return subprocess.run([f"{top}/checks/{words[0]}", *words[1:]], capture_output=True, text=True)
 
-# a test that a claim names is there, and each test is named
-claims = text_of("docs/CLAIMS.md")
-cells = [row.split("|")[3] for row in re.findall(r"^\|.*\|$", claims, re.M) if row.count("|") == 4]
-named = {test for cell in cells for test in re.findall(r"`([a-z_]\w*(?:::\w+)+)`", cell)}
-kept = set()
-for crate in ("cap_layer_tests", "cap_tests", "cap_tool_tests"):
-    for place, _, files in os.walk(f"{top}/crates/{crate}/src"):
-        for file in files:
-            path = os.path.relpath(f"{place}/{file}", f"{top}/crates/{crate}/src")
-            for test in re.findall(r"^#\[test\]\nfn (\w+)", text_of(f"crates/{crate}/src/{path}"), re.M):
-                kept.add(f"{path[:-3].replace('/', '::')}::{test}")
-judged("docs/CLAIMS.md, tests", named == kept, f"no such test: {sorted(named - kept)}; not named: {sorted(kept - named)}")
-
-page = subprocess.run([f"{top}/checks/trusted.py", "--page"], capture_output=True, text=True).stdout
-judged("docs/TRUSTED.md", page == text_of("docs/TRUSTED.md"), "isn't what checks/trusted.py --page prints")
-page = subprocess.run([f"{top}/checks/definitions.py"], capture_output=True, text=True)
-judged("docs/DEFINITIONS.md", page.stdout == text_of("docs/DEFINITIONS.md"), "isn't what checks/definitions.py prints")
-judged("docs/DEFINITIONS.md, comments", page.returncode == 0, page.stderr)
-ran_merge = re.search(r"^merge: (\d+) definitions, (\d+) lines", ran.stdout, re.M)
+# what the scripts that read the sources find
+ran = ran_check("claims.py", "--faults")
+judged("docs/CLAIMS.md", ran.returncode == 0 and not ran.stdout, ran.stdout + ran.stderr)
+ran = ran_check("definitions.py")
+judged("checks/definitions.py", ran.returncode == 0 and ran.stdout.startswith("# Definitions"), ran.stderr)
+ran = ran_check("files.py")
+judged("checks/files.py", ran.returncode == 0, ran.stderr)
+told = re.findall(r"^(\w[\w -]*): (\d+) definitions, (\d+) lines", ran_check("trusted.py").stdout, re.M)
+page = ran_check("trusted.py", "--page").stdout
+lost = [it for it in told if f"\n## capt {it[0]}\n\n{it[1]} definitions, {it[2]} lines.\n\n| file " not in page]
+judged("checks/trusted.py --page", len(told) >= 13 and not lost, f"lacks {lost} of {len(told)} commands")
+counts = {law: (int(count), int(lines)) for law, count, lines in re.findall(r"^(\w+): (\d+) definitions, (\d+) lines", ran_check("trusted.py", "--laws").stdout, re.M)}
+for law, count in re.findall(r"`(\w+)`(?: needs)? (\d+)\b", text_of("docs/VERIFYING.md")):
+    judged(f"docs/VERIFYING.md, {law}", counts.get(law, (None,))[0] == int(count), f"it needs {counts.get(law)}")
 readme = text_of("README.md")
 folders = [f"crates/{crate}/{part}" for crate in os.listdir(f"{top}/crates") for part in ("must-fail", "edits")]
 edits = [text_of(f"{folder}/{name}") for folder in folders for name in kept_in(f"{top}/{folder}")]
 judged("README.md, edits", f"{len(edits)} edits in" in readme, f"there are {len(edits)}")
 turned = len([edit for edit in edits if re.search(r"^file: specs/", edit, re.M)])
 judged("README.md, laws", f"statement of a law ({turned} of them)" in " ".join(readme.split()), f"there are {turned}")
-for number in ran_merge.groups():
+for number in dict((it[0], it[1:]) for it in told)["merge"]:
     judged("README.md, merge", f" {number} " in readme, f"wants {number}")
 
 # The files that a page names: by a path from `crates/`, or, after one in the same line, by a path from that crate or
@@ -201,14 +219,9 @@ for page in pages:
     long = [n for n, line in enumerate(prose.split("\n"), 1) if len(line) > 120 and not line.startswith("|")]
     judged(f"{page}, columns", not long, f"lines of more than 120 columns: {long}")
 judged("README.md, lines", readme.count("\n") <= 130, f"{readme.count(chr(10))} lines, at most 130")
-judged("README.md, words", len(readme.split()) <= 1_400, f"{len(readme.split())} words, at most 1,400")
-words = len(text_of("docs/DECISIONS.md").split())
-judged("docs/DECISIONS.md, words", words <= 3000, f"{words} words, at most 3,000")
-
-# each file of code has a row in FILES, but for those that only name others
-shown = text_of("docs/FILES.md")
-code = [file for file in glob.glob("crates/*/src/**/*.rt", root_dir=top, recursive=True) if not re.search(r"/cap_\w*tests/|/libcapt/|/(?:lib|table)\.rt$", file)]
-judged("docs/FILES.md, files", not (left := [file for file in code if os.path.basename(file) not in shown]), f"has no row for {left}")
+for page, most in LENGTHS.items():
+    words = len(text_of(page).split())
+    judged(f"{page}, words", words <= most, f"{words} words, at most {most:,}")
 
 # the version, and the kit that proves it, where they are told
 version = re.search(r'VERSION: &str =\s+"([^"]*)";', text_of("crates/cap_line/src/texts.rt"))[1]

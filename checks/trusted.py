@@ -4,9 +4,9 @@
 The texts of `report` and `join` are those by places (the laws `report_by_places` and `joined_by_places` of cap_laws), which name no step of the
 machine that the calls cite.
 
-Prints, for each command, how many definitions and lines these are, by crate; with a command's name, the definitions themselves,
-what stands on nothing first, under the comments that head their files; with --page, their names by file, as docs/TRUSTED.md has them. Words of the toolchain's library and
-the fields of the types in src/ aren't listed.
+It prints, for each command, how many definitions and lines these are, by crate. With a command's name it prints the definitions
+themselves, what depends on nothing first, under the comments that head their files. With --page it prints the page TRUSTED.md of the
+packages: their names by file. Words of the toolchain's library and the fields of the types in src/ aren't listed.
 
 With the name of a law, as `merge_sorts`, it prints the law's clauses and the definitions that they need beside those of the commands; with
 --laws, how many these are for each law.
@@ -14,9 +14,6 @@ With the name of a law, as `merge_sorts`, it prints the law's clauses and the de
 Use: checks/trusted.py [COMMAND | LAW | --laws | --page]
 """
 import pathlib, re, signal, sys
-
-# a reader of what is printed may stop, as `head` does
-signal.signal(signal.SIGPIPE, signal.SIG_DFL)
 
 TOP = pathlib.Path(__file__).resolve().parent.parent
 PRINTS, TELLS = "cap_bytes.Printing.Prints", "cap_talks.talks.Telling.Tells"
@@ -128,19 +125,24 @@ for path in sorted(TOP.glob("crates/*/specs/**/*.antt")):
 LAW = re.compile(r"^pub fn (\w+)\(\)\n((?:    ensures .*\n(?:        .*\n)*)+)", re.M)
 
 
+def named_in(clauses, text):
+    """The definitions that the clauses of a file of code name, by what the file imports."""
+    imports, wide = {}, {}
+    for crate, inner, names in re.findall(r"^ *ghost use Rattle\.(\w+)\.specs\.([\w.]+)\.\{([^}]*)\}", text, re.M):
+        imports |= {name.strip(): f"{crate}.{inner}.{name.strip()}" for name in names.split(",")}
+    named = [imports[word] for word in re.findall(r"[\w-]+", clauses) if word in imports]
+    return [it for it in dict.fromkeys(named) if it in files.get(it.rpartition(".")[0], ((), (), ()))[2]]
+
+
 def laws():
     """The laws by name: the clauses of each, and the definitions that they name."""
     found = {}
     for path in sorted(TOP.glob("crates/*/src/**/*.rt")):
         text = path.read_text(encoding="utf-8")
-        imports = {}
-        for crate, inner, names in re.findall(r"^ghost use Rattle\.(\w+)\.specs\.([\w.]+)\.\{([^}]*)\}", text, re.M):
-            imports |= {name.strip(): f"{crate}.{inner}.{name.strip()}" for name in names.split(",")}
         for name, clauses in LAW.findall(text):
-            named = [imports[word] for word in re.findall(r"[\w-]+", clauses) if word in imports]
             # (two crates may each have a law of one name)
             known, roots = found.get(name, ("", []))
-            found[name] = known + clauses, roots + [it for it in named if it.rpartition(".")[0] in files]
+            found[name] = known + clauses, roots + named_in(clauses, text)
     return found
 
 
@@ -164,44 +166,64 @@ def parts_of(names):
     return parts
 
 
-if sys.argv[1:] and sys.argv[1] not in (*ROOTS, "--page"):
-    of_commands = set(closure([root for roots in ROOTS.values() for root in roots], files))
-    for law, (clauses, roots) in laws().items():
-        parts = parts_of(it for it in closure(roots, files) if it not in of_commands)
-        if sys.argv[1] == law:
-            print(f"{clauses}\n{len(parts)} definitions beside those of the commands")
-            print_definitions(parts)
-        elif sys.argv[1] == "--laws":
-            print(f"{law}: {len(parts)} definitions, {sum(map(len, parts))} lines")
-    sys.exit(f"no command or law {sys.argv[1]}" if sys.argv[1] not in (*laws(), "--laws") else 0)
-
 PAGE = """# What must be read
 
-For verifiers: the definitions on which the text of a command rests, by file, what stands on nothing first; a type of
-several cases by its first. `checks/trusted.py --page` writes this page and `checks/papers.sh` compares it;
-`checks/trusted.py merge` prints the definitions of `capt merge` themselves. [VERIFYING.md](VERIFYING.md) says how to
-read them, and [CLAIMS.md](CLAIMS.md#to-believe-a-command) what the numbers leave out."""
-is_page = sys.argv[1:] == ["--page"]
-if is_page:
-    print(PAGE)
+For verifiers: the definitions on which the text of each command depends, by file. What depends on nothing comes first,
+and a type of several cases is listed by its first one. In capt's repository `checks/trusted.py --page` prints this
+page, and `checks/trusted.py merge` the definitions of `capt merge` themselves. [VERIFYING.md](VERIFYING.md) says how to
+read them, and [DEFINITIONS.md](DEFINITIONS.md) reads each one aloud."""
 
-for command, roots in ROOTS.items():
-    order = closure(roots, files)
-    parts = parts_of(order)
-    if is_page:
+
+def print_page():
+    """The names of the definitions behind each command, by file."""
+    print(PAGE)
+    for command, roots in ROOTS.items():
+        parts = parts_of(closure(roots, files))
         count = sum(len(lines) for lines in parts)
         print(f"\n## capt {command}\n\n{len(parts)} definitions, {count} lines.\n\n| file | definitions |\n|---|---|")
         for module in dict.fromkeys(where for where, _ in parts.values()):
             crate, *inner = module.split(".")
             names = ", ".join(f"`{name.rpartition('.')[2]}`" for where, name in parts.values() if where == module)
             print(f"| `{crate}/specs/{'/'.join(inner)}.antt` | {names} |")
-        continue
-    if len(sys.argv) > 1:
-        if sys.argv[1] == command:
-            print_definitions(parts)
-        continue
-    crates = {}
-    for lines, (where, _) in parts.items():
-        crates[where.split(".")[0]] = crates.get(where.split(".")[0], 0) + len(lines)
-    told = ", ".join(f"{crate} {count}" for crate, count in crates.items())
-    print(f"{command}: {len(parts)} definitions, {sum(crates.values())} lines ({told})")
+
+
+def print_counts():
+    """How many definitions and lines each command needs, by crate."""
+    for command, roots in ROOTS.items():
+        parts, crates = parts_of(closure(roots, files)), {}
+        for lines, (where, _) in parts.items():
+            crates[where.split(".")[0]] = crates.get(where.split(".")[0], 0) + len(lines)
+        told = ", ".join(f"{crate} {count}" for crate, count in crates.items())
+        print(f"{command}: {len(parts)} definitions, {sum(crates.values())} lines ({told})")
+
+
+def beside_commands(roots):
+    """The definitions that some need beside those of the commands."""
+    of_commands = set(closure([root for named in ROOTS.values() for root in named], files))
+    return parts_of(it for it in closure(roots, files) if it not in of_commands)
+
+
+def main(words):
+    if not words:
+        print_counts()
+    elif words[0] == "--page":
+        print_page()
+    elif words[0] in ROOTS:
+        print_definitions(parts_of(closure(ROOTS[words[0]], files)))
+    elif words[0] == "--laws":
+        for law, (_, roots) in laws().items():
+            parts = beside_commands(roots)
+            print(f"{law}: {len(parts)} definitions, {sum(map(len, parts))} lines")
+    elif words[0] in laws():
+        clauses, roots = laws()[words[0]]
+        parts = beside_commands(roots)
+        print(f"{clauses}\n{len(parts)} definitions beside those of the commands")
+        print_definitions(parts)
+    else:
+        sys.exit(f"no command or law {words[0]}")
+
+
+if __name__ == "__main__":
+    # a reader of what is printed may stop, as `head` does
+    signal.signal(signal.SIGPIPE, signal.SIG_DFL)
+    main(sys.argv[1:])

@@ -1,11 +1,11 @@
 #!/usr/bin/env bash
-# Packs the built program, with manual, completions and pages: a Debian package, a tarball whose program is linked statically and needs
-# no C library, and their SHA-256 sums. The same program gives the same bytes each time: every file has the date of the last commit, or
-# of SOURCE_DATE_EPOCH. packaging/check.sh tries that.
+# Packs the built program, with manual, completions, pages, and the lists of definitions that checks/definitions.py and checks/trusted.py
+# print: a Debian package, a tarball whose program is linked statically and needs no C library, and their SHA-256 sums. The same program
+# gives the same bytes each time: every file has the date of the last commit, or of SOURCE_DATE_EPOCH. packaging/check.sh tries that.
 #
 # Use: packaging/make.sh FOLDER [PROGRAM]     (after ./build.sh or `rt run` in crates/capt, which leave PROGRAM and PROGRAM.o; it wants
-#                                              the kit's `rt`, git, tar, gzip, strip, dpkg-deb, and a C compiler with a static
-#                                              C library)
+#                                              the kit's `rt`, git, Python 3, tar, gzip, strip, dpkg-deb, and a C compiler with a
+#                                              static C library)
 set -euo pipefail
 folder=$(realpath -m "$1")
 program=$(realpath "${2:-$(dirname "$0")/../crates/capt/out/capt}")
@@ -34,7 +34,9 @@ install_below() {
     install -Dm644 -t "$2/share/fish/vendor_completions.d" completions/capt.fish
     install -Dm644 -t "$2/share/zsh/vendor-completions" completions/_capt
     install -Dm644 -t "$2/share/doc/capt" README.md CHANGELOG.md SECURITY.md LICENSE
-    install -Dm644 -t "$2/share/doc/capt/docs" docs/{GUIDE,RULES,RECIPES,ARCHIVE,VERIFYING,CLAIMS,DEFINITIONS,TRUSTED}.md
+    install -Dm644 -t "$2/share/doc/capt/docs" docs/{GUIDE,RULES,RECIPES,ARCHIVE,VERIFYING,CLAIMS}.md
+    checks/definitions.py > "$2/share/doc/capt/docs/DEFINITIONS.md"
+    checks/trusted.py --page > "$2/share/doc/capt/docs/TRUSTED.md"
 }
 dated() { find "$1" -exec touch -hd "@$SOURCE_DATE_EPOCH" {} +; }
 
