@@ -3,8 +3,8 @@
 # that checks/run runs. Its last line adds up what they count: 'N passed, M failed'. The status is 0 if nothing failed.
 #
 # `rt ci` proves crates one on another, often with one process at a time. So edits.py begins beside it: a crate's edits want the crates
-# below it alone. The scripts begin once `rt ci` has ended. All have one niceness, since what has a worse one starves beside the work of
-# others.
+# below it alone. It is a little nicer, since nothing shortens the chain of `rt ci`; no more, since what is much nicer starves beside the
+# work of others. The scripts begin once `rt ci` has ended.
 #
 # It removes crates/*/out, so that nothing is taken from earlier runs: run it in a clone if you want to keep them.
 #
@@ -49,7 +49,7 @@ fi
 # begin SCRIPT [WORD]..: runs a script of this folder in the background
 begin() {
     {
-        "checks/$1" "${@:2}" > "$logs/$1" 2>&1
+        nice -n 5 "checks/$1" "${@:2}" > "$logs/$1" 2>&1
         echo $? > "$logs/$1, its status"
         ended "$1"
     } &
