@@ -1,6 +1,6 @@
 /* A C program over libcapt, for clib.py. It prints what `capt list` prints of a file, by capt_next (`next`), by
  * capt_next_many (`many`), of standard input (`stdin`), or of bytes that are fed, N at a time (`fed N`), what `capt report`
- * prints, step by step (`table`, also with `--ipv6`), misuses the library in each way that the header names (`misuse`, and
+ * prints, step by step (`table`, also with `--ipv6`), prints the interface of each packet (`interfaces`), misuses the library in each way that the header names (`misuse`, and
  * `flags` for the flags), compares the version's forms (`version`), and measures what a reader that is fed holds
  * (`memory`), and how much stack the calls take (`stack`). */
 #define _GNU_SOURCE
@@ -130,6 +130,28 @@ static int list_fed(capt_bytes rest, size_t size, uint32_t flags) {
     capt_close(&reader);
     bool closed = capt_feed(&reader, (const uint8_t *)"", 0) == CAPT_MISUSE && capt_feed_end(&reader) == CAPT_MISUSE;
     return closed && capt_next(&reader, &packet, &again) == CAPT_MISUSE ? code : 8;
+}
+
+static void print_interface(const capt_packet *packet) {
+    printf("instance %" PRIu64 " link %" PRIu32 " snaplen %" PRIu32 " resolution %" PRIu64 " offset %" PRId64 "\n",
+           packet->instance, packet->link, packet->snaplen, packet->resolution, packet->time_offset);
+}
+
+/* The interface of each packet of a file, whose packets come one by one, then several in a call, then of bytes fed. */
+static int interfaces(capt_bytes file) {
+    capt_reader reader = {0};
+    capt_packet packets[7];
+    capt_place place;
+    size_t count;
+    for (size_t room = 1; room <= 7; room += 6) {
+        if (capt_open(&reader, file.at, file.len, 0) != CAPT_DONE) return 70;
+        while (next(&reader, packets, room, &count, &place) == CAPT_PACKET)
+            for (size_t i = 0; i < count; i++) print_interface(&packets[i]);
+    }
+    if (capt_open_fed(&reader, 0) != CAPT_DONE) return 71;
+    while (next_fed(&reader, &file, 13, packets, &place) == CAPT_PACKET) print_interface(packets);
+    capt_close(&reader);
+    return 0;
 }
 
 /* How many bytes malloc holds for this program. */
@@ -450,6 +472,11 @@ int main(int count, char **words) {
     }
     if (strcmp(words[1], "table") == 0) {
         int code = report(bytes, flags);
+        free((void *)bytes.at);
+        return code;
+    }
+    if (strcmp(words[1], "interfaces") == 0) {
+        int code = interfaces(bytes);
         free((void *)bytes.at);
         return code;
     }

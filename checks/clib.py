@@ -291,6 +291,10 @@ def check_times(count, capt):
         (0, 0, 253_402_300_799, 253_402_300_799, 0, 1, 253_402_300_799 * 10**9, datetime.datetime(9999, 12, 31, 23, 59, 59, 0, datetime.timezone.utc)),
         (0, 0, 253_402_300_800, 253_402_300_800, 0, 1, 253_402_300_800 * 10**9, OverflowError),
         (0, 2**63 - 1, 2**64 - 1, 2**64 + 2**63 - 2, 0, 1, (2**64 + 2**63 - 2) * 10**9, OverflowError),
+        (0, 0, 2**63 - 1, 2**63 - 1, 0, 1, (2**63 - 1) * 10**9, OverflowError),
+        (0, 0, 2**63, 2**63, 0, 1, 2**63 * 10**9, OverflowError),
+        (0, 1, 2**63 - 1, 2**63, 0, 1, 2**63 * 10**9, OverflowError),
+        (6, 2, 1_500_000, 3, 500_000, 10**6, 3_500_000_000, date(3, 500_000)),
     ]:
         options = struct.pack("<HHBxxx", 9, 1, code) + struct.pack("<HHq", 14, 8, offset) + bytes(4)
         content = bytes.fromhex(SECTION) + block(1, struct.pack("<HHI", 1, 0, 0) + options) + packet(0, units, b"data")
@@ -310,6 +314,37 @@ def check_times(count, capt):
     [it] = capt.open(content)
     seen = [it.time, it.time_ns, it.datetime, it.seconds, it.numerator, it.denominator]
     count.check("python: a packet without a time", seen == [None] * 6 and it.data == b"data", seen)
+
+
+def check_interfaces(count, capt, checker, bench):
+    """The interface of each packet: the options of its block (draft-ietf-opsawg-pcapng, 4.2), or the defaults, which are
+    10^6 units a second from 1970 on; a pcap file counts millionths or thousand-millionths of a second (its magic)."""
+    def described(link, snaplen, options=b""):
+        return block(1, struct.pack("<HHI", link, 0, snaplen) + options)
+
+    resolution, offset, end = struct.pack("<HHBxxx", 9, 1, 0x8a), struct.pack("<HHq", 14, 8, -5), bytes(4)
+    far = struct.pack("<HHBxxx", 9, 1, 9) + struct.pack("<HHq", 14, 8, 2**62) + end
+    pcapng = b"".join([
+        bytes.fromhex(SECTION), described(1, 0), described(101, 96, resolution + offset + end),
+        described(276, 65535, offset + end), packet(1, 2560, b"data"), packet(2, 7, b"data"),
+        block(3, struct.pack("<I", 4) + b"data"), packet(0, 7, b"data"),
+        bytes.fromhex(SECTION), described(1, 4, far), block(3, struct.pack("<I", 4) + b"data"), packet(0, 7, b"data"),
+    ])
+    nanos = bytes.fromhex("4d3cb2a1") + pcap_header(101)[4:] + record(1, b"data")
+    for content, want in [
+        (pcapng, [(1, 101, 96, 1024, -5), (2, 276, 65535, 10**6, -5), (0, 1, 0, 10**6, 0), (0, 1, 0, 10**6, 0),
+                  (3, 1, 4, 10**9, 2**62), (3, 1, 4, 10**9, 2**62)]),
+        (pcap_header(1) + record(1, b"data"), [(0, 1, 262144, 10**6, 0)]), (nanos, [(0, 101, 262144, 10**9, 0)]),
+    ]:
+        lines = "".join("instance %d link %d snaplen %d resolution %d offset %d\n" % it for it in want)
+        seen = run([checker, "interfaces", bench.name(content)])
+        count.check("c: interfaces", seen == (0, lines.encode() * 3, b""), seen, lines)
+        for source in content, io.BytesIO(content):
+            seen = [(it.instance, it.link, it.snaplen, it.resolution, it.time_offset) for it in capt.open(source)]
+            count.check("python: interfaces", seen == want, seen)
+    seen = [it.time for it in capt.open(pcapng)]
+    told = [Fraction(-5, 2), -5 + Fraction(7, 10**6), None, Fraction(7, 10**6), None, 2**62 + Fraction(7, 10**9)]
+    count.check("python: times of these interfaces", seen == told, seen)
 
 
 def check_hints(count, capt):
@@ -942,7 +977,9 @@ fn is_sent<T: Send + 'static>(it: T) -> T {
 fn main() -> Result<(), Box<dyn Error>> {
     let bytes = std::fs::read(std::env::args().nth(1).unwrap())?;
     let mut capture = capt::Capture::from_vec(bytes.clone(), false)?;
-    let mut found = vec![capture.next()?.unwrap().offset];
+    let packet = capture.next()?.unwrap();
+    assert_eq!((packet.link, packet.resolution, packet.time_offset), (1, 1_000_000, 0));
+    let mut found = vec![packet.offset];
     let mut capture = is_sent(capture);
     assert_eq!(format!("{capture:?}"), "Capture { bytes: 252, .. }");
     while let Some(packet) = capture.next()? {
@@ -1130,6 +1167,7 @@ def main():
         check_header(count, capt, header)
         check_other_library(count, folder)
         check_ipv6(count, capt, checker, bench)
+        check_interfaces(count, capt, checker, bench)
         check_faults(count, checker, shim, path, example)
         check_example(count, folder, library, shim, bench, example)
         check_reading(count, folder, library, shim, example)

@@ -63,8 +63,9 @@ class _Place(ctypes.Structure):
     _fields_ = [("offset", ctypes.c_uint64), ("file", ctypes.c_uint32), ("rule", ctypes.c_uint32)]
 
 
-# capt_packet: frame, offset, instance, seconds, numerator, denominator, carry, captured, original, snaplen, link
-_FIELDS = struct.Struct("@PQQqQQIIIII0Q")
+# capt_packet: frame, offset, instance, seconds, numerator, denominator, resolution, time_offset, carry, captured,
+# original, snaplen, link
+_FIELDS = struct.Struct("@PQQqQQQqIIIII0Q")
 
 
 class _Ending(ctypes.Structure):
@@ -324,14 +325,20 @@ class Packet:
     """A packet. `data` are its captured bytes.
 
     Its time since 1970-01-01 00:00 UTC is exactly `seconds`, rounded down, and `numerator`/`denominator`, in the unit
-    of its interface. If it has no time, these three are None, and so is each other form of it."""
-    __slots__ = ("offset", "instance", "seconds", "numerator", "denominator", "captured", "original", "snaplen", "link",
-                 "data")
+    of its interface. If it has no time, these three are None, and so is each other form of it.
+
+    Its interface is described by `instance`, which is how many interface blocks of the file come before that of this
+    interface, by `link` and `snaplen`, and by how it counts time: `resolution` units a second, from the second
+    `time_offset` on."""
+    __slots__ = ("offset", "instance", "seconds", "numerator", "denominator", "resolution", "time_offset", "captured",
+                 "original", "snaplen", "link", "data")
     offset: int
     instance: int
     seconds: Optional[int]
     numerator: Optional[int]
     denominator: Optional[int]
+    resolution: int
+    time_offset: int
     captured: int
     original: int
     snaplen: int
@@ -339,8 +346,8 @@ class Packet:
     data: bytes
 
     def __init__(self, fields: Tuple[int, ...]):
-        (frame, self.offset, self.instance, seconds, self.numerator, self.denominator, carry, self.captured,
-         self.original, self.snaplen, self.link) = fields
+        (frame, self.offset, self.instance, seconds, self.numerator, self.denominator, self.resolution,
+         self.time_offset, carry, self.captured, self.original, self.snaplen, self.link) = fields
         self.data = ctypes.string_at(frame, self.captured)
         self.seconds = seconds + (carry << 64) if carry else seconds
         if not self.denominator:

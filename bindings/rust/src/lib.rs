@@ -40,6 +40,8 @@ struct RawPacket {
     seconds: i64,
     numerator: u64,
     denominator: u64,
+    resolution: u64,
+    time_offset: i64,
     carry: u32,
     captured: u32,
     original: u32,
@@ -237,6 +239,10 @@ pub struct Packet<'a> {
     pub numerator: u64,
     /// 0 if the packet has no time.
     pub denominator: u64,
+    /// How many units of time its interface counts in a second, at least 1.
+    pub resolution: u64,
+    /// The second from which its interface counts, which `seconds` includes; 0 in a pcap file.
+    pub time_offset: i64,
     /// How many bytes it had.
     pub original: u32,
     /// The most bytes that its interface captures; 0 for no limit.
@@ -299,6 +305,8 @@ fn packet_of(_: &mut RawReader, raw: RawPacket) -> Packet<'_> {
         seconds: i128::from(raw.seconds) + (i128::from(raw.carry) << 64),
         numerator: raw.numerator,
         denominator: raw.denominator,
+        resolution: raw.resolution,
+        time_offset: raw.time_offset,
         original: raw.original,
         snaplen: raw.snaplen,
         link: raw.link,

@@ -15,8 +15,9 @@ class Place(C.Structure):
 
 class Packet(C.Structure):
     _fields_ = [("frame", C.c_void_p), ("offset", C.c_uint64), ("instance", C.c_uint64), ("seconds", C.c_int64),
-                ("numerator", C.c_uint64), ("denominator", C.c_uint64), ("carry", C.c_uint32), ("captured", C.c_uint32),
-                ("original", C.c_uint32), ("snaplen", C.c_uint32), ("link", C.c_uint32)]
+                ("numerator", C.c_uint64), ("denominator", C.c_uint64), ("resolution", C.c_uint64),
+                ("time_offset", C.c_int64), ("carry", C.c_uint32), ("captured", C.c_uint32), ("original", C.c_uint32),
+                ("snaplen", C.c_uint32), ("link", C.c_uint32)]
 
     def bytes(self):
         return C.string_at(self.frame, self.captured)

@@ -8,8 +8,8 @@ struct Place { offset: u64, file: u32, rule: u32 }
 
 #[repr(C)]
 struct RawPacket {
-    frame: *const u8, offset: u64, instance: u64, seconds: i64, numerator: u64, denominator: u64,
-    carry: u32, captured: u32, original: u32, snaplen: u32, link: u32,
+    frame: *const u8, offset: u64, instance: u64, seconds: i64, numerator: u64, denominator: u64, resolution: u64,
+    time_offset: i64, carry: u32, captured: u32, original: u32, snaplen: u32, link: u32,
 }
 
 #[repr(C)]

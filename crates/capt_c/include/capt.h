@@ -112,7 +112,7 @@ typedef struct {
 } capt_place;
 
 /* A packet. Its time is exactly seconds + numerator/denominator since 1970-01-01 00:00 UTC, in the unit of its
- * interface. */
+ * interface. Its interface has the last two members, `instance`, `resolution` and `time_offset`. */
 typedef struct {
     const uint8_t *frame; /* `captured` bytes, until the next call with this reader */
     uint64_t offset;      /* where its record or block begins, in bytes */
@@ -120,6 +120,8 @@ typedef struct {
     int64_t seconds;      /* whole seconds, rounded down */
     uint64_t numerator;   /* below the denominator */
     uint64_t denominator; /* 0 if the packet has no time */
+    uint64_t resolution;  /* how many units of time its interface counts in a second, even if the packet has no time */
+    int64_t time_offset;  /* the second from which its interface counts, which `seconds` includes; 0 in a pcap file */
     uint32_t carry;       /* 2^64 seconds, so many times, are to be added: 0 before the year 292,277,026,596 */
     uint32_t captured;    /* how many of its bytes were captured, at most 262,144 */
     uint32_t original;    /* how many bytes it had */

@@ -1,5 +1,6 @@
 pub mod Agreeing
 pub mod AllTold
+pub mod NearTimes
 pub mod NeverRead
 pub mod Numbered
 pub mod PointerValues

@@ -8,6 +8,7 @@ use Rattle.cap_source.specs.declared.feeds.Head.{Head}
 use Rattle.cap_source.specs.declared.feeds.Head.TheVariants as heads
 use Rattle.cap_source.specs.declared.packets.Meta.{Meta}
 use Rattle.cap_time.specs.declared.resolutions.Interface.{Interface}
+use Rattle.cap_time.specs.Resolution.{units_of}
 use Rattle.cap_time.specs.Stamp.{stamp_in, seconds_of, numerator_of, denominator_of}
 use Rattle.capt_c.specs.declared.packets.CPacket.{CPacket}
 
@@ -27,6 +28,8 @@ pub record ShowsFields (meta : Meta) (p : CPacket) : Type 0 where
   pub snaplen : p.snaplen ≡ meta.interface.snaplen
   pub link : p.link ≡ meta.interface.link
   pub time : ShowsTime meta.units meta.interface p.seconds p.carry p.numerator p.denominator
+  pub resolution : p.resolution ≡ units_of meta.interface.resolution
+  pub time_offset : p.time_offset ≡ meta.interface.offset
 
 -- what is returned for what is known to come next
 abbrev pub head_answer : Head → Result Bool Fault

@@ -1,9 +1,11 @@
 //! Packets as a caller sees them.
-ghost use Rattle.std.specs.Prelude.{◌≡◌, ◌≤ℤ◌, ◌<ℤ◌, ◌^◌, ◌+ℤ◌, ◌*ℤ◌, pos, neg_ℤ};
+ghost use Rattle.std.specs.Prelude.{◌≡◌, ◌≤ℤ◌, ◌<ℤ◌, ◌^◌, ◌+ℤ◌, ◌*ℤ◌, ◌<◌, ◌/◌, ◌%◌, pos, neg_ℤ};
+ghost use Rattle.cap_time.specs.Resolution.{units_of};
+ghost use Rattle.cap_time.specs.Stamp.{seconds_of, stamp_in};
 ghost use Rattle.capt_c.specs.Packets.{ShowsFields, ShowsTime};
 
 use cap_source::Meta;
-use cap_time::Stamp;
+use cap_time::{Interface, Stamp};
 
 /// A packet. Its time is `seconds + carry * 2^64` whole seconds since 1970, and `numerator / denominator` of a second:
 /// `carry` is 0 unless the seconds don't fit in 64 bits, and `denominator` is 0 if the packet has no time.
@@ -22,6 +24,10 @@ pub struct CPacket {
     pub numerator: u64,
     /// The units in a second, or 0 if it has no time.
     pub denominator: u64,
+    /// The units in a second by which its interface counts time: the denominator, if the packet has a time.
+    pub resolution: u64,
+    /// The second since 1970 from which its interface counts time. `seconds` has it added.
+    pub time_offset: i64,
     /// How many times 2^64 seconds are to be added.
     pub carry: u32,
     /// How many bytes of it were captured.
@@ -58,6 +64,45 @@ fn whole(seconds: i128) -> (i64, u32)
     }
 }
 
+// Whole seconds, and the units that are left of them, by one division. Two kinds of units are divided by a constant:
+// the processor then multiplies, which takes a tenth of a division's time.
+#[inline(always)]
+fn split(units: u64, in_second: u64) -> (u64, u64)
+    requires { 0 < in_second }
+    ensures whole { result.0 ≡ units / in_second }
+    ensures left { result.1 ≡ units % in_second }
+{
+    if in_second == 1_000_000 {
+        (units / 1_000_000, units % 1_000_000)
+    } else if in_second == 1_000_000_000 {
+        (units / 1_000_000_000, units % 1_000_000_000)
+    } else {
+        (units / in_second, units % in_second)
+    }
+}
+
+// The whole seconds of that many units of an interface, and how many times 2^64 more.
+#[inline(never)]
+fn far_seconds(units: u64, interface: &Interface) -> (i64, u32)
+    ensures { result.0 +ℤ pos (result.1) *ℤ pos (2 ^ 64) ≡ seconds_of (stamp_in units interface.now) }
+{
+    whole(Stamp::new(units, interface).seconds())
+}
+
+// The same. `seconds` are those of the units alone, before the second is added from which the interface counts.
+#[inline(always)]
+fn whole_seconds(units: u64, interface: &Interface, seconds: u64) -> (i64, u32)
+    requires { seconds ≡ units / units_of interface.now.resolution }
+    ensures { result.0 +ℤ pos (result.1) *ℤ pos (2 ^ 64) ≡ seconds_of (stamp_in units interface.now) }
+{
+    // most interfaces count from 1970
+    if interface.offset == 0 && seconds < 0x8000_0000_0000_0000 {
+        (seconds as i64, 0)
+    } else {
+        far_seconds(units, interface)
+    }
+}
+
 // The time of a packet, if it has one.
 #[inline(always)]
 fn time_of(meta: &Meta) -> Time
@@ -66,13 +111,14 @@ fn time_of(meta: &Meta) -> Time
 {
     match meta.units {
         Some(units) => {
-            let stamp = Stamp::new(units, &meta.interface);
-            let (seconds, carry) = whole(stamp.seconds());
+            let denominator = meta.interface.resolution.units();
+            let (seconds, numerator) = split(units, denominator);
+            let (seconds, carry) = whole_seconds(units, &meta.interface, seconds);
             Time {
                 seconds,
                 carry,
-                numerator: stamp.numerator(),
-                denominator: stamp.denominator(),
+                numerator,
+                denominator,
             }
         }
         None => Time {
@@ -103,6 +149,8 @@ pub fn packet_of(meta: &Meta, frame: &[u8]) -> CPacket
         seconds: time.seconds,
         numerator: time.numerator,
         denominator: time.denominator,
+        resolution: meta.interface.resolution.units(),
+        time_offset: meta.interface.offset,
         carry: time.carry,
         captured: meta.captured,
         original: meta.original,
