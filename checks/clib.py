@@ -632,6 +632,25 @@ def check_header(count, capt, header):
                 and len(flags) == 4, flags)
 
 
+def check_versions(count, library, shared, declared):
+    """Each call has the version of the release that brought it, and a program that is linked wants these of the library."""
+    with open(os.path.join(CRATE, "capt.map")) as file:
+        text = re.sub(r"/\*.*?\*/", "", file.read(), flags=re.S)
+    listed = {}
+    for node, calls in re.findall(r"^(\w[\w.]*) \{(.*?)^\}", text, re.M | re.S):
+        listed.update({name: node for name in re.findall(r"\b(capt_\w+);", calls)})
+    count.check("the names that are listed", set(listed) == declared, set(listed) ^ declared)
+    said = run(["objdump", "-T", os.path.join(library, "libcapt.so.1")])[1].decode()
+    seen = {name: node for node, name in re.findall(r"\bDF \.text\s+\w+\s+(\S+)\s+(capt_\w+)$", said, re.M)}
+    count.check("the versions of the names", seen == listed, set(seen.items()) ^ set(listed.items()))
+    said = run(["objdump", "-p", os.path.join(library, "libcapt.so.1")])[1].decode()
+    count.check("the soname", re.findall(r"^\s+SONAME\s+(\S+)$", said, re.M) == ["libcapt.so.1"], said)
+    said = run(["objdump", "-p", shared])[1].decode()
+    wanted = re.search(r"required from libcapt\.so\.1:\n((?:\s+0x.*\n)+)", said)
+    nodes = set(re.findall(r"(\S+)$", wanted[1], re.M)) if wanted else set()
+    count.check("the versions that a program wants", nodes and nodes <= set(listed.values()), said)
+
+
 # two datagrams of UDP over IPv6, one over IPv4, one of ICMPv6, a fragment, and a packet of another version
 IPV6 = [
     "60000000000a114020010db800000000000000000000000120010db800000000000000000000000203e807d0000a00006869",
@@ -1158,13 +1177,14 @@ def main():
                 seen = run([it, "stack", bench.name(dict(contents)[name])])
                 count.check("c: the stack of the calls", seen == (0, b"", b""), seen)
         names = subprocess.run(["nm", "-D", "--defined-only", os.environ["CAPT_LIBRARY"]], stdout=subprocess.PIPE, text=True).stdout
-        seen = {line.split()[2].split("@")[0] for line in names.splitlines()} - {"CAPT_1"}
+        seen = {line.split()[2].split("@")[0] for line in names.splitlines() if line.split()[1] == "T"}
         with open(os.path.join(library, "capt.h")) as file:
             header = file.read()
         declared = set(re.findall(r"^\w+ (capt_\w+)\(", header, re.M))
         count.check("the names that are seen", seen == declared, seen ^ declared)
         count.check("the version", run([program, "--version"])[1].decode().split()[:2] == ["capt", capt.version()])
         check_header(count, capt, header)
+        check_versions(count, library, shared, declared)
         check_other_library(count, folder)
         check_ipv6(count, capt, checker, bench)
         check_interfaces(count, capt, checker, bench)

@@ -1,6 +1,7 @@
 #!/usr/bin/env bash
 # Links the archive that `rt lib` or `build.sh lib` made of this crate as libcapt: puts libcapt.a, libcapt.so, capt.h, capt_file.h
-# and capt.pc into a folder. Only the names that begin with capt_ are seen from outside.
+# and capt.pc into a folder. Only the names that begin with capt_ are seen from outside: those of the shared library are listed in
+# capt.map, each under the release that brought it.
 #
 # Use: crates/capt_c/link.sh ARCHIVE FOLDER [PREFIX]     (it wants a C compiler and binutils; PREFIX, for capt.pc, is /usr/local)
 set -euo pipefail
@@ -20,9 +21,8 @@ ld -r -o "$work/capt.o" --whole-archive "$archive" --no-whole-archive "$kit/c/li
 objcopy --wildcard --keep-global-symbol='capt_*' "$work/capt.o"
 rm -f "$folder/libcapt.a"
 ar rcsD "$folder/libcapt.a" "$work/capt.o"
-echo 'CAPT_1 { global: capt_*; local: *; };' > "$work/capt.map"
-"${CC:-cc}" -shared -o "$folder/libcapt.so.1" "$work/capt.o" -Wl,-soname,libcapt.so.1 -Wl,--version-script,"$work/capt.map" \
-    -Wl,-z,relro,-z,now -Wl,--no-undefined
+"${CC:-cc}" -shared -o "$folder/libcapt.so.1" "$work/capt.o" -Wl,-soname,libcapt.so.1 \
+    -Wl,--version-script,"$here/capt.map" -Wl,-z,relro,-z,now -Wl,--no-undefined
 ln -sf libcapt.so.1 "$folder/libcapt.so"
 cp "$here/include/capt.h" "$here/include/capt_file.h" "$folder/"
 cat > "$folder/capt.pc" << END
