@@ -21,7 +21,9 @@ use cap_print::Form;
 use cap_source::{Capture, FileEnd, Meta, PacketFeed};
 use std::alloc::Global;
 
-// What comes next of a file: a packet, which stays until it is passed, or none at the end.
+// What comes next of a file: a packet, which stays until it is passed, or none at the end. It is inlined, so that the
+// packet need not be copied.
+#[inline(always)]
 fn next_of<R: Source>(capture: &mut Capture<R>) -> Result<Option<Meta>, Fault>
     ensures answer { GivesPacket (⟦<Capture<R> as PacketFeed>⟧.feed capture.old) result
         (⟦<Capture<R> as PacketFeed>⟧.feed capture.new) }
