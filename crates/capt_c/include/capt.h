@@ -12,10 +12,10 @@
  *
  * * Threads. One call at a time with a handle. Calls with different handles may run at once, also over the same bytes.
  *
- * * Pointers. None is NULL, not even to a file of 0 bytes: pass the address of any byte then. Unlike free(NULL),
- * capt_close(NULL) is a fault. The library only reads the bytes that you give. Those of capt_open and capt_table_open
- * stay where and as they are until capt_close; those of the other calls, of capt_feed too, until the call returns. A
- * `len` is at most PTRDIFF_MAX, and so is the size in bytes of an array.
+ * * Pointers. None is NULL: for 0 bytes pass any address. Unlike free(NULL), capt_close(NULL) is a fault. The library
+ * only reads the bytes that you give. Those of capt_open and capt_table_open stay where and as they are until
+ * capt_close; those of the other calls, of capt_feed too, until the call returns. A `len` is at most PTRDIFF_MAX, and
+ * so is the size in bytes of an array.
  *
  * * Flags. A call's `flags` are 0, or flags of enum capt_flag that its comment lists, as CAPT_ALLOW_CUT | CAPT_BIG.
  * With any other bit, even one that no call takes so far, the call returns CAPT_MISUSE and does nothing.
@@ -27,7 +27,7 @@
  * that it hasn't read, and the last piece; when it returns CAPT_MORE, at most 1 MiB; after CAPT_DONE or CAPT_REFUSED
  * none. It gives back what more it held if malloc can make a block smaller; and it holds at most 1,024 interfaces. A
  * table holds what a reader holds for each of its files, and besides at most 1,024 groups of fragments and 1,048,576
- * conversations. A call that makes a text holds the whole text.
+ * conversations, which take some 200 MB. A call that makes a text holds the whole text.
  *
  * * Stack. A call takes at most 48 KiB of stack. capt_join takes the most: it was measured to take 40 KiB.
  *
@@ -52,7 +52,7 @@ enum capt_status {
     CAPT_DONE = 0,    /* all was done; of a reader: no packet comes any more */
     CAPT_PACKET = 1,  /* a packet came */
     CAPT_REFUSED = 2, /* a capture breaks a rule: capt_place says which, and where */
-    CAPT_READ = 3,    /* a read of standard input failed: capt_place says where */
+    CAPT_READ = 3,    /* a read of standard input failed, or in capt_file.h a read or an open: capt_place says where */
     CAPT_MEMORY = 5,  /* malloc or realloc returned NULL */
     CAPT_MISUSE = 6,  /* the handle isn't open or is of other calls, there are no files or more than 32, there is no
                          room for a packet, or the call doesn't take a flag */
@@ -106,13 +106,14 @@ enum capt_link {
 /* Where a capture is refused, or where a read failed. All are 0 after any other status but CAPT_MISUSE, which leaves
  * it. */
 typedef struct {
-    uint64_t offset; /* where the header, the record or the block begins, in bytes */
+    uint64_t offset; /* where the header, the record or the block begins, in bytes; after CAPT_READ in capt_file.h, how
+                        many bytes were fed */
     uint32_t file;   /* the number of the file, from 1 */
     uint32_t rule;   /* the rule that is broken, from 1 to 21, of enum capt_rule; 0 after CAPT_READ */
 } capt_place;
 
 /* A packet. Its time is exactly seconds + numerator/denominator since 1970-01-01 00:00 UTC, in the unit of its
- * interface. Its interface has the last two members, `instance`, `resolution` and `time_offset`. */
+ * interface, whose are also `instance`, `resolution`, `time_offset`, `snaplen` and `link`. */
 typedef struct {
     const uint8_t *frame; /* `captured` bytes, until the next call with this reader */
     uint64_t offset;      /* where its record or block begins, in bytes */
@@ -122,7 +123,7 @@ typedef struct {
     uint64_t denominator; /* 0 if the packet has no time */
     uint64_t resolution;  /* how many units of time its interface counts in a second, even if the packet has no time */
     int64_t time_offset;  /* the second from which its interface counts, which `seconds` includes; 0 in a pcap file */
-    uint32_t carry;       /* 2^64 seconds, so many times, are to be added: 0 before the year 292,277,026,596 */
+    uint32_t carry;       /* add carry * 2^64 to `seconds`: 0 before the year 292,277,026,596 */
     uint32_t captured;    /* how many of its bytes were captured, at most 262,144 */
     uint32_t original;    /* how many bytes it had */
     uint32_t snaplen;     /* the most bytes that its interface captures; 0 for no limit */
@@ -200,16 +201,17 @@ uint32_t capt_end(capt_reader *reader, capt_ending *ending);
 /* Lets go what the reader, or the table, holds. */
 void capt_close(capt_reader *reader);
 
-/* The report of capt_report step by step, in bounded memory. Opens a table of 1 to 32 captures. Flags: CAPT_ALLOW_CUT
- * and CAPT_IPV6. CAPT_DONE, CAPT_MEMORY or CAPT_MISUSE. */
+/* The report of capt_report step by step, in as much memory, but for the text. Opens a table of 1 to 32 captures.
+ * Flags: CAPT_ALLOW_CUT and CAPT_IPV6. CAPT_DONE, CAPT_MEMORY or CAPT_MISUSE. */
 uint32_t capt_table_open(capt_table *table, const capt_bytes *files, size_t count, uint32_t flags);
 
 /* Takes the packet that comes next in the order of exact time. CAPT_PACKET; CAPT_DONE or CAPT_REFUSED, each of which
  * every further call returns again; or CAPT_MEMORY, after which nothing was taken, and the call may be made again. */
 uint32_t capt_table_step(capt_table *table, capt_place *place);
 
-/* The report over the packets that were taken so far: that of capt_report after CAPT_DONE; before it, a file of which
- * no packet was taken has the format `-`, and no line says `cut`. CAPT_DONE, CAPT_MEMORY or CAPT_MISUSE. */
+/* The report over the packets that were taken so far: that of capt_report after CAPT_DONE. Before it, and after
+ * CAPT_REFUSED, a file of which no packet was taken has the format `-`, and no line says `cut`. CAPT_DONE, CAPT_MEMORY
+ * or CAPT_MISUSE. */
 uint32_t capt_table_write(capt_table *table, capt_text *text, capt_place *place);
 
 /* What the commands of the program capt print for one file or for 1 to 32 files, byte for byte. Flags: CAPT_ALLOW_CUT,
