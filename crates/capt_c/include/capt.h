@@ -52,7 +52,7 @@ enum capt_status {
     CAPT_DONE = 0,    /* all was done; of a reader: no packet comes any more */
     CAPT_PACKET = 1,  /* a packet came */
     CAPT_REFUSED = 2, /* a capture breaks a rule: capt_place says which, and where */
-    CAPT_READ = 3,    /* a read of standard input failed, or in capt_file.h a read or an open: capt_place says where */
+    CAPT_READ = 3,    /* a read failed: capt_place says where; or capt_file_open couldn't open, and has no place */
     CAPT_MEMORY = 5,  /* malloc or realloc returned NULL */
     CAPT_MISUSE = 6,  /* the handle isn't open or is of other calls, there are no files or more than 32, there is no
                          room for a packet, or the call doesn't take a flag */
@@ -112,8 +112,8 @@ typedef struct {
     uint32_t rule;   /* the rule that is broken, from 1 to 21, of enum capt_rule; 0 after CAPT_READ */
 } capt_place;
 
-/* A packet. Its time is exactly seconds + numerator/denominator since 1970-01-01 00:00 UTC, in the unit of its
- * interface, whose are also `instance`, `resolution`, `time_offset`, `snaplen` and `link`. */
+/* A packet. Its time is exactly carry * 2^64 + seconds + numerator/denominator since 1970-01-01 00:00 UTC. Of its
+ * interface are `instance`, `resolution`, `time_offset`, `snaplen` and `link`. */
 typedef struct {
     const uint8_t *frame; /* `captured` bytes, until the next call with this reader */
     uint64_t offset;      /* where its record or block begins, in bytes */
