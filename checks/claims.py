@@ -13,7 +13,8 @@ a claim:
 Calls are found by names, so a test of another function of the same name may be among them.
 
 Use: checks/claims.py              for each claim, how many these are
-     checks/claims.py NAME         the clauses of a function, as `need` or `Window::need`, and its tests, edits and definitions
+     checks/claims.py NAME         the clauses of a function, as `need` or `Window::need`, and its tests, edits and
+                                   definitions
      checks/claims.py --faults     functions and scripts that a claim names and that aren't there, functions without an
                                    edit, claims without a test or script, and what no claim names: papers.sh calls this
 """
@@ -165,7 +166,8 @@ def tests():
 
 class Claim:
     def __init__(self, heading, text, names, scripts):
-        self.crates = [it for it in re.findall(r"\w+", heading) if it in crates()] or [it for it in crates() if it not in TEST_CRATES]
+        named = [it for it in re.findall(r"\w+", heading) if it in crates()]
+        self.crates = named or [it for it in crates() if it not in TEST_CRATES]
         self.heading = heading
         self.text, self.names, self.has_edit = text, names, "no edit" not in scripts
         self.scripts = [it for it in scripts if it != "no edit"]
@@ -240,7 +242,8 @@ def claims():
         words, at = " ".join(part[2:].split()), 0
         for it in CARRIED.finditer(words):
             scripts = re.split(r",\s+", it[2] or "") if it[2] else []
-            found.append(Claim(heading, words[at : it.start()].strip(" ;.,"), re.findall(r"`([\w:*]+)`", it[1]), scripts))
+            text = words[at : it.start()].strip(" ;.,")
+            found.append(Claim(heading, text, re.findall(r"`([\w:*]+)`", it[1]), scripts))
             at = it.end()
     return found
 
@@ -263,7 +266,8 @@ def print_faults():
                 print(f"there is no script {name}")
         if bool(claim.edits) != claim.has_edit:
             print(f"{len(claim.edits)} edits watch: {claim.text} {claim.names}")
-        if not claim.scripts and not claim.tests and claim.crates != ["cap_laws"] and not all(is_law(it) for it in claim.functions):
+        is_of_laws = claim.crates == ["cap_laws"] or all(is_law(it) for it in claim.functions)
+        if not claim.scripts and not claim.tests and not is_of_laws:
             print(f"no test or script watches: {claim.text} {claim.names}")
     named = {it.name: it for claim in claims() for it in claim.functions}
     watching = {test for claim in claims() for test in claim.tests}
@@ -272,7 +276,8 @@ def print_faults():
             print(f"no claim names what the test {test} calls")
     for crate in crates().values():
         for it in functions(crate).values():
-            if is_law(it) and it.is_public and it.name not in named and crate.name not in TEST_CRATES and not it.last_name.startswith("worked"):
+            is_claimed = it.name in named or crate.name in TEST_CRATES or it.last_name.startswith("worked")
+            if is_law(it) and it.is_public and not is_claimed:
                 print(f"no claim names the law {crate.name}::{it.name}")
 
 
@@ -290,13 +295,15 @@ def print_counts():
         parts = claim.definitions
         tried = ", ".join(script(it) for it in claim.scripts)
         print(
-            f"  tests {len(claim.tests)}, edits {len(claim.edits)}, definitions {len(parts)} of {sum(map(len, parts))} lines"
+            f"  tests {len(claim.tests)}, edits {len(claim.edits)}, "
+            f"definitions {len(parts)} of {sum(map(len, parts))} lines"
             + (f", tried by {tried}" if tried else "")
         )
 
 
 def print_function(name):
-    some = [it for claim in claims() for it in claim.functions if re.search(rf"(^|::){re.escape(name)}$", f"{it.crate.name}::{it.name}")]
+    asked = re.compile(rf"(^|::){re.escape(name)}$")
+    some = [it for claim in claims() for it in claim.functions if asked.search(f"{it.crate.name}::{it.name}")]
     some = list(dict.fromkeys(some))
     if not some:
         sys.exit(f"no claim names a function {name}")
@@ -306,7 +313,7 @@ def print_function(name):
             print("".join(f"  tried by checks/{script(it)}\n" for it in claim.scripts), end="")
     for function in some:
         print(f"\ncrates/{function.crate.name}/{function.path}: {function.name}\n{function.clauses[0]}")
-    for kind, names in (("edits", edits_of(some)), ("tests", tests_of(some))):
+    for kind, names in (("edits", sorted(edits_of(some))), ("tests", sorted(tests_of(some)))):
         print(f"\n{kind} {len(names)}")
         print("".join(f"  {it}\n" for it in names), end="")
     parts = definitions_of(some)

@@ -1,8 +1,9 @@
 /* A C program over libcapt, for clib.py. It prints what `capt list` prints of a file, by capt_next (`next`), by
- * capt_next_many (`many`), of standard input (`stdin`), or of bytes that are fed, N at a time (`fed N`), what `capt report`
- * prints, step by step (`table`, also with `--ipv6`), prints the interface of each packet (`interfaces`), misuses the library in each way that the header names (`misuse`, and
- * `flags` for the flags), compares the version's forms (`version`), and measures what a reader that is fed holds
- * (`memory`), and how much stack the calls take (`stack`). */
+ * capt_next_many (`many`), of standard input (`stdin`), or of bytes that are fed, N at a time (`fed N`), what `capt
+ * report` prints, step by step (`table`, also with `--ipv6`), prints the interface of each packet (`interfaces`),
+ * misuses the library in each way that the header names (`misuse`, and `flags` for the flags), compares the version's
+ * forms (`version`), and measures what a reader that is fed holds (`memory`), and how much stack the calls take
+ * (`stack`). */
 #define _GNU_SOURCE
 #include <capt.h>
 #include <inttypes.h>

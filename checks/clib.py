@@ -317,8 +317,9 @@ def check_times(count, capt):
 
 
 def check_interfaces(count, capt, checker, bench):
-    """The interface of each packet: the options of its block (draft-ietf-opsawg-pcapng, 4.2), or the defaults, which are
-    10^6 units a second from 1970 on; a pcap file counts millionths or thousand-millionths of a second (its magic)."""
+    """The interface of each packet: the options of its block (draft-ietf-opsawg-pcapng, 4.2), or the defaults, which
+    are 10^6 units a second from 1970 on; a pcap file counts millionths or thousand-millionths of a second (its
+    magic)."""
     def described(link, snaplen, options=b""):
         return block(1, struct.pack("<HHI", link, 0, snaplen) + options)
 
@@ -633,7 +634,7 @@ def check_header(count, capt, header):
 
 
 def check_versions(count, library, shared, declared):
-    """Each call has the version of the release that brought it, and a program that is linked wants these of the library."""
+    """Each call has the version of the release that brought it, and a program that is linked wants these."""
     with open(os.path.join(CRATE, "capt.map")) as file:
         text = re.sub(r"/\*.*?\*/", "", file.read(), flags=re.S)
     listed = {}

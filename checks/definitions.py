@@ -1,10 +1,10 @@
 #!/usr/bin/env python3
-"""Prints the page DEFINITIONS.md of the packages from the comments of specs/: each definition read aloud, file by file, in the order of
-crates.txt.
+"""Prints the page DEFINITIONS.md of the packages from the comments of specs/: each definition read aloud, file by file,
+in the order of crates.txt.
 
-What stands in specs/inner/ isn't listed. A file's comment heads its table; a row has the definitions that stand under one comment,
-with the comment. A file without a comment, or a definition above the first comment of its file, is named and makes the
-status 1: checks/papers.sh sees to that.
+What stands in specs/inner/ isn't listed. A file's comment heads its table; a row has the definitions that stand under
+one comment, with the comment. A file without a comment, or a definition above the first comment of its file, is named
+and makes the status 1: checks/papers.sh sees to that.
 
 Use: checks/definitions.py
 """

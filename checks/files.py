@@ -1,9 +1,9 @@
 #!/usr/bin/env python3
 """The map of files: what each file of code, of definitions and of scripts says of itself at its head.
 
-That is the `//!` lines of a file of code, the comment that heads a file of definitions, and what heads a script. With words
-it prints the files whose path or head has all of them, in small or capital letters. A file without a head is named at
-the end, and makes the status 1.
+That is the `//!` lines of a file of code, the comment that heads a file of definitions, and what heads a script. With
+words it prints the files whose path or head has all of them, in small or capital letters. A file without a head is
+named at the end, and makes the status 1.
 
 Use: checks/files.py [WORD]..     as in `checks/files.py fragments holes`
 """
@@ -38,7 +38,8 @@ def head_of(path):
 
 def files():
     """The files that have a head, by folder: the crates in the order of crates.txt, then the rest."""
-    crates = [line.split(":")[0].split()[0] for line in (TOP / "crates.txt").read_text(encoding="utf-8").split("\n") if line.startswith("cap") or line.startswith("lib")]
+    lines = (TOP / "crates.txt").read_text(encoding="utf-8").split("\n")
+    crates = [line.split(":")[0].split()[0] for line in lines if line.startswith(("cap", "lib"))]
     for crate in crates:
         folder = TOP / "crates" / crate
         yield from sorted(folder.glob("src/**/*.rt"), key=lambda it: (it.name not in ("lib.rt", "main.rt"), it))
@@ -46,7 +47,8 @@ def files():
         yield from sorted(folder.glob("include/*.h"))
     for folder in ("checks", "bench", "packaging", "examples", "bindings"):
         found = [it for it in (TOP / folder).glob("**/*") if it.suffix in (".py", ".sh", ".c", ".rs")]
-        yield from sorted(it for it in found if not {"out", "corpus", "target", "build"} & set(it.relative_to(TOP).parts))
+        left_out = {"out", "corpus", "target", "build"}
+        yield from sorted(it for it in found if not left_out & set(it.relative_to(TOP).parts))
     yield TOP / "build.sh"
 
 
@@ -58,7 +60,8 @@ def main(words):
         if said is None:
             bare.append(name)
         elif said and all(word.lower() in f"{name} {said}".lower() for word in words):
-            print(textwrap.fill(f"{name}: {said}", 120, subsequent_indent="    ", break_long_words=False, break_on_hyphens=False))
+            how = {"subsequent_indent": "    ", "break_long_words": False, "break_on_hyphens": False}
+            print(textwrap.fill(f"{name}: {said}", 120, **how))
     for name in bare:
         print(f"{name}: says nothing of itself", file=sys.stderr)
     sys.exit(1 if bare else 0)

@@ -1,10 +1,11 @@
 #!/usr/bin/env bash
-# The gate, from nothing: a look at all edits by the compiler's front end, then `rt ci`, the other edits, and the scripts of this folder
-# that checks/run runs. Its last line adds up what they count: 'N passed, M failed'. The status is 0 if nothing failed.
+# The gate, from nothing: a look at all edits by the compiler's front end, then `rt ci`, the other edits, and the
+# scripts of this folder that checks/run runs. Its last line adds up what they count: 'N passed, M failed'. The status
+# is 0 if nothing failed.
 #
-# `rt ci` proves crates one on another, often with one process at a time. So edits.py begins beside it: a crate's edits want the crates
-# below it alone. It is a little nicer, since nothing shortens the chain of `rt ci`; no more, since what is much nicer starves beside the
-# work of others. The scripts begin once `rt ci` has ended.
+# `rt ci` proves crates one on another, often with one process at a time. So edits.py begins beside it: a crate's edits
+# want the crates below it alone. It is a little nicer, since nothing shortens the chain of `rt ci`; no more, since what
+# is much nicer starves beside the work of others. The scripts begin once `rt ci` has ended.
 #
 # It removes crates/*/out, so that nothing is taken from earlier runs: run it in a clone if you want to keep them.
 #

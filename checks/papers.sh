@@ -1,17 +1,17 @@
 #!/usr/bin/env bash
 # What the pages show is so:
-# - each line that begins with `$ ` in a block of README.md, docs/GUIDE.md or docs/RECIPES.md is run over a copy of examples/, with the
-#   lines that go on with it, and prints what stands under it, on both streams; the captures are made anew by examples/make.py. Those of
-#   docs/VERIFYING.md are run in the top folder;
-# - docs/RULES.md and the manual page have the numbers and names of the rules, whose definitions stand where the first says;
-#   the manual page has the options of the helps, and the lines that they show;
-# - what docs/CLAIMS.md claims is carried by functions that are there, and watched by edits and tests (checks/claims.py); each definition
-#   has a comment (checks/definitions.py), each file says what it is (checks/files.py), and the definitions behind a command and a law are
-#   as many as the pages say (checks/trusted.py);
+# - each line that begins with `$ ` in a block of README.md, docs/GUIDE.md or docs/RECIPES.md is run over a copy of
+#   examples/, with the lines that go on with it, and prints what stands under it, on both streams; the captures are
+#   made anew by examples/make.py. Those of docs/VERIFYING.md are run in the top folder;
+# - docs/RULES.md and the manual page have the numbers and names of the rules, whose definitions stand where the first
+#   says; the manual page has the options of the helps, and the lines that they show;
+# - what docs/CLAIMS.md claims is carried by functions that are there, and watched by edits and tests
+#   (checks/claims.py); each definition has a comment (checks/definitions.py), each file says what it is
+#   (checks/files.py), and the definitions behind a command and a law are as many as the pages say (checks/trusted.py);
 # - each file that a page names or links to is there, and so is each heading; a block that names a file is a part of it;
 # - a page says for whom it is, has lines of 120 columns, and is as short as it is to be;
-# - the version, the kits and what the program needs are as README and others say; the manual page and the completions are read without a
-#   complaint, if the programs for them are there.
+# - the version, the kits and what the program needs are as README and others say; the manual page and the completions
+#   are read without a complaint, if the programs for them are there.
 #
 # Use: checks/papers.sh [PROGRAM]
 set -u
@@ -130,7 +130,8 @@ told = re.findall(r"^(\w[\w -]*): (\d+) definitions, (\d+) lines", ran_check("tr
 page = ran_check("trusted.py", "--page").stdout
 lost = [it for it in told if f"\n## capt {it[0]}\n\n{it[1]} definitions, {it[2]} lines.\n\n| file " not in page]
 judged("checks/trusted.py --page", len(told) >= 13 and not lost, f"lacks {lost} of {len(told)} commands")
-counts = {law: (int(count), int(lines)) for law, count, lines in re.findall(r"^(\w+): (\d+) definitions, (\d+) lines", ran_check("trusted.py", "--laws").stdout, re.M)}
+laws = re.findall(r"^(\w+): (\d+) definitions, (\d+) lines", ran_check("trusted.py", "--laws").stdout, re.M)
+counts = {law: (int(count), int(lines)) for law, count, lines in laws}
 for law, count in re.findall(r"`(\w+)`(?: needs)? (\d+)\b", text_of("docs/VERIFYING.md")):
     judged(f"docs/VERIFYING.md, {law}", counts.get(law, (None,))[0] == int(count), f"it needs {counts.get(law)}")
 readme = text_of("README.md")

@@ -1,15 +1,16 @@
 #!/usr/bin/env python3
 """Which definitions must be read to trust a command: those of its text, of its refusal, and of what is written by each answer.
 
-The texts of `report` and `join` are those by places (the laws `report_by_places` and `joined_by_places` of cap_laws), which name no step of the
-machine that the calls cite.
+The texts of `report` and `join` are those by places (the laws `report_by_places` and `joined_by_places` of cap_laws),
+which name no step of the machine that the calls cite.
 
-It prints, for each command, how many definitions and lines these are, by crate. With a command's name it prints the definitions
-themselves, what depends on nothing first, under the comments that head their files. With --page it prints the page TRUSTED.md of the
-packages: their names by file. Words of the toolchain's library and the fields of the types in src/ aren't listed.
+It prints, for each command, how many definitions and lines these are, by crate. With a command's name it prints the
+definitions themselves, what depends on nothing first, under the comments that head their files. With --page it prints
+the page TRUSTED.md of the packages: their names by file. Words of the toolchain's library and the fields of the types
+in src/ aren't listed.
 
-With the name of a law, as `merge_sorts`, it prints the law's clauses and the definitions that they need beside those of the commands; with
---laws, how many these are for each law.
+With the name of a law, as `merge_sorts`, it prints the law's clauses and the definitions that they need beside those of
+the commands; with --laws, how many these are for each law.
 
 Use: checks/trusted.py [COMMAND | LAW | --laws | --page]
 """

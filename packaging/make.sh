@@ -1,11 +1,12 @@
 #!/usr/bin/env bash
-# Packs the built program, with manual, completions, pages, and the lists of definitions that checks/definitions.py and checks/trusted.py
-# print: a Debian package, a tarball whose program is linked statically and needs no C library, and their SHA-256 sums. The same program
-# gives the same bytes each time: every file has the date of the last commit, or of SOURCE_DATE_EPOCH. packaging/check.sh tries that.
+# Packs the built program, with manual, completions, pages, and the lists of definitions that checks/definitions.py and
+# checks/trusted.py print: a Debian package, a tarball whose program is linked statically and needs no C library, and
+# their SHA-256 sums. The same program gives the same bytes each time: every file has the date of the last commit, or of
+# SOURCE_DATE_EPOCH. packaging/check.sh tries that.
 #
-# Use: packaging/make.sh FOLDER [PROGRAM]     (after ./build.sh or `rt run` in crates/capt, which leave PROGRAM and PROGRAM.o; it wants
-#                                              the kit's `rt`, git, Python 3, tar, gzip, strip, dpkg-deb, and a C compiler with a
-#                                              static C library)
+# Use: packaging/make.sh FOLDER [PROGRAM]     (after ./build.sh or `rt run` in crates/capt, which leave PROGRAM and
+#                                              PROGRAM.o; it wants the kit's `rt`, git, Python 3, tar, gzip, strip,
+#                                              dpkg-deb, and a C compiler with a static C library)
 set -euo pipefail
 folder=$(realpath -m "$1")
 program=$(realpath "${2:-$(dirname "$0")/../crates/capt/out/capt}")
