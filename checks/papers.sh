@@ -4,7 +4,7 @@
 #   examples/, with the lines that go on with it, and prints what stands under it, on both streams; the captures are
 #   made anew by examples/make.py. Those of docs/VERIFYING.md are run in the top folder;
 # - docs/RULES.md and the manual page have the numbers and names of the rules, whose definitions stand where the first
-#   says; the manual page has the options of the helps, and the lines that they show;
+#   says; the manual page has what checks/manual.py prints from the helps, and the lines that they show;
 # - what docs/CLAIMS.md claims is carried by functions that are there, and watched by edits and tests
 #   (checks/claims.py); each definition has a comment (checks/definitions.py), each file says what it is
 #   (checks/files.py), and the definitions behind a command and a law are as many as the pages say (checks/trusted.py);
@@ -70,6 +70,7 @@ LENGTHS = {
     "docs/RECIPES.md": 1_300,
     "docs/RULES.md": 1_000,
     "docs/VERIFYING.md": 2_300,
+    "man/capt.1": 2_900,
 }
 
 # A command goes on in the lines after it that begin with two spaces.
@@ -95,17 +96,17 @@ told = {(int(number), name) for number, name in re.findall(r"^\| (\d+) `([\w-]+)
 judged("docs/RULES.md", len(rules) == 21 and told == rules, f"other rules: {sorted(told ^ rules)}")
 
 page = text_of("man/capt.1")
-told = {(int(number), name) for number, name in re.findall(r"^\.TP\n\.B (\d+) ([\w-]+)$", page, re.M)}
+heads = [head.replace("\\-", "-") for head in re.findall(r"^\.TP\n(.*)$", page, re.M)]
+told = {(int(it[1]), it[2]) for it in (re.fullmatch(r"\\fB(\d+) ([\w-]+)\\fR", head) for head in heads) if it}
 judged("man/capt.1, rules", told == rules, f"other rules: {sorted(told ^ rules)}")
 # the lines that the helps show, one of them on two, are lines of the manual page, letter by letter
-lines = set(re.sub(r"^\.B |\\f.", "", page, flags=re.M).replace("\\-", "-").split("\n"))
+lines = set(re.sub(r"\\f.", "", page).replace("\\-", "-").split("\n"))
 whole = re.sub(r"\n    (?=\w)", " ", text_of("checks/says.txt"))
 shown = set(re.findall(r"^  ((?:left out|files?|total|frames|joined|talks?|packet|block|same|differ|digest|check) \S.*)$", whole, re.M))
 judged("man/capt.1, lines", len(shown) == 17 and shown <= lines, f"{len(shown)} lines, lacks {sorted(shown - lines)}")
-# the manual has the options of the helps
+# the manual page has the options of the helps
 options = set(re.findall(r"^ +(?:-\w, )?(--[\w-]+)(?: |$)", text_of("checks/says.txt"), re.M))
-told = page[page.index("\n.SH OPTIONS\n"):page.index("\n.SH LINES\n")]
-told = {it.replace("\\-", "-") for it in re.findall(r"^\.TP\n\.B\w* [^\n]*?(\\-\\-[\w\\-]+)", told, re.M)}
+told = {it[1] for it in (re.match(r"(?:\\fB-\w\\fR, )?\\fB(--[\w-]+)\\fR", head) for head in heads) if it}
 judged("man/capt.1, options", options and told == options, f"other options: {sorted(told ^ options)}")
 
 # a pipe into or out of capt fails if any of its programs does
@@ -120,6 +121,8 @@ def ran_check(*words):
     return subprocess.run([f"{top}/checks/{words[0]}", *words[1:]], capture_output=True, text=True)
 
 # what the scripts that read the sources find
+ran = ran_check("manual.py", "--check")
+judged("checks/manual.py", ran.returncode == 0, ran.stderr)
 ran = ran_check("claims.py", "--faults")
 judged("docs/CLAIMS.md", ran.returncode == 0 and not ran.stdout, ran.stdout + ran.stderr)
 ran = ran_check("definitions.py")
