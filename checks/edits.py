@@ -11,6 +11,9 @@ isn't proved.
 An edit with a line `of: MODULE::FUNCTION` may reach more than that function: a constant, a definition, the statement
 of a law. It is tried by itself, by a check of that function.
 
+A check of a function is one of all that it calls. So a crate whose edits take several checks is first checked as it
+stands. That must prove it, and what it proved is where the crate's other checks begin: they prove what an edit reached.
+
 Use: checks/edits.py [CRATE | CRATE/EDIT]..     over the libraries that `rt ci` or `rt check` left in crates/*/out; of an
                                                 edit that is named, it prints the goals at which it is refused
      checks/edits.py --beside LOG               those of crates/*/edits alone, beside a `rt ci` that writes to LOG, and that
@@ -98,22 +101,35 @@ def checked(group, room, rlibs):
     for path, text in group.texts.items():
         with open(f"{copy}/{path}", "w", encoding="utf-8") as file:
             file.write(text)
+    only = [word for function in sorted(group.functions) for word in ("--only", function)]
+    return check(crate, copy, room, rlibs, only)[1]
+
+
+def proved(crate, room, rlibs):
+    """Checks a crate as it stands: the room keeps what it proved. Returns what is to be said if it isn't proved."""
+    status, said = check(crate, crate.folder, room, rlibs, [])
+    if status == 0:
+        return []
+    first = next((it for it in said.splitlines() if "error" in it or "not proved" in it), said[-200:])
+    return [f"{crate.name}: isn't proved as it stands: {first[:200]}"]
+
+
+def check(crate, folder, room, rlibs, only):
+    """A check of a crate, or of the functions that are named: its status, and what it says."""
     words = [f"{kit()}/bin/rattle", "check", "--crate-name", crate.name, crate.root]
     words += ["--crate-type", "staticlib"] * crate.is_static
     here = {it.name for it in crate.below}
     for library in dict.fromkeys(["std", *crate.libraries]):
         words += ["--extern", f"{library}={rlibs[library] if library in here else f'{kit()}/rlibs/{library}.rlib'}"]
-    for folder in {os.path.dirname(rlibs[library]) for library in here} | {f"{kit()}/rlibs"}:
-        words += ["-L", f"dependency={folder}"]
+    for found in {os.path.dirname(rlibs[library]) for library in here} | {f"{kit()}/rlibs"}:
+        words += ["-L", f"dependency={found}"]
     words += ["--links", f"{crate.name}=", "--jobs", "1", "--incremental", f"{room}/kept"]
-    words += ["--antt-project", f"{kit()}/rattle/logic/antt-project.json", "--logic-built", f"{kit()}/logic_built"]
-    for function in sorted(group.functions):
-        words += ["--only", function]
+    words += ["--antt-project", f"{kit()}/rattle/logic/antt-project.json", "--logic-built", f"{kit()}/logic_built", *only]
     for is_last in (False, True):
-        status, said = run(words, copy, crate.name)
+        status, said = run(words, folder, crate.name)
         # (most likely for memory)
         if status != -signal.SIGKILL or is_last:
-            return said
+            return status, said
 
 
 # how many checks each crate had, and their processor seconds
@@ -178,16 +194,29 @@ def judge(group, said):
 own = threading.local()
 
 
+def room_of(crate, rooms):
+    """The thread's room for a crate. It begins with what a check of the crate as it stands proved, if there was one."""
+    if not hasattr(own, "rooms"):
+        own.rooms = {}
+    if crate.name not in own.rooms:
+        own.rooms[crate.name] = tempfile.mkdtemp(dir=rooms)
+        seed = f"{rooms}/{crate.name}/kept"
+        if os.path.isdir(seed):
+            shutil.copytree(seed, f"{own.rooms[crate.name]}/kept", copy_function=link_if_proved)
+    return own.rooms[crate.name]
+
+
+def link_if_proved(one, other):
+    """Copies a file that a check kept: what it proved by a link, since a later check replaces such a file, and changes none."""
+    (link_or_copy if one.endswith(".oantt") else shutil.copy2)(one, other)
+
+
 def tried(group, rooms, rlibs):
     """Tries a group of edits: the goals at which each was refused, and what is to be said of the others."""
     lost = sorted(it.name for it in group.crate.below if it.name not in rlibs)
     if lost:
         return {}, [f"{edit.label}: not tried, since {lost[0]} isn't built" for edit in group.edits]
-    if not hasattr(own, "rooms"):
-        own.rooms = {}
-    room = own.rooms.setdefault(group.crate.name, None) or tempfile.mkdtemp(dir=rooms)
-    own.rooms[group.crate.name] = room
-    said = checked(group, room, rlibs)
+    said = checked(group, room_of(group.crate, rooms), rlibs)
     found = judge(group, said)
     if found and (not found[1] or len(group.edits) == 1):
         return found
@@ -245,20 +274,56 @@ def link_or_copy(one, other):
         shutil.copy2(one, other)
 
 
+class Turns:
+    """The groups that are still to be tried, each once the libraries below its crate are built, and once the crate was checked
+    as it stands, if it has several groups."""
+
+    def __init__(self, groups, room, rlibs):
+        self.left, self.room, self.rlibs = list(groups), room, rlibs
+        self.counts = collections.Counter(it.crate.name for it in groups)
+        # of the crates whose check as they stand has begun: what it has to say, once it has ended
+        self.begun = {}
+
+    def task(self):
+        """What can be done next, if anything can: a function, which yields what was found."""
+        for group in self.left:
+            crate = group.crate
+            if not self.rlibs.are_below(crate):
+                continue
+            if self.counts[crate.name] > 1 and crate.name not in self.begun and all(it.name in self.rlibs for it in crate.below):
+                self.begun[crate.name] = None
+                return lambda: self.begin(crate)
+            if self.begun.get(crate.name, []) is not None:
+                self.left.remove(group)
+                return lambda: self.tried(group)
+        return None
+
+    def begin(self, crate):
+        """Checks a crate as it stands."""
+        wrong = proved(crate, f"{self.room}/{crate.name}", self.rlibs)
+        self.begun[crate.name] = wrong
+        return {}, wrong
+
+    def tried(self, group):
+        """Tries a group of a crate, unless it isn't proved as it stands."""
+        if self.begun.get(group.crate.name):
+            return {}, [f"{edit.label}: not tried, since {group.crate.name} isn't proved as it stands" for edit in group.edits]
+        return tried(group, self.room, self.rlibs)
+
+
 def in_turn(groups, room, rlibs):
-    """Tries groups side by side, each once the libraries below its crate are built, and yields what was found of each."""
+    """Tries groups side by side, and yields what was found."""
     lanes = int(os.environ.get("RT_JOBS") or os.cpu_count())
-    left, running = list(groups), set()
+    turns, running = Turns(groups, room, rlibs), set()
     with ThreadPoolExecutor(lanes) as pool:
-        while left or running:
+        while turns.left or running:
             rlibs.look()
-            for group in [it for it in left if rlibs.are_below(it.crate)][: lanes - len(running)]:
-                left.remove(group)
-                running.add(pool.submit(tried, group, room, rlibs))
+            while len(running) < lanes and (task := turns.task()):
+                running.add(pool.submit(task))
             if running:
                 done, running = wait(running, timeout=LOOK, return_when=FIRST_COMPLETED)
                 yield from (it.result() for it in done)
-            elif left:
+            elif turns.left:
                 time.sleep(LOOK)
 
 

@@ -91,6 +91,12 @@ ABOVE = {
     "crates/large/src/lib.rt": FILES["crates/small/src/lib.rt"],
     "crates/large/edits/next-by-three.edit": EDITS[0][1],
 }
+# the crate with a function that isn't what it promises, and two edits of another, which are tried by two checks
+UNPROVED = {
+    "crates/small/src/lib.rt": FILES["crates/small/src/lib.rt"].replace("    count + 2\n", "    count + 3\n"),
+    "crates/small/edits/again-by-three.edit": EDITS[0][1],
+    "crates/small/edits/next-by-three.edit": EDITS[0][1],
+}
 
 
 def write_tree(tree, files):
@@ -127,6 +133,16 @@ def waits(tree):
     return None if is_so else f"edits.py beside `rt ci`: {is_waiting}, {run.returncode}, {said}"
 
 
+def doubts(tree):
+    """Whether edits.py counts each edit of a crate that isn't proved as failed, and the crate too."""
+    run = subprocess.run([f"{CHECKS}/edits.py", "--tree", tree], capture_output=True, text=True)
+    why = "not tried, since small isn't proved as it stands"
+    wanted = [f"edits.py: small/{name}: {why}" for name in ("again-by-three", "next-by-three")]
+    said = run.stdout.splitlines()
+    is_so = all(it in said for it in wanted) and said[-1] == "0 passed, 3 failed" and run.returncode == 1
+    return None if is_so else f"edits.py over what isn't proved: {run.returncode}, {run.stdout}"
+
+
 def main():
     with tempfile.TemporaryDirectory(prefix="capt-edits-test-") as tree:
         write_tree(tree, FILES | {f"crates/small/edits/{name}.edit": text for name, text, _, _ in EDITS})
@@ -134,6 +150,9 @@ def main():
     with tempfile.TemporaryDirectory(prefix="capt-edits-test-") as tree:
         write_tree(tree, FILES | ABOVE)
         told.append(waits(tree))
+    with tempfile.TemporaryDirectory(prefix="capt-edits-test-") as tree:
+        write_tree(tree, FILES | UNPROVED)
+        told.append(doubts(tree))
     wrong = [it for it in told if it]
     print(*wrong, sep="\n", end="\n" * bool(wrong))
     print(f"{len(told) - len(wrong)} passed, {len(wrong)} failed")
