@@ -321,7 +321,7 @@ def endless(count, bench, shim, out):
         count.check(f"{task} of a file without end", is_so and seen[4] < 16_384 and (task != "blocks" or seen[1].count(b"\n") == 257), seen)
     name = bench.name(SECTION)
     seen = run(["info", "--explain", name], bench.program, (shim, {"ENDLESS": 1}))
-    told = f"refused: file 1 offset {offset} rule 14 file-limit\n  {name}: a record or block of it ends after 2^40 bytes\n"
+    told = f"refused: file 1 offset {offset} rule 14 file-limit\n  {name}: a record or block ends past byte 2^40\n"
     count.check("info of a file without end, explained", (seen[0], seen[2]) == (1, told.encode()), seen)
 
 

@@ -34,7 +34,7 @@ SAID = [
     ("4 packet-long", "list", ETHERNET + bytes.fromhex("00000000 00000000 01000400 01000400"), "more than 262,144 bytes of a packet were captured"),
     ("5 block-length", "list", HEADER + bytes.fromhex("05000000 1e000000 00000000"), "the length of a block is wrong"),
     ("6 block-trailer", "list", HEADER + bytes.fromhex("05000000 10000000 01020304 0c000000"), "the two lengths of a block differ"),
-    ("7 order-magic", "list", bytes.fromhex("0a0d0d0a 1e000000 00000000"), "the byte order of a section can't be told"),
+    ("7 order-magic", "list", bytes.fromhex("0a0d0d0a 1e000000 00000000"), "a section has no valid byte order"),
     ("8 captured", "list", DESCRIBED + block(6, bytes(12) + b"\x05\0\0\0\x04\0\0\0" + bytes(4)), "a packet doesn't fit in its block"),
     ("9 interface-unknown", "list", HEADER + packet(0, 0, b""), "a packet names an interface that isn't in its section"),
     ("10 option-end", "list", interface("0200 0900 01020304"), "an option runs past the end of its block"),

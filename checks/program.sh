@@ -324,11 +324,11 @@ explained 'a name of two lines, explained' $'fault: open file 1\n  a\\u{a}b: No 
 explained 'a name with C1 and bidi controls, explained' $'fault: open file 1\n  \\u{9b}\\u{202e}\\u{7f}: No such file or directory (os error 2)' info --explain $'\xc2\x9b\xe2\x80\xae\x7f'
 explained 'a name in UTF-8, explained' $'fault: open file 1\n  \xc3\xa4\xe2\x82\xac: No such file or directory (os error 2)' info --explain $'\xc3\xa4\xe2\x82\xac'
 explained 'blocks of a pcap file, explained' 'refused: file 1 offset 0 rule 1 magic
-  one.pcap: blocks are of pcapng files, and this is a pcap file: capt list shows its packets' blocks --explain one.pcap
+  one.pcap: only pcapng files have blocks, and this is a pcap file: capt list shows its packets' blocks --explain one.pcap
 input=$one; explained 'blocks of standard input, explained' 'refused: file 1 offset 0 rule 1 magic
-  -: blocks are of pcapng files, and this is a pcap file: capt list shows its packets' blocks --explain -; input=
+  -: only pcapng files have blocks, and this is a pcap file: capt list shows its packets' blocks --explain -; input=
 explained 'blocks of a text, explained' 'refused: file 1 offset 0 rule 1 magic
-  text: this is no pcapng file, which has blocks' blocks --explain text
+  text: only pcapng files have blocks, and this isn't one' blocks --explain text
 explained 'a text, explained' 'refused: file 1 offset 0 rule 1 magic
   text: this is no capture of pcap or pcapng' list --explain text
 for kind in 'gzip zcat \x1f\x8b\x08\0' 'zstd zstdcat \x28\xb5\x2f\xfd' 'xz xzcat \xfd7zXZ\0' 'lz4 lz4cat \x04\x22\x4d\x18' 'bzip2 bzcat BZh9'; do
@@ -573,7 +573,7 @@ if command -v script > /dev/null; then
     shown 'a folder at a terminal' 'fault: read file 1 offset 0
   folder: it is a folder' list folder
     shown 'blocks of a pcap file at a terminal' 'refused: file 1 offset 0 rule 1 magic
-  one.pcap: blocks are of pcapng files, and this is a pcap file: capt list shows its packets' blocks one.pcap
+  one.pcap: only pcapng files have blocks, and this is a pcap file: capt list shows its packets' blocks one.pcap
     shown 'a name that sets a title, at a terminal' $'fault: open file 1\n  \\u{1b}]0;x\\u{7}: No such file or directory (os error 2)' list $'\e]0;x\a'
     shown 'a capture for a terminal' "fault: create output
   standard output: a terminal can't show a capture" merge -o - one.pcap

@@ -37,48 +37,49 @@ Commands that write captures:
   join     Writes the whole IPv4 datagrams of captures, fragments joined
 
 Options:
-  -h, --help     Print help; of a command: capt help merge
+  -h, --help     Print help; capt help merge prints that of merge
   -V, --version  Print version
-      --explain  Of each command: name the file of a fault, and why, and count
-                 what isn't carried on, as at a terminal
-      --json     Of report, info, list, blocks, diff, digest, check: print
-                 JSON Lines
-      --data N   Of list and diff with --json: show N bytes of each packet,
+      --explain  In each command: name the file and the reason if the run fails,
+                 and count what is dropped; at a terminal this is the default
+      --json     In report, info, list, blocks, diff, digest and check: print
+                 each line as a JSON object
+      --data N   In list and diff with --json: show N bytes of each packet,
                  default 16
-      --top N    Of report: print a line for the N conversations with the most
-                 bytes, the greatest first, and for no others
+      --top N    In report: print only the N conversations with the most bytes,
+                 the greatest first
       --time FORM
-                 Of report, info, list, diff and check: print times as exact,
+                 In report, info, list, diff and check: print times as exact,
                  2+500000/1000000, which is the default, as decimal, 2.500000,
                  or as utc, 1970-01-01T00:00:02.500000Z
       --skip-refused
-                 Of report and info: leave out each capture that is refused,
-                 and print a line that says so first
+                 In report and info: leave out each capture that breaks a rule,
+                 and print a line for it first
       --ignore KIND
-                 Of diff: let packets differ in KIND, which is time, link or
-                 original
-      --class    Of list: say of which class each packet is, and why
-      --ipv6     Of report, and of list with --class: read IPv6 packets too
-      --digest   Of check: print the SHA-256 of the packets too
-      --names    Of digest and check: name each file at the end of its line
+                 In diff: let packets differ in KIND, which is time, link or
+                 original; it may be repeated
+      --class    In list: print the class of each packet, and the reason
+      --ipv6     In report, and in list with --class: read IPv6 packets too
+      --digest   In check: print the SHA-256 of the packets too
+      --names    In digest and check: name each file at the end of its line
       --files0-from LIST
-                 Of digest and check: read the names of captures, each ended
+                 In digest and check: read the names of captures, each ended
                  by a NUL, from the file LIST, or - for standard input
       --verify LIST
-                 Of digest: say of each line of LIST, which digest --names
-                 printed, whether its file still has that line
-      --whole    Of convert, merge and join: leave OUT as it was until all is
+                 In digest: read lines that digest --names printed from the
+                 file LIST, and print for each whether it still holds
+      --whole    In convert, merge and join: leave OUT as it was until all is
                  done
       --share-interfaces
-                 Of merge: write equal interfaces as one
+                 In merge: write equal interfaces as one
       --unit UNIT
-                 Of convert, merge and join with --to pcap: write times in UNIT,
+                 In convert, merge and join with --to pcap: write times in UNIT,
                  which is micro or nano
 
-A refusal names the file, the offset and the broken rule.
-Status 0: success; 1: a capture is refused, or one that is checked isn't whole,
-a file can't be opened, read, created or written, or memory ran out; 2: the
-command line is invalid; 3: diff or digest --verify found a difference.
+A refusal names the file, the offset and the broken rule. Status 0: success.
+1: a capture breaks a rule, is left out, missing or not whole; a file can't be
+opened, read, created or written; or memory ran out. 2: the command line, or a
+line of the LIST of --verify, is invalid. 3: diff or digest --verify found a
+difference.
 ";
 
 /// What is printed for words that aren't all UTF-8.

@@ -28,8 +28,8 @@ fn magic_meaning(task: Task, kind: Kind) -> &'static str {
         Kind::ModifiedPcap =>
             "this is a modified pcap file, which capt doesn't read: editcap -F pcap FILE OUT converts it",
         Kind::Pcap if task == Task::Blocks =>
-            "blocks are of pcapng files, and this is a pcap file: capt list shows its packets",
-        Kind::Other if task == Task::Blocks => "this is no pcapng file, which has blocks",
+            "only pcapng files have blocks, and this is a pcap file: capt list shows its packets",
+        Kind::Other if task == Task::Blocks => "only pcapng files have blocks, and this isn't one",
         _ => "this is no capture of pcap or pcapng",
     }
 }
@@ -47,14 +47,14 @@ fn meaning(rule: Rule) -> &'static str {
         Rule::PacketLong => "more than 262,144 bytes of a packet were captured",
         Rule::BlockLength => "the length of a block is wrong",
         Rule::BlockTrailer => "the two lengths of a block differ",
-        Rule::OrderMagic => "the byte order of a section can't be told",
+        Rule::OrderMagic => "a section has no valid byte order",
         Rule::Captured => "a packet doesn't fit in its block",
         Rule::InterfaceUnknown => "a packet names an interface that isn't in its section",
         Rule::OptionEnd => "an option runs past the end of its block",
         Rule::OptionLength => "the length of an option is wrong",
         Rule::Resolution => "its times are finer than 10^-19 or 2^-63 of a second",
         Rule::InterfaceLimit => "there are more than 1,024 interfaces",
-        Rule::FileLimit => "a record or block of it ends after 2^40 bytes",
+        Rule::FileLimit => "a record or block ends past byte 2^40",
         Rule::OpenLimit => "too many groups of fragments are open",
         Rule::TalkLimit => "there are more than 1,048,576 conversations",
         Rule::NoTime => "a packet has no time, and can't be written",
