@@ -1,6 +1,6 @@
 #!/usr/bin/env bash
 # Links the archive that `rt lib` or `build.sh lib` made of this crate as libcapt: puts libcapt.a, libcapt.so, capt.h,
-# capt_file.h and capt.pc into a folder. Only the names that begin with capt_ are seen from outside: those of the shared
+# capt_file.h, and what pkg-config and CMake want, capt.pc and cmake/, into a folder. Only the names that begin with capt_ are seen from outside: those of the shared
 # library are listed in capt.map, each under the release that brought it.
 #
 # Use: crates/capt_c/link.sh ARCHIVE FOLDER [PREFIX]     (it wants a C compiler and binutils; PREFIX, for capt.pc, is /usr/local)
@@ -35,4 +35,15 @@ Description: packet captures (pcap, pcapng), read and reported by proved code
 Version: $version
 Libs: -L\${libdir} -lcapt
 Cflags: -I\${includedir}
+END
+install -Dm644 -t "$folder/cmake/capt" "$here/cmake/capt-config.cmake"
+cat > "$folder/cmake/capt/capt-config-version.cmake" << END
+set(PACKAGE_VERSION "$version")
+# as the soname has it: a program that was built for a release runs with later ones of the same first number
+if("\${PACKAGE_FIND_VERSION_MAJOR}" STREQUAL "${version%%.*}" AND NOT PACKAGE_VERSION VERSION_LESS PACKAGE_FIND_VERSION)
+    set(PACKAGE_VERSION_COMPATIBLE TRUE)
+    if(PACKAGE_VERSION VERSION_EQUAL PACKAGE_FIND_VERSION)
+        set(PACKAGE_VERSION_EXACT TRUE)
+    endif()
+endif()
 END
