@@ -3,8 +3,8 @@
 use crate::checks::{holds, same};
 use crate::source::carried;
 use crate::vectors::{CARRY_PCAP, OPTIONS_PCAPNG};
-use cap_bytes::{Fault, Refusal, Rule, Tail};
-use cap_source::{Fed, FedCapture, Format, Meta};
+use cap_bytes::{CutRest, Fault, Refusal, Rule, Tail};
+use cap_source::{Ending, Fed, FedCapture, Format, Meta};
 use std::alloc::Global;
 use std::process::Abort;
 
@@ -23,14 +23,33 @@ fn gives(rt: &impl Abort, fed: &mut FedCapture, meta: Meta) {
     same!(rt; fed.frame(), [1, 2, 3, 4].as_slice());
 }
 
-// More is wanted until it is said that all was fed; then that comes, again and again.
-fn ends(rt: &impl Abort, mut fed: FedCapture, last: Result<Fed, Fault>) {
+// How the capture ended, if it has.
+fn ending(fed: &FedCapture) -> Option<Ending> {
+    match fed.ending() {
+        Some(end) => Some(end.ending),
+        None => None,
+    }
+}
+
+// More is wanted until it is said that all was fed; then that comes, again and again, and the capture has ended so.
+fn ends(rt: &impl Abort, mut fed: FedCapture, last: Result<Fed, Fault>, told: Option<Ending>) {
     same!(rt; fed.next(), Ok(Fed::More));
     holds!(rt; !fed.has_ended());
     fed.end();
     holds!(rt; fed.has_ended());
+    same!(rt; ending(&fed), None);
     same!(rt; fed.next(), last);
     same!(rt; fed.next(), last);
+    same!(rt; ending(&fed), told);
+}
+
+// An ending of that format.
+fn ended(format: Format, skipped: u64, cut: Option<CutRest>) -> Option<Ending> {
+    Some(Ending {
+        skipped,
+        format,
+        cut,
+    })
 }
 
 #[test]
@@ -38,7 +57,7 @@ fn a_pcap_file_byte_by_byte(rt: HostRuntime) {
     let mut fed = FedCapture::new(rt.alloc(), 7, Tail::Refuse);
     wants(&rt, &mut fed, &CARRY_PCAP);
     gives(&rt, &mut fed, carried(&rt, 24, Format::Pcap));
-    ends(&rt, fed, Ok(Fed::End));
+    ends(&rt, fed, Ok(Fed::End), ended(Format::Pcap, 0, None));
 }
 
 // The packet's block ends at byte 144, and a block that is skipped comes after it.
@@ -48,7 +67,7 @@ fn a_pcapng_file_byte_by_byte(rt: HostRuntime) {
     wants(&rt, &mut fed, &OPTIONS_PCAPNG[..144]);
     gives(&rt, &mut fed, carried(&rt, 96, Format::Pcapng));
     wants(&rt, &mut fed, &OPTIONS_PCAPNG[144..]);
-    ends(&rt, fed, Ok(Fed::End));
+    ends(&rt, fed, Ok(Fed::End), ended(Format::Pcapng, 1, None));
 }
 
 // A record without its last byte.
@@ -61,10 +80,19 @@ fn a_cut_file_is_refused_at_the_end_alone(rt: HostRuntime) {
     };
     let mut fed = FedCapture::new(rt.alloc(), 7, Tail::Refuse);
     wants(&rt, &mut fed, &CARRY_PCAP[..43]);
-    ends(&rt, fed, Err(Fault::Refused(cut)));
+    ends(&rt, fed, Err(Fault::Refused(cut)), None);
     let mut fed = FedCapture::new(rt.alloc(), 7, Tail::Accept);
     wants(&rt, &mut fed, &CARRY_PCAP[..43]);
-    ends(&rt, fed, Ok(Fed::End));
+    let dropped = CutRest {
+        offset: 24,
+        size: 19,
+    };
+    ends(
+        &rt,
+        fed,
+        Ok(Fed::End),
+        ended(Format::Pcap, 0, Some(dropped)),
+    );
 }
 
 // A pcap file whose header is fed first, and then records without bytes, 16 bytes each.

@@ -1,7 +1,7 @@
 -- What comes next of a pcapng file that is fed, whatever is fed later.
-use Rattle.std.proofs.Common.{◌≡◌, ℕ, ◌+◌, ◌-◌, ◌^◌, ◌≤◌, ◌<◌, ◌==◌, ◌&&◌, Bool, true, false, List, []}
+use Rattle.std.proofs.Common.{◌≡◌, ℕ, ◌+◌, ◌-◌, ◌^◌, ◌≤◌, ◌<◌, ◌==◌, ◌&&◌, Bool, true, false, List}
 use Rattle.std.proofs.Common.{◌∷◌, ◌++◌}
-use Rattle.std.proofs.Common.{length, drop, Option, Some, None, Ok, refl, sym, ap, ◌∙◌, subst, arith}
+use Rattle.std.proofs.Common.{length, drop, Option, Some, None, Ok, Err, refl, sym, ap, ◌∙◌, subst, arith}
 use Rattle.std.proofs.Common.{is_some}
 use Rattle.std.proofs.Common.{length-append, length-drop, drop-drop, nat_lt}
 use Rattle.std.proofs.Common.{◌⊎◌, inl, inr}
@@ -20,20 +20,22 @@ use Rattle.cap_blocks.specs.Split.{body_fault, body_in, fields_fault, first_faul
 use Rattle.cap_blocks.specs.inner.Parsing.{ParsesBlockHeader}
 use Rattle.cap_blocks.specs.declared.blocks.Block.{Block}
 use Rattle.cap_bytes.proofs.Items.{stop_where-fault}
-use Rattle.cap_source.proofs.FedStops.{items-sized}
 use Rattle.cap_bytes.proofs.Spelling.{number-append}
-use Rattle.cap_bytes.specs.Items.{stop_by, stop_where}
+use Rattle.cap_bytes.specs.Items.{PieceItem, given, stop_by, stop_where}
 use Rattle.cap_bytes.specs.Number.{number}
 use Rattle.cap_bytes.specs.declared.faults.Rule.{Rule}
 use Rattle.cap_bytes.specs.declared.faults.Rule.TheVariants.{BlockTrailer, Cut}
 use Rattle.cap_bytes.specs.declared.faults.Tail.{Tail}
+use Rattle.cap_bytes.specs.declared.formats.Format.TheVariants.{Pcapng}
 use Rattle.cap_bytes.specs.declared.numbers.Order.{Order}
+use Rattle.cap_bytes.specs.declared.stops.Stop.TheVariants as stops
 use Rattle.cap_bytes.specs.declared.stops.Stop.{Stop}
 use Rattle.cap_source.proofs.Bodies.{other}
 use Rattle.cap_source.specs.Contents.{content_in}
-use Rattle.cap_source.specs.Fed.{skipped_items}
-use Rattle.cap_source.specs.Feed.{Item, refused}
-use Rattle.cap_source.specs.Items.{SectionProgress, after, behind, items_at_block, items_of_blocks, items_of_stop}
+use Rattle.cap_source.specs.Comments.{comments_in}
+use Rattle.cap_source.specs.Fed.{FedRest, rest_of_blocks, rest_of_stop, skipped_rest}
+use Rattle.cap_source.specs.Items.{SectionProgress, after, behind, counted_behind, ending_in, ending_with}
+use Rattle.cap_source.specs.Items.{items_at_block, items_of_blocks, more_comments, unless_faulty, with_comments}
 use Rattle.cap_source.specs.declared.contents.BlockContent.{BlockContent}
 use Rattle.cap_source.specs.declared.contents.BlockContent.TheVariants as contents
 
@@ -41,42 +43,80 @@ module _ (file : ℕ) (progress : SectionProgress) (section : Option Order) (tai
   -- what ends them
   pub blocks-stop : (w : List ℕ) (stop : Stop)
       → stop_where (is_some section) tail file offset w (block_fault section offset w) ≡ Some stop
-      → items_of_blocks file progress (block_items_from section tail file offset w) ≡ items_of_stop stop
-  unfolding items_of_blocks
+      → rest_of_blocks file progress (block_items_from section tail file offset w)
+      ≡ rest_of_stop Pcapng progress stop
+  unfolding items_of_blocks ending_in
   blocks-stop w stop is =
-      ap (items_of_blocks file progress) (blocks.items_from-stop section tail file offset w stop is)
+      ap (rest_of_blocks file progress) (blocks.items_from-stop section tail file offset w stop is)
 
   pub block-some : (b : List ℕ) (rule : Rule) → block_fault section offset b ≡ Some rule → (rule ≡ Cut → ⊥)
       → 0 < length b
   unfolding block_fault first_fault fields_fault
   block-some b rule is other = grind (arith, nat_tests)
 
+-- what comes from a block on that says this, before what comes after it
+abbrev pub rest_at_block : ℕ → SectionProgress → Block → List ℕ → Result BlockContent Rule → FedRest → FedRest
+rest_at_block file progress block body content rest =
+    record {
+      items = items_at_block file progress block body content rest.items;
+      ending = unless_faulty content (ending_with progress None) rest.ending;
+    }
+
+-- comments that aren't counted change nothing
+module _ (progress : SectionProgress) (uncounted : progress.comments ≡ None) where
+  same-comments : (n : ℕ) → with_comments progress (more_comments progress.comments n) ≡ progress
+  same-comments n =
+      ap (λ (counted : Option ℕ). with_comments progress (more_comments counted n)) uncounted
+      ∙ ap (with_comments progress) (sym uncounted)
+
+  same-behind : (block : Block) (body : List ℕ) (content : Result BlockContent Rule)
+      → counted_behind progress block body content ≡ behind progress content
+  same-behind block body (Ok content) =
+      ap (λ (p : SectionProgress). after p content)
+      (same-comments (comments_in block.kind block.order content body))
+  same-behind block body (Err rule) = refl
+
+  given-rest : (file : ℕ) (block : Block) (body : List ℕ) (rest : List (PieceItem Block))
+      → rest_of_blocks file progress (given block body ∷ rest)
+      ≡ rest_at_block file progress block body (content_in progress.interfaces block.kind block.order body)
+      (rest_of_blocks file (behind progress (content_in progress.interfaces block.kind block.order body)) rest)
+  unfolding items_of_blocks ending_in
+  given-rest file block body rest =
+      let content = content_in progress.interfaces block.kind block.order body in
+      ap (λ (p : SectionProgress). record {
+        items = items_at_block file progress block body content (items_of_blocks file (behind progress content) rest);
+        ending = unless_faulty content (ending_with progress None) (ending_in p rest);
+      }) (same-behind block body content)
+
+module _ (file : ℕ) (progress : SectionProgress) (uncounted : progress.comments ≡ None) (section : Option Order)
+    (tail : Tail) (offset : ℕ) where
   said : (w : List ℕ) → Result BlockContent Rule
   said w = content_in progress.interfaces (block_at section offset w).kind (block_at section offset w).order
       (body_at section w)
 
   given-block : (w : List ℕ) → 0 < length w → block_fault section offset w ≡ None
-      → items_of_blocks file progress (block_items_from section tail file offset w)
-      ≡ items_at_block file progress (block_at section offset w) (body_at section w) (said w)
-      (items_of_blocks file (behind progress (said w))
+      → rest_of_blocks file progress (block_items_from section tail file offset w)
+      ≡ rest_at_block file progress (block_at section offset w) (body_at section w) (said w)
+      (rest_of_blocks file (behind progress (said w))
       (block_items_from (Some (block_order_at section w)) tail file
       (offset + total_at (block_order_at section w) w) (drop (total_at (block_order_at section w) w) w)))
-  unfolding items_of_blocks said
+  unfolding said
   given-block w some none =
-      ap (items_of_blocks file progress)
+      ap (rest_of_blocks file progress)
       (blocks.items_from-block section tail file offset w (stop_at-whole section tail file offset w some none))
+      ∙ given-rest progress uncounted file (block_at section offset w) (body_at section w) _
 
   -- an order, a total length and what follows by them
-  abbrev pub given-by : Block → List ℕ → Order → ℕ → List ℕ → List Item
+  abbrev pub given-by : Block → List ℕ → Order → ℕ → List ℕ → FedRest
   given-by block body order total rest =
       let content = content_in progress.interfaces block.kind block.order body in
-      items_at_block file progress block body content
-      (items_of_blocks file (behind progress content) (block_items_from (Some order) tail file (offset + total) rest))
+      rest_at_block file progress block body content
+      (rest_of_blocks file (behind progress content) (block_items_from (Some order) tail file (offset + total) rest))
 
   -- a block that stands whole
   pub block-fed : (b later : List ℕ) (block : Block) → ParsesBlockHeader section offset b (Ok block)
       → block.total ≤ length b → body_fault block.order b ≡ None
-      → items_of_blocks file progress (block_items_from section tail file offset (b ++ later))
+      → rest_of_blocks file progress (block_items_from section tail file offset (b ++ later))
       ≡ given-by block (body_in block.total b) block.order block.total (drop block.total b ++ later)
   unfolding said
   block-fed b later block p whole none =
@@ -150,33 +190,36 @@ module _ (file : ℕ) (progress : SectionProgress) (section : Option Order) (tai
     offset-is = ap (λ (k : Block). k.offset) block-is
 
     faulty : (rule : Rule) → body_fault block.order w ≡ Some rule
-        → items_of_blocks file progress (block_items_from section tail file offset w)
-        ≡ items_of_stop (stop_by true tail file block.offset (length w) rule)
+        → rest_of_blocks file progress (block_items_from section tail file offset w)
+        ≡ rest_of_stop Pcapng progress (stop_by true tail file block.offset (length w) rule)
     faulty rule is =
         let fault : block_fault section offset w ≡ Some rule =
         fault-whole section offset w block (Some rule) header-is is in
-        blocks-stop w (stop_by (is_some section) tail file offset (length w) rule)
+        blocks-stop file progress section tail offset w (stop_by (is_some section) tail file offset (length w) rule)
         (stop_where-fault (is_some section) tail file offset w (block_fault section offset w) rule some fault)
-        ∙ (λ i. items_of_stop (stop_by (inside i) tail file (sym offset-is i) (length w) rule))
+        ∙ (λ i. rest_of_stop Pcapng progress (stop_by (inside i) tail file (sym offset-is i) (length w) rule))
       where
         some : (is_some section && (length w == 0)) ≡ false
         some = let f = there in grind (arith, nat_tests)
 
     skip-cut : length w < block.total
-        → items_of_blocks file progress (block_items_from section tail file offset w)
-        ≡ skipped_items file tail progress block (block.total - 4) w
-    unfolding skipped_items
+        → rest_of_blocks file progress (block_items_from section tail file offset w)
+        ≡ skipped_rest file tail progress block (block.total - 4) w
+    unfolding skipped_rest
     skip-cut few =
         let short : nat_lt (length w) ((block.total - 4) + 4) ≡ true =
         let l = least in grind (arith, nat_tests) in
         faulty Cut (body_fault-cut block.order w (omega (arith, few, total-is)))
-        ∙ (items-sized true tail file block.offset (length w)
-        (block.total - 4 - (block.total - 4) + length w) Cut ∙ sym (rw short refl))
+        ∙ (ap (λ (n : ℕ). rest_of_stop Pcapng progress (stop_by true tail file block.offset n Cut))
+        (all (block.total - 4) (length w)) ∙ sym (rw short refl))
+      where
+        all : (n m : ℕ) → m ≡ n - n + m
+        all n m = omega arith
 
     skip-trailer : block.total ≤ length w → (number block.order 4 (drop (block.total - 4) w) ≡ block.total → ⊥)
-        → items_of_blocks file progress (block_items_from section tail file offset w)
-        ≡ skipped_items file tail progress block (block.total - 4) w
-    unfolding skipped_items
+        → rest_of_blocks file progress (block_items_from section tail file offset w)
+        ≡ skipped_rest file tail progress block (block.total - 4) w
+    unfolding skipped_rest
     skip-trailer whole other =
         let long : nat_lt (length w) ((block.total - 4) + 4) ≡ false =
         let l = least in grind (arith, nat_tests) in
@@ -187,14 +230,19 @@ module _ (file : ℕ) (progress : SectionProgress) (section : Option Order) (tai
         (λ same. other (subst (λ (n : ℕ). number block.order 4 (drop (n - 4) w) ≡ n) (sym total-is) same)))
         ∙ (trailer ∙ sym (rw (long, differs) refl))
       where
-        trailer : items_of_stop (stop_by true tail file block.offset (length w) BlockTrailer)
-            ≡ refused (record { file = file; offset = block.offset; rule = BlockTrailer }) ∷ []
-        trailer = grind arith
+        by-trailer-rule : (n : ℕ) → stop_by true tail file block.offset n BlockTrailer
+            ≡ stops.Refused (record { file = file; offset = block.offset; rule = BlockTrailer })
+        by-trailer-rule n = grind arith
+
+        trailer : rest_of_stop Pcapng progress (stop_by true tail file block.offset (length w) BlockTrailer)
+            ≡ rest_of_stop Pcapng progress
+            (stops.Refused (record { file = file; offset = block.offset; rule = BlockTrailer }))
+        trailer = ap (rest_of_stop Pcapng progress) (by-trailer-rule (length w))
 
     skip-whole : block.total ≤ length w → number block.order 4 (drop (block.total - 4) w) ≡ block.total
-        → items_of_blocks file progress (block_items_from section tail file offset w)
-        ≡ skipped_items file tail progress block (block.total - 4) w
-    unfolding skipped_items said
+        → rest_of_blocks file progress (block_items_from section tail file offset w)
+        ≡ skipped_rest file tail progress block (block.total - 4) w
+    unfolding skipped_rest said
     skip-whole whole same =
         let l = least in
         let long : nat_lt (length w) ((block.total - 4) + 4) ≡ false = grind (arith, nat_tests) in
@@ -214,7 +262,7 @@ module _ (file : ℕ) (progress : SectionProgress) (section : Option Order) (tai
         ∙ ap (λ (k : Block). Ok (contents.Other k.kind)) (sym block-is) in
         given-block w (omega (arith, f.head)) fault
         ∙ (rw is_other
-        ((λ i. items_of_blocks file (after progress (contents.Other block.kind))
+        ((λ i. rest_of_blocks file (after progress (contents.Other block.kind))
         (block_items_from (Some (sym order-is i)) tail file (sym offset-is i + size i) (drop (size i) w)))
         ∙ sym (rw (long, equal, four) refl)))
       where
@@ -226,19 +274,19 @@ module _ (file : ℕ) (progress : SectionProgress) (section : Option Order) (tai
 
     by-trailer : (same : Bool) → (number block.order 4 (drop (block.total - 4) w) == block.total) ≡ same
         → block.total ≤ length w
-        → items_of_blocks file progress (block_items_from section tail file offset w)
-        ≡ skipped_items file tail progress block (block.total - 4) w
+        → rest_of_blocks file progress (block_items_from section tail file offset w)
+        ≡ skipped_rest file tail progress block (block.total - 4) w
     by-trailer true e whole = skip-whole whole (grind (arith, nat_tests))
     by-trailer false e whole = skip-trailer whole (λ same. grind (arith, nat_tests))
 
     by-length : (length w < block.total) ⊎ (block.total ≤ length w)
-        → items_of_blocks file progress (block_items_from section tail file offset w)
-        ≡ skipped_items file tail progress block (block.total - 4) w
+        → rest_of_blocks file progress (block_items_from section tail file offset w)
+        ≡ skipped_rest file tail progress block (block.total - 4) w
     by-length (inl few) = skip-cut few
     by-length (inr whole) = by-trailer (number block.order 4 (drop (block.total - 4) w) == block.total) refl whole
 
-    pub skip-entered : items_of_blocks file progress (block_items_from section tail file offset (b ++ later))
-        ≡ skipped_items file tail progress block (block.total - 4) (b ++ later)
+    pub skip-entered : rest_of_blocks file progress (block_items_from section tail file offset (b ++ later))
+        ≡ skipped_rest file tail progress block (block.total - 4) (b ++ later)
     unfolding w
     skip-entered = by-length (side (length w) block.total)
 
@@ -255,11 +303,11 @@ module _ (file : ℕ) (tail : Tail) (progress : SectionProgress) (block : Block)
       → nat_lt (length w) (left + 4) ≡ nat_lt m ((left - n) + 4)
   behind-some left n m w within is = grind (arith, nat_tests)
 
-  pub skip-passed : (left n : ℕ) (b later : List ℕ) → n ≤ left → n ≤ length b
-      → skipped_items file tail progress block left (b ++ later)
-      ≡ skipped_items file tail progress block (left - n) (drop n b ++ later)
-  unfolding skipped_items
-  skip-passed left n b later within here =
+  pub skip-passed : (left n : ℕ) (b later : List ℕ) → n ≤ left → n ≤ length b → left + 4 ≤ block.total
+      → skipped_rest file tail progress block left (b ++ later)
+      ≡ skipped_rest file tail progress block (left - n) (drop n b ++ later)
+  unfolding skipped_rest
+  skip-passed left n b later within here room =
       let w = b ++ later in
       let rest : drop n w ≡ drop n b ++ later = drop-append-le n b later here in
       let size : n + length (drop n b ++ later) ≡ length w =
@@ -274,10 +322,13 @@ module _ (file : ℕ) (tail : Tail) (progress : SectionProgress) (block : Block)
         few,
         one,
         two,
-        items-sized true tail file block.offset (block.total - 4 - left + length w)
-            (block.total - 4 - (left - n) + length (drop n b ++ later)) Cut,
+        sizes block.total left n (length w) (length (drop n b ++ later)) room within size,
       ) refl
     where
+      sizes : (total left n all rest : ℕ) → left + 4 ≤ total → n ≤ left → n + rest ≡ all
+          → total - 4 - left + all ≡ total - 4 - (left - n) + rest
+      sizes total left n all rest room within is = omega arith
+
       drop-drop' : (n k : ℕ) (l : List ℕ) → drop (n + k) l ≡ drop k (drop n l)
       drop-drop' n k l = sym (drop-drop k n l)
 
@@ -289,29 +340,35 @@ module _ (file : ℕ) (tail : Tail) (progress : SectionProgress) (block : Block)
 
   -- too few bytes are left for its trailer, or it is another number
   pub skip-short : (left : ℕ) (w : List ℕ) (size : ℕ) → length w < left + 4
-      → skipped_items file tail progress block left w ≡ items_of_stop (stop_by true tail file block.offset size Cut)
-  unfolding skipped_items
-  skip-short left w size few =
+      → size ≡ block.total - 4 - left + length w
+      → skipped_rest file tail progress block left w
+      ≡ rest_of_stop Pcapng progress (stop_by true tail file block.offset size Cut)
+  unfolding skipped_rest
+  skip-short left w size few is =
       let short : nat_lt (length w) (left + 4) ≡ true = grind (arith, nat_tests) in
-      rw short (items-sized true tail file block.offset (block.total - 4 - left + length w) size Cut)
+      rw (short, is) refl
 
   pub skip-other : (b later : List ℕ) (size : ℕ) → 4 ≤ length b → (number block.order 4 b ≡ block.total → ⊥)
-      → skipped_items file tail progress block 0 (b ++ later)
-      ≡ items_of_stop (stop_by true tail file block.offset size BlockTrailer)
-  unfolding skipped_items
+      → skipped_rest file tail progress block 0 (b ++ later)
+      ≡ rest_of_stop Pcapng progress (stop_by true tail file block.offset size BlockTrailer)
+  unfolding skipped_rest
   skip-other b later size four differs =
       let long : nat_lt (length (b ++ later)) 4 ≡ false = grind (arith, nat_tests, length-append b later) in
       let same : number block.order 4 (b ++ later) ≡ number block.order 4 b = number-append block.order 4 b later four
       in
       let unequal : (number block.order 4 (b ++ later) == block.total) ≡ false = grind (arith, nat_tests) in
-      rw (long, unequal) (grind arith)
+      rw (long, unequal) (ap (rest_of_stop Pcapng progress) (sym refused-by))
+    where
+      refused-by : stop_by true tail file block.offset size BlockTrailer
+          ≡ stops.Refused (record { file = file; offset = block.offset; rule = BlockTrailer })
+      refused-by = grind arith
 
   -- it is passed
   pub skip-done : (b later : List ℕ) → 4 ≤ length b → number block.order 4 b ≡ block.total
-      → skipped_items file tail progress block 0 (b ++ later)
-      ≡ items_of_blocks file (after progress (contents.Other block.kind))
+      → skipped_rest file tail progress block 0 (b ++ later)
+      ≡ rest_of_blocks file (after progress (contents.Other block.kind))
       (block_items_from (Some block.order) tail file (block.offset + block.total) (drop 4 b ++ later))
-  unfolding skipped_items
+  unfolding skipped_rest
   skip-done b later four is =
       let long : nat_lt (length (b ++ later)) 4 ≡ false = grind (arith, nat_tests, length-append b later) in
       let same : number block.order 4 (b ++ later) ≡ number block.order 4 b = number-append block.order 4 b later four

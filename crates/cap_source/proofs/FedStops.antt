@@ -12,21 +12,17 @@ use Rattle.cap_bytes.specs.declared.faults.Rule.TheVariants.{Cut}
 use Rattle.cap_bytes.specs.declared.faults.Tail.{Tail}
 use Rattle.cap_bytes.specs.declared.stops.Stop.{Stop}
 use Rattle.cap_bytes.specs.declared.stops.Stop.TheVariants as stops
-use Rattle.cap_source.specs.Fed.{PushView, MayBeFed, items_after}
+use Rattle.cap_source.specs.Fed.{FedRest, PushView, MayBeFed, rest_after, rest_of_stop}
 use Rattle.cap_source.specs.Items.{items_of_stop}
 use Rattle.cap_source.specs.declared.fed.PushEvent.{PushEvent}
 use Rattle.cap_source.specs.inner.FedSteps.{AreShort, BreaksBy, BreaksIf, BreaksOff, PushKeeps}
-use Rattle.cap_source.specs.inner.FedSteps.{IsSoundPush, IsToldStop, StepsFed, StopsFed, is_cut_rule}
+use Rattle.cap_source.specs.declared.fed.Stage.TheVariants.{Stopped}
+use Rattle.cap_source.specs.inner.FedSteps.{IsSoundPush, IsToldStop, StepsFed, StopsFed, format_at, is_cut_rule}
 
 -- what is cut short gives no packet
 pub stop_by-short : (inside : Bool) (tail : Tail) (file offset size : ℕ)
     → AreShort (items_of_stop (stop_by inside tail file offset size Cut))
 stop_by-short inside tail file offset size = grind arith
-
--- what is dropped gives none, of whatever size it is
-pub items-sized : (inside : Bool) (tail : Tail) (file offset n m : ℕ) (rule : Rule)
-    → items_of_stop (stop_by inside tail file offset n rule) ≡ items_of_stop (stop_by inside tail file offset m rule)
-items-sized inside tail file offset n m rule = grind arith
 
 pub stop-none : (inside : Bool) (tail : Tail) (file offset : ℕ) (bytes : List ℕ) (fault : Option Rule)
     → (inside && (length bytes == 0)) ≡ true → stop_where inside tail file offset bytes fault ≡ Some stops.End
@@ -36,32 +32,34 @@ stop-none inside tail file offset bytes fault none = rw none refl
 -- it stops for good
 module _ (old : PushView) (b : List ℕ) (result : Result PushEvent Fault) (new : PushView) where
   stopped-by : (stop : Stop)
-      → ((later : List ℕ) → MayBeFed old later → items_after old (b ++ later) ≡ items_of_stop stop)
-      → ((rest : List ℕ) → items_after new rest ≡ items_of_stop stop)
-      → IsToldStop stop result → StepsFed old b result new
-  stopped-by stops.End every still told =
-      subst (λ (r : Result PushEvent Fault). StepsFed old b r new) (sym told) (every, still)
-  stopped-by (stops.Cut rest) every still told =
-      subst (λ (r : Result PushEvent Fault). StepsFed old b r new) (sym told) (every, still)
-  stopped-by (stops.Refused refusal) every still told =
-      subst (λ (r : Result PushEvent Fault). StepsFed old b r new) (sym told) (every, still)
+      → ((later : List ℕ) → MayBeFed old later
+      → rest_after old (b ++ later) ≡ rest_of_stop (format_at old.stage) old.progress stop)
+      → new ≡ record old { stage = Stopped (format_at old.stage) stop } → IsToldStop stop result
+      → StepsFed old b result new
+  stopped-by stops.End every is told = rw (told, is) (every, record { items = refl; still = λ rest. refl }, refl)
+  stopped-by (stops.Cut rest) every is told =
+      rw (told, is) (every, record { items = refl; still = λ rest. refl }, refl)
+  stopped-by (stops.Refused refusal) every is told =
+      rw (told, is) (every, record { items = refl; still = λ rest. refl }, refl)
 
   pub stopped-as : (stop : Stop)
-      → ((later : List ℕ) → MayBeFed old later → items_after old (b ++ later) ≡ items_of_stop stop)
+      → ((later : List ℕ) → MayBeFed old later
+      → rest_after old (b ++ later) ≡ rest_of_stop (format_at old.stage) old.progress stop)
       → StopsFed old stop result new → StepsFed old b result new
-  stopped-as stop every h =
-      stopped-by stop every (λ rest. ap (λ (c : PushView). items_after c rest) h.0) h.1
+  stopped-as stop every h = stopped-by stop every h.0 h.1
 
 -- some bytes that break a rule, by what ends the capture there
 module _ (old : PushView) (b : List ℕ) (rule : Rule) (stop : Stop)
-    (here : items_after old b ≡ items_of_stop stop)
-    (more : (rule ≡ Cut → ⊥) → (later : List ℕ) → items_after old (b ++ later) ≡ items_of_stop stop)
+    (here : rest_after old b ≡ rest_of_stop (format_at old.stage) old.progress stop)
+    (more : (rule ≡ Cut → ⊥) → (later : List ℕ) → rest_after old (b ++ later)
+    ≡ rest_of_stop (format_at old.stage) old.progress stop)
     (short : rule ≡ Cut → AreShort (items_of_stop stop))
     (few : rule ≡ Cut → length b < 2 ^ 19) where
   every-by : (ended : Bool) → old.ended ≡ ended → (not ended && is_cut_rule rule) ≡ false
-      → (later : List ℕ) → MayBeFed old later → items_after old (b ++ later) ≡ items_of_stop stop
+      → (later : List ℕ) → MayBeFed old later → rest_after old (b ++ later)
+      ≡ rest_of_stop (format_at old.stage) old.progress stop
   every-by true e sure later may =
-      ap (λ (l : List ℕ). items_after old (b ++ l)) (may e) ∙ (ap (items_after old) (append-nil b) ∙ here)
+      ap (λ (l : List ℕ). rest_after old (b ++ l)) (may e) ∙ (ap (rest_after old) (append-nil b) ∙ here)
   every-by false e sure later may = more (other rule sure) later
     where
       other : (r : Rule) → is_cut_rule r ≡ false → r ≡ Cut → ⊥
@@ -72,8 +70,9 @@ module _ (old : PushView) (b : List ℕ) (rule : Rule) (stop : Stop)
   broken-if true result new e h =
       subst (λ (r : Result PushEvent Fault). StepsFed old b r new) (sym h.0) (
         open_still old.ended (is_cut_rule rule) e,
-        subst AreShort (sym here) (short (cut rule (right old.ended (is_cut_rule rule) e))),
-        λ later. ap (λ (c : PushView). items_after c (b ++ later)) (sym h.1),
+        subst AreShort (ap (λ (r : FedRest). r.items) (sym here))
+            (short (cut rule (right old.ended (is_cut_rule rule) e))),
+        λ later. ap (λ (c : PushView). rest_after c (b ++ later)) (sym h.1),
         few (cut rule (right old.ended (is_cut_rule rule) e)),
       )
     where
@@ -94,13 +93,13 @@ module _ (old : PushView) (b : List ℕ) (rule : Rule) (stop : Stop)
 -- the same where a header, a record or a block may begin
 module _ (old : PushView) (inside : Bool) (faulty : List ℕ → Option Rule) (b : List ℕ) (rule : Rule)
     (at : (w : List ℕ) (stop : Stop) → stop_where inside old.tail old.file old.offset w (faulty w) ≡ Some stop
-    → items_after old w ≡ items_of_stop stop)
+    → rest_after old w ≡ rest_of_stop (format_at old.stage) old.progress stop)
     (is : faulty b ≡ Some rule)
     (more : (rule ≡ Cut → ⊥) → (later : List ℕ) → faulty (b ++ later) ≡ Some rule)
     (some : (rule ≡ Cut → ⊥) → 0 < length b)
     (few : rule ≡ Cut → length b < 2 ^ 19) where
   stop-at : (stop : Stop) → stop_where inside old.tail old.file old.offset b (Some rule) ≡ Some stop
-      → items_after old b ≡ items_of_stop stop
+      → rest_after old b ≡ rest_of_stop (format_at old.stage) old.progress stop
   stop-at stop e = at b stop (ap (stop_where inside old.tail old.file old.offset b) is ∙ e)
 
   short-by : (none : Bool) (stop : Stop) → (inside && (length b == 0)) ≡ none
@@ -160,7 +159,8 @@ sound-if : (wanted : Bool) (old : PushView) (stop : Stop) (result : Result PushE
     → IsSoundPush old → BreaksIf wanted old stop result new → IsSoundPush new
 sound-if true old stop result new s h = subst IsSoundPush (sym h.1) s
 sound-if false old stop result new s h =
-    subst IsSoundPush (sym h.0) (record { limit = s.limit; counted = s.counted; stage = tt })
+    subst IsSoundPush (sym h.0)
+    (record { limit = s.limit; uncounted = s.uncounted; counted = s.counted; stage = tt })
 
 pub broken-by-sound : (old : PushView) (rule : Rule) (stop : Stop) (result : Result PushEvent Fault)
     (new : PushView) → IsSoundPush old → BreaksBy old rule stop result new → IsSoundPush new

@@ -5,17 +5,20 @@ ghost use Rattle.cap_blocks.specs.Grammar.{is_known_kind, is_total};
 ghost use Rattle.cap_blocks.specs.Split.{body_in};
 ghost use Rattle.cap_blocks.specs.inner.Parsing.{ParsesBlockHeader};
 ghost use Rattle.cap_bytes.specs.Items.{stop_by, stop_where};
+ghost use Rattle.cap_source.specs.Fed.{EndingAt, format_ending};
 ghost use Rattle.cap_source.specs.Items.{is_pcapng};
 ghost use Rattle.cap_source.specs.inner.FedSteps.{BreaksBy, BreaksOff, PushKeeps, IsSoundPush, StepsFed, StopsFed};
+ghost use Rattle.cap_source.specs.inner.FedSteps.{format_at};
 ghost use Rattle.cap_source.specs.inner.FedSteps.{SaysWithin, TakesBlockFed, TakesFed, push_view};
 
 use crate::contents::{BlockContent, content_of};
+use crate::feeds::FileEnd;
 use crate::packets::Meta;
-use crate::pcap::meta_of_record;
-use crate::pcapng::meta_of_packet;
+use crate::pcap::{ending_of_pcap, meta_of_record};
+use crate::pcapng::{ending_of_blocks, meta_of_packet};
 use crate::section_states::{SectionState, go_on, skip_block};
 use cap_blocks::{Block, body_rule, find_block_header, is_known, is_section};
-use cap_bytes::{Fault, Order, Refusal, Rule, Stop, Tail, u32_at};
+use cap_bytes::{CutRest, Fault, Format, Order, Refusal, Rule, Stop, Tail, u32_at};
 use cap_pcap::{PcapHeader, find_header, find_record};
 
 /// Where the next bytes of a capture stand in it.
@@ -29,8 +32,21 @@ pub enum Stage {
     Blocks(Option<Order>),
     /// In a block of a kind that is skipped, that many bytes before its trailer.
     Skipping(Block, u64),
-    /// Nothing comes any more.
-    Stopped(Stop),
+    /// Nothing comes any more of a file of that format.
+    Stopped(Format, Stop),
+}
+
+impl Stage {
+    // The format of the file, as far as it was looked at.
+    fn format(self) -> Format
+        ensures { result ≡ format_at self }
+    {
+        match self {
+            Stage::Start | Stage::Records(_) => Format::Pcap,
+            Stage::Blocks(_) | Stage::Skipping(_, _) => Format::Pcapng,
+            Stage::Stopped(format, _) => format,
+        }
+    }
 }
 
 /// How far a capture was read that is fed.
@@ -67,7 +83,7 @@ pub enum PushEvent {
 fn stop(state: &mut PushState, stop: Stop) -> Result<PushEvent, Fault>
     ensures { StopsFed (push_view state.old) stop result (push_view state.new) }
 {
-    state.stage = Stage::Stopped(stop);
+    state.stage = Stage::Stopped(state.stage.format(), stop);
     match stop {
         Stop::End | Stop::Cut(_) => Ok(PushEvent::Ends),
         Stop::Refused(refusal) => Err(Fault::Refused(refusal)),
@@ -397,7 +413,30 @@ impl PushState {
             Stage::Records(header) => step_record(self, header, bytes),
             Stage::Blocks(section) => step_block(self, section, bytes),
             Stage::Skipping(block, left) => step_skip(self, block, left, bytes),
-            Stage::Stopped(stopped) => stop(self, stopped),
+            Stage::Stopped(_, stopped) => stop(self, stopped),
+        }
+    }
+
+    /// How the capture ended, if it has, and wasn't refused.
+    pub fn ending(&self) -> Option<FileEnd>
+        requires { IsSoundPush (push_view self.now) }
+        ensures { EndingAt (push_view self.now) result }
+    {
+        match self.stage {
+            Stage::Stopped(format, Stop::End) => Some(self.ending_with(format, None)),
+            Stage::Stopped(format, Stop::Cut(rest)) => Some(self.ending_with(format, Some(rest))),
+            _ => None,
+        }
+    }
+
+    // How a file of that format ends that was read so far, with the rest of it that was dropped.
+    fn ending_with(&self, format: Format, cut: Option<CutRest>) -> FileEnd
+        requires { IsSoundPush (push_view self.now) }
+        ensures { result ≡ format_ending format (push_view self.now).progress cut }
+    {
+        match format {
+            Format::Pcap => ending_of_pcap(cut),
+            Format::Pcapng => ending_of_blocks(&self.reached, cut),
         }
     }
 }

@@ -1,12 +1,12 @@
 //! The packets of a capture whose bytes are fed piece by piece.
 ghost use Rattle.std.specs.Prelude.{◌≡◌, ◌≤◌, ◌+◌, ◌-◌, ◌*◌, [], ◌++◌, ℕ, List, drop, false, length, max, true};
 ghost use Rattle.std.specs.Prelude.{vec_capacity, vec_len};
-ghost use Rattle.cap_source.specs.Fed.{fed_items};
-ghost use Rattle.cap_source.specs.Items.{file_items};
+ghost use Rattle.cap_source.specs.Fed.{EndingAt, fed_rest, file_rest};
 ghost use Rattle.cap_source.specs.inner.FedSteps.{PushKeeps, IsSoundPush, LooksFed, push_view};
 ghost use Rattle.cap_source.specs.inner.FedStates.{FeedsBytes, GivesFed, KeepsNothing, spare_room};
 
 use crate::fed::{PushEvent, PushState, Stage};
+use crate::feeds::FileEnd;
 use crate::packets::Meta;
 use crate::section_states::nothing_reached;
 use cap_bytes::{Fault, Tail};
@@ -140,7 +140,7 @@ fn look_on(state: &mut PushState, bytes: &[u8], at: &mut usize) -> Result<PushEv
 impl FedCapture {
     /// The capture of that number, of which nothing was fed yet. `tail` says what becomes of a cut end.
     pub fn new(alloc: Global, file: u32, tail: Tail) -> FedCapture
-        ensures items { (later : List ℕ) → fed_items result later ≡ file_items tail file later }
+        ensures rest { (later : List ℕ) → fed_rest result later ≡ file_rest tail file later }
         ensures open { result.state.ended ≡ false }
         ensures nothing { KeepsNothing result }
     {
@@ -168,7 +168,7 @@ impl FedCapture {
         requires open { self.old.state.ended ≡ false }
         ensures { FeedsBytes self.old bytes.now result self.new }
     {
-        if let Stage::Stopped(_) = self.state.stage {
+        if let Stage::Stopped(_, _) = self.state.stage {
             self.keep_nothing();
             return Ok(());
         }
@@ -255,6 +255,14 @@ impl FedCapture {
             }
             Err(fault) => Err(fault),
         }
+    }
+
+    /// How the capture ended, once `next` has returned that it ends: `None` before, and if it was refused. Its comments
+    /// aren't counted.
+    pub fn ending(&self) -> Option<FileEnd>
+        ensures { EndingAt self.now.state result }
+    {
+        self.state.ending()
     }
 
     /// The captured bytes of the packet that came last, until more are fed or no packet comes.

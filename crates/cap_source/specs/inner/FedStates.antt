@@ -1,10 +1,10 @@
 -- What the calls of a capture that is fed return and leave.
-use Rattle.std.specs.Prelude.{◌≡◌, ◌≤◌, ◌<◌, ◌+◌, ◌*◌, ◌^◌, ℕ, false, List, [], ◌∷◌, ◌++◌, length, Result}
+use Rattle.std.specs.Prelude.{◌≡◌, ◌≤◌, ◌<◌, ◌+◌, ◌*◌, ◌^◌, ℕ, true, false, List, [], ◌∷◌, ◌++◌, length, Result}
 use Rattle.std.specs.Prelude.{Ok, Err}
 use Rattle.cap_bytes.specs.declared.faults.Fault.{Fault}
 use Rattle.cap_bytes.specs.declared.faults.Fault.TheVariants.{Refused, Read, Write, Memory}
-use Rattle.cap_source.specs.Fed.{PushView, FedState, MayBeFed, fed_items}
-use Rattle.cap_source.specs.Feed.{packet, refused}
+use Rattle.cap_source.specs.Fed.{PushView, FedState, MayBeFed, fed_items, fed_rest, is_over_at, packet_then}
+use Rattle.cap_source.specs.Feed.{Item, refused}
 use Rattle.cap_source.specs.inner.FedSteps.{AreShort, PushKeeps, IsAtBlock, IsSoundPush}
 use Rattle.cap_source.specs.declared.fed.Stage.{Stage}
 use Rattle.cap_source.specs.declared.fed.Stage.TheVariants.{Start, Records, Blocks, Skipping, Stopped}
@@ -44,29 +44,33 @@ FeedsStage Start old bytes result new = FeedsOn old bytes result new
 FeedsStage (Records header) old bytes result new = FeedsOn old bytes result new
 FeedsStage (Blocks section) old bytes result new = FeedsOn old bytes result new
 FeedsStage (Skipping block left) old bytes result new = FeedsOn old bytes result new
-FeedsStage (Stopped stop) old bytes result new = (result ≡ Ok tt) × (new.state ≡ old.state) × KeepsNothing new
+FeedsStage (Stopped format stop) old bytes result new = (result ≡ Ok tt) × (new.state ≡ old.state) × KeepsNothing new
 
 abbrev pub FeedsBytes : FedState → List ℕ → Result Unit Fault → FedState → Type 0
 FeedsBytes old bytes result new = FeedsStage old.state.stage old bytes result new
 
+-- Nothing comes any more but these items, whatever bytes are fed later, and it ends as it would have before.
+pub record ComesToStop (old : FedState) (left : List Item) (new : FedState) : Type 0 where
+  pub ends : (later : List ℕ) → MayBeFed old.state later → fed_rest old later ≡ fed_rest new []
+  pub items : fed_items new [] ≡ left
+  pub still : (later : List ℕ) → fed_rest new later ≡ fed_rest new []
+
 -- What is found next of a capture that is fed, whatever bytes are fed later, which are none if all were.
 abbrev pub FindsFed : FedState → Result Fed Fault → FedState → Type 0
 FindsFed old (Ok (feds.Packet meta)) new =
-    (later : List ℕ) → MayBeFed old.state later → fed_items old later ≡ packet meta new.frame ∷ fed_items new later
+    (later : List ℕ) → MayBeFed old.state later
+    → fed_rest old later ≡ packet_then meta new.frame (fed_rest new later)
 FindsFed old (Ok feds.More) new =
     (old.state.ended ≡ false) × AreShort (fed_items old [])
-    × ((later : List ℕ) → fed_items old later ≡ fed_items new later)
-FindsFed old (Ok feds.End) new =
-    ((later : List ℕ) → MayBeFed old.state later → fed_items old later ≡ [])
-    × ((later : List ℕ) → fed_items new later ≡ [])
+    × ((later : List ℕ) → fed_rest old later ≡ fed_rest new later)
+FindsFed old (Ok feds.End) new = ComesToStop old [] new × (is_over_at new.state.stage ≡ true)
 FindsFed old (Err (Refused refusal)) new =
-    ((later : List ℕ) → MayBeFed old.state later → fed_items old later ≡ refused refusal ∷ [])
-    × ((later : List ℕ) → fed_items new later ≡ refused refusal ∷ [])
+    ComesToStop old (refused refusal ∷ []) new × (is_over_at new.state.stage ≡ false)
 FindsFed old (Err (Read file offset)) new = ⊥
 FindsFed old (Err Write) new = ⊥
 FindsFed old (Err Memory) new =
     IsAtBlock new.state.stage
-    × ((later : List ℕ) → MayBeFed old.state later → fed_items old later ≡ fed_items new later)
+    × ((later : List ℕ) → MayBeFed old.state later → fed_rest old later ≡ fed_rest new later)
 
 -- the most bytes for which memory is held if fewer are kept
 abbrev pub spare_room : ℕ

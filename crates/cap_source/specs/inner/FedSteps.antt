@@ -1,6 +1,6 @@
 -- What a look at the next bytes of a capture that is fed returns, and leaves.
 use Rattle.std.specs.Prelude.{◌≡◌, ◌+◌, ◌≤◌, ◌<◌, ◌^◌, ℕ, Bool, true, false, List, [], ◌∷◌, ◌++◌, length, take, drop}
-use Rattle.std.specs.Prelude.{Result, Ok, Err, ⊤, Some, not, ◌&&◌}
+use Rattle.std.specs.Prelude.{Result, Ok, Err, ⊤, Some, None, not, ◌&&◌}
 use Rattle.cap_blocks.specs.Split.{body_in}
 use Rattle.cap_blocks.specs.declared.blocks.Block.{Block}
 use Rattle.cap_bytes.specs.Items.{stop_where}
@@ -8,9 +8,11 @@ use Rattle.cap_bytes.specs.declared.faults.Fault.{Fault}
 use Rattle.cap_bytes.specs.declared.faults.Fault.TheVariants.{Refused, Read, Write, Memory}
 use Rattle.cap_bytes.specs.declared.faults.Rule.{Rule}
 use Rattle.cap_bytes.specs.declared.faults.Rule.TheVariants as rules
+use Rattle.cap_bytes.specs.declared.formats.Format.{Format}
+use Rattle.cap_bytes.specs.declared.formats.Format.TheVariants.{Pcap, Pcapng}
 use Rattle.cap_bytes.specs.declared.stops.Stop.{Stop}
 use Rattle.cap_bytes.specs.declared.stops.Stop.TheVariants as stops
-use Rattle.cap_source.specs.Fed.{PushView, MayBeFed, items_after}
+use Rattle.cap_source.specs.Fed.{PushView, MayBeFed, is_over_at, packet_then, rest_after}
 use Rattle.cap_source.specs.Feed.{Item, packet, refused}
 use Rattle.cap_source.specs.Contents.{content_in}
 use Rattle.cap_source.specs.Items.{SectionProgress, after, meta_in}
@@ -42,11 +44,12 @@ IsSoundStage (Records header) offset = ⊤
 IsSoundStage (Blocks section) offset = ⊤
 IsSoundStage (Skipping block left) offset =
     (block.offset ≡ offset) × (offset + block.total ≤ 2 ^ 40) × (12 ≤ block.total) × (left + 4 ≤ block.total)
-IsSoundStage (Stopped stop) offset = ⊤
+IsSoundStage (Stopped format stop) offset = ⊤
 
--- what is always true of it
+-- what is always true of it; comments aren't counted
 pub record IsSoundPush (c : PushView) : Type 0 where
   pub limit : c.offset ≤ 2 ^ 40
+  pub uncounted : c.progress.comments ≡ None
   pub counted : counted_blocks c.progress ≤ c.offset
   pub stage : IsSoundStage c.stage c.offset
 
@@ -56,9 +59,18 @@ IsToldStop stops.End result = result ≡ Ok steps.Ends
 IsToldStop (stops.Cut rest) result = result ≡ Ok steps.Ends
 IsToldStop (stops.Refused refusal) result = result ≡ Err (Refused refusal)
 
+-- the format of the file, which is pcap unless a block stands at its first byte
+abbrev pub format_at : Stage → Format
+format_at Start = Pcap
+format_at (Records header) = Pcap
+format_at (Blocks section) = Pcapng
+format_at (Skipping block left) = Pcapng
+format_at (Stopped format stop) = format
+
 -- It stops there for good.
 abbrev pub StopsFed : PushView → Stop → Result PushEvent Fault → PushView → Type 0
-StopsFed old stop result new = (new ≡ record old { stage = Stopped stop }) × IsToldStop stop result
+StopsFed old stop result new =
+    (new ≡ record old { stage = Stopped (format_at old.stage) stop }) × IsToldStop stop result
 
 -- whether too few bytes are the reason
 abbrev pub is_cut_rule : Rule → Bool
@@ -119,7 +131,7 @@ TakesFed old block said (Ok steps.Ends) new = ⊥
 TakesFed old block said (Err (Refused refusal)) new =
     (rule : Rule) × (said ≡ Err rule)
     × (refusal ≡ record { file = old.file; offset = block.offset; rule = rule })
-    × (new ≡ record old { stage = Stopped (stops.Refused refusal) })
+    × (new ≡ record old { stage = Stopped (format_at old.stage) (stops.Refused refusal) })
 TakesFed old block said (Err (Read file offset)) new = ⊥
 TakesFed old block said (Err Write) new = ⊥
 TakesFed old block said (Err Memory) new = new ≡ old
@@ -141,7 +153,7 @@ IsAtBlock Start = ⊥
 IsAtBlock (Records header) = ⊥
 IsAtBlock (Blocks section) = ⊤
 IsAtBlock (Skipping block left) = ⊥
-IsAtBlock (Stopped stop) = ⊥
+IsAtBlock (Stopped format stop) = ⊥
 
 -- what every look keeps
 pub record PushKeeps (old new : PushView) : Type 0 where
@@ -149,36 +161,41 @@ pub record PushKeeps (old new : PushView) : Type 0 where
   pub tail : new.tail ≡ old.tail
   pub ended : new.ended ≡ old.ended
 
+-- Nothing comes any more but these items, whatever bytes come next.
+pub record StandsStill (new : PushView) (left : List Item) : Type 0 where
+  pub items : (rest_after new []).items ≡ left
+  pub still : (rest : List ℕ) → rest_after new rest ≡ rest_after new []
+
 -- What a look at the next bytes returns and leaves.
 abbrev pub StepsFed : PushView → List ℕ → Result PushEvent Fault → PushView → Type 0
 StepsFed old bytes (Ok (steps.Passed n)) new =
     (0 < n) × (n ≤ length bytes)
     × ((later : List ℕ) → MayBeFed old later
-    → items_after old (bytes ++ later) ≡ items_after new (drop n bytes ++ later))
+    → rest_after old (bytes ++ later) ≡ rest_after new (drop n bytes ++ later))
 StepsFed old bytes (Ok (steps.Packet meta place size)) new =
     (0 < size) × (size ≤ length bytes) × (place + meta.captured ≤ size)
     × ((later : List ℕ) → MayBeFed old later
-    → items_after old (bytes ++ later)
-    ≡ packet meta (take meta.captured (drop place bytes)) ∷ items_after new (drop size bytes ++ later))
+    → rest_after old (bytes ++ later)
+    ≡ packet_then meta (take meta.captured (drop place bytes)) (rest_after new (drop size bytes ++ later)))
 StepsFed old bytes (Ok steps.Short) new =
-    (old.ended ≡ false) × AreShort (items_after old bytes)
-    × ((later : List ℕ) → items_after old (bytes ++ later) ≡ items_after new (bytes ++ later))
+    (old.ended ≡ false) × AreShort (rest_after old bytes).items
+    × ((later : List ℕ) → rest_after old (bytes ++ later) ≡ rest_after new (bytes ++ later))
     × (length bytes < 2 ^ 19)
 StepsFed old bytes (Ok steps.Ends) new =
-    ((later : List ℕ) → MayBeFed old later → items_after old (bytes ++ later) ≡ [])
-    × ((rest : List ℕ) → items_after new rest ≡ [])
+    ((later : List ℕ) → MayBeFed old later → rest_after old (bytes ++ later) ≡ rest_after new [])
+    × StandsStill new [] × (is_over_at new.stage ≡ true)
 StepsFed old bytes (Err (Refused refusal)) new =
-    ((later : List ℕ) → MayBeFed old later → items_after old (bytes ++ later) ≡ refused refusal ∷ [])
-    × ((rest : List ℕ) → items_after new rest ≡ refused refusal ∷ [])
+    ((later : List ℕ) → MayBeFed old later → rest_after old (bytes ++ later) ≡ rest_after new [])
+    × StandsStill new (refused refusal ∷ []) × (is_over_at new.stage ≡ false)
 StepsFed old bytes (Err (Read file offset)) new = ⊥
 StepsFed old bytes (Err Write) new = ⊥
 StepsFed old bytes (Err Memory) new =
-    IsAtBlock new.stage × ((later : List ℕ) → items_after old (bytes ++ later) ≡ items_after new (bytes ++ later))
+    IsAtBlock new.stage × ((later : List ℕ) → rest_after old (bytes ++ later) ≡ rest_after new (bytes ++ later))
 
--- The same items come of the next bytes, whatever is fed later, as come from another point on of these.
+-- The same still comes after the next bytes, whatever is fed later, as comes from another point on of these.
 abbrev pub FollowsFed : PushView → List ℕ → PushView → List ℕ → Type 0
 FollowsFed old bytes new rest =
-    (later : List ℕ) → MayBeFed old later → items_after old (bytes ++ later) ≡ items_after new (rest ++ later)
+    (later : List ℕ) → MayBeFed old later → rest_after old (bytes ++ later) ≡ rest_after new (rest ++ later)
 
 -- bytes were passed, and nothing else was found
 abbrev pub is_passed : Result PushEvent Fault → Bool

@@ -27,7 +27,7 @@ begin_skip-requires c =
     let h = not-read (is_known_kind c.in-Ok.block.kind) (is_some c.args.section)
     (sym c.is_read_whole.ensures ∙ c.if-is_read_whole.false) in
     skip-least (push_view c.args.state.now) c.args.section c.args.bytes.now c.requires.stage c.in-Ok.block
-    c.in-Ok.ensures h.0 h.1
+    c.in-Ok.ensures c.requires.sound.uncounted h.0 h.1
 
 pub returns-else-is_read_whole-clause-step : goal.returns-else-is_read_whole-clause-step
 returns-else-is_read_whole-clause-step c =
@@ -37,11 +37,13 @@ returns-else-is_read_whole-clause-step c =
     subst (λ (s : PushEvent). StepsFed (push_view c.args.state.now) c.args.bytes.now (Ok s)
     (push_view c.begin_skip.new.state)) (sym c.begin_skip.ensures.step)
     (skip-begins (push_view c.args.state.now) c.args.section c.args.bytes.now c.requires.stage c.in-Ok.block
-    c.in-Ok.ensures h.0 h.1 n (push_view c.begin_skip.new.state) refl c.begin_skip.ensures.stage)
+    c.in-Ok.ensures c.requires.sound.uncounted h.0 h.1 n (push_view c.begin_skip.new.state) refl
+    c.begin_skip.ensures.stage)
 
 pub returns-else-is_read_whole-clause-sound : goal.returns-else-is_read_whole-clause-sound
 returns-else-is_read_whole-clause-sound c =
     let h = not-read (is_known_kind c.in-Ok.block.kind) (is_some c.args.section)
     (sym c.is_read_whole.ensures ∙ c.if-is_read_whole.false) in
     skip-sound (push_view c.args.state.now) c.args.section c.args.bytes.now c.requires.stage c.in-Ok.block
-    c.in-Ok.ensures h.0 h.1 _ (push_view c.begin_skip.new.state) c.requires.sound c.begin_skip.ensures.stage
+    c.in-Ok.ensures c.requires.sound.uncounted h.0 h.1 _ (push_view c.begin_skip.new.state) c.requires.sound
+    c.begin_skip.ensures.stage

@@ -58,7 +58,7 @@ returns-in-Some-clause-sound c = broken-sound _ _ _ _ _ _ c.requires.sound c.bre
 pub returns-in-None-clause-step : goal.returns-in-None-clause-step
 returns-in-None-clause-step c =
     taken (push_view c.args.state.now) c.args.section c.args.bytes.now c.requires.stage c.args.block c.requires.header
-    c.if-bytes-block.false (sym c.body_rule.ensures ∙ c.in-None.is) c.take_block.result
+    c.requires.sound.uncounted c.if-bytes-block.false (sym c.body_rule.ensures ∙ c.in-None.is) c.take_block.result
     (push_view c.take_block.new.state) c.take_block.ensures.step
 
 pub take_block-requires-clause-least : goal.take_block-requires-clause-least
