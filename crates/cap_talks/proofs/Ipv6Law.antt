@@ -1,11 +1,9 @@
 -- A report that reads IPv6 packets.
-use Rattle.std.proofs.Common.{◌≡◌, ℕ, Bool, true, false, List, [], ◌∷◌, ◌++◌, length, refl, sym, ap, ◌∙◌, arith}
+use Rattle.std.proofs.Common.{◌≡◌, true, false, List, [], ◌∷◌, ◌++◌, length, refl, ap, arith}
 use Rattle.std.specs.List.{AllByRecursion}
-use Rattle.std.specs.Prelude.{None, Option}
 use Rattle.cap_class.proofs.Seen.{report-none, report-sum}
-use Rattle.cap_class.specs.Ipv6.{ipv6_read, report_classes}
+use Rattle.cap_class.specs.Ipv6.{report_classes}
 use Rattle.cap_class.specs.Taken.{Taken, stamped_of}
-use Rattle.cap_bytes.specs.declared.faults.Refusal.{Refusal}
 use Rattle.cap_merge.specs.Run.{Clocked}
 use Rattle.cap_print.specs.declared.forms.Form.{Form}
 use Rattle.cap_source.specs.Feed.{Item, packet, refused}

@@ -26,6 +26,7 @@ pub mod UnitOrder
 pub mod Stepping
 pub mod TableLines
 pub mod TableTexts
+pub mod TableCounts
 pub mod CountedPackets
 pub mod FileByFile
 pub mod Telling

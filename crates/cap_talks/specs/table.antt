@@ -4,6 +4,7 @@ pub mod Rows
 pub mod TalkLines
 pub mod TopRows
 pub mod CountedUnits
+pub mod TableCounts
 pub mod TakenText
 pub mod Descriptions
 pub mod OtherNetworks

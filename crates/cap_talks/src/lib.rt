@@ -5,10 +5,11 @@ mod counts;
 mod table;
 mod talks;
 
+pub use crate::counts::{Counted, Counts};
 pub use crate::table::{
     Address, CountedUnit, Description, Endpoint, Held, NO_OTHERS, OtherCounts, Step, Table,
-    TalkKey, TalkRow, TimedFrame, describe, describe_for, ipv6_law, other_networks_law,
-    put_description, talk_laws, top_rows_law,
+    TableTotals, TalkKey, TalkRow, TimedFrame, describe, describe_for, ipv6_law,
+    other_networks_law, put_description, talk_laws, top_rows_law,
 };
 pub use crate::talks::{
     ReportLeft, ReportOptions, file_lines, file_lines_and_cuts, file_lines_in, report,

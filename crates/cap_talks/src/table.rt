@@ -22,5 +22,5 @@ pub use crate::table::laws::{ipv6_law, other_networks_law, talk_laws, top_rows_l
 pub(crate) use crate::table::others::with_network;
 pub use crate::table::others::{NO_OTHERS, OtherCounts};
 pub use crate::table::rows::{TalkKey, TalkRow};
-pub use crate::table::tables::{Held, Step, Table};
+pub use crate::table::tables::{Held, Step, Table, TableTotals};
 pub use crate::table::units::{Address, CountedUnit, Endpoint, TimedFrame};

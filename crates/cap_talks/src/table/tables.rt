@@ -1,6 +1,6 @@
 //! The table of a report, step by step.
 ghost use Rattle.std.specs.Prelude.{◌≡◌, ◌+◌, ◌≤◌, ◌^◌, ◌||◌, List, [], not, false, length, IsTrue, IsOkUnless, Some};
-ghost use Rattle.std.specs.Prelude.{None, Ok, IfOk, if◌then◌else◌};
+ghost use Rattle.std.specs.Prelude.{None, Ok, IfOk, if◌then◌else◌, ◌-◌, nat_le, slice_get};
 ghost use Rattle.std.specs.List.{range_with_len};
 ghost use Rattle.cap_bytes.specs.Device.{WriterKeeps, writer_of};
 ghost use Rattle.cap_bytes.specs.Printing.{Prints, is_write};
@@ -16,6 +16,7 @@ ghost use Rattle.cap_talks.specs.inner.table.Stepping.{endings_so_far};
 ghost use Rattle.cap_talks.specs.table.CountedUnits.{limit_refusal};
 ghost use Rattle.cap_talks.specs.inner.table.Ranked.{Shows};
 ghost use Rattle.cap_talks.specs.table.Conversations.{Conversation};
+ghost use Rattle.cap_talks.specs.table.TableCounts.{file_counted, talk_at, talks_for, totals_for};
 ghost use Rattle.cap_talks.specs.table.TakenText.{text_for, text_showing_for};
 ghost use Rattle.cap_print.specs.declared.forms.Form.TheVariants.{Text};
 ghost use Rattle.cap_print.specs.declared.forms.TimeForm.TheVariants.{Exact};
@@ -25,11 +26,13 @@ ghost use Rattle.cap_class.specs.Taken.{Taken};
 use crate::counts::{Counted, Counts, cuts_of, put_files};
 use crate::table::conversations::ConversationsFault;
 use crate::table::report_lines::total_line;
+use crate::table::rows::{TalkKey, TalkRow};
 use crate::table::tallies::Tally;
 use crate::table::top::Ranked;
 use crate::table::totals::Totals;
 use arrayvec::ArrayVec;
 use cap_bytes::{CutRest, Fault, Refusal, Rule, Sink, put_all};
+use cap_class::ClassCounts;
 use cap_link::{OtherNetwork, other_network};
 use cap_merge::Merged;
 use cap_print::{Form, TimeForm};
@@ -58,6 +61,23 @@ pub struct Held {
     pub group_bytes: u64,
     /// The conversations: at most 1,048,576.
     pub talks: u64,
+}
+
+/// What is counted of all packets that a table has taken.
+#[derive(Clone, Copy, Debug, PartialEq, Eq)]
+pub struct TableTotals {
+    /// How many packets there are.
+    pub packets: u64,
+    /// The sum of their original lengths, in bytes: below 2^77.
+    pub bytes: u128,
+    /// How many of them had more bytes than were captured.
+    pub truncated: u64,
+    /// How many there are of each class.
+    pub classes: ClassCounts,
+    /// How many datagrams were joined from fragments, and count in a conversation.
+    pub joined: u64,
+    /// How many groups of fragments were given up.
+    pub given_up: u64,
 }
 
 /// The table of a report: what is counted of the packets that a merge of files gives, packet by packet.
@@ -173,6 +193,62 @@ impl<F: PacketFeed> Table<F> {
         self.write_in(Form::Text(TimeForm::Exact), &None, writer)
     }
 
+    /// How many conversations there are, of the packets that were taken: as many as `write_so_far` writes lines of.
+    pub fn talks(&self) -> usize
+        ensures value { (xs : List Taken) → TableStands (table_of self.now) xs
+            → result ≡ length (talks_for (table_of self.now).tally.reads xs) }
+        ensures bound { result ≤ 1048576 }
+    {
+        self.tally.talks()
+    }
+
+    /// The conversation at a place, counted from 0, in the order of their lines, and what is counted of it; `None` past
+    /// the last. No conversation changes its place when more packets are taken.
+    pub fn talk(&self, place: usize) -> Option<(TalkKey, TalkRow)>
+        ensures value { (xs : List Taken) → TableStands (table_of self.now) xs
+            → result ≡ talk_at (table_of self.now).tally.reads xs place }
+    {
+        self.tally.talk(place)
+    }
+
+    /// How many files it has: at most 32.
+    pub fn files(&self) -> usize
+        ensures value { result ≡ length (table_of self.now).totals.files }
+        ensures bound { result ≤ 32 }
+    {
+        self.totals.files().len()
+    }
+
+    /// What is counted of the packets that were taken of the file of that number, counted from 1, and how it has ended,
+    /// once `step` has returned `Done`; `None` if there is no such file.
+    pub fn file(&self, number: u32) -> Option<Counted>
+        ensures value { (xs : List Taken) → TableStands (table_of self.now) xs
+            → result ≡ file_counted (length (table_of self.now).totals.files) (endings_so_far (table_of self.now)) xs
+            number }
+    {
+        let counts = counts_at(self.totals.files(), number)?;
+        Some(Counted {
+            counts,
+            ending: ending_of(&self.merged, self.done, number),
+        })
+    }
+
+    /// What is counted of all packets that were taken.
+    pub fn totals(&self) -> TableTotals
+        ensures value { (xs : List Taken) → TableStands (table_of self.now) xs
+            → result ≡ totals_for (table_of self.now).tally.reads xs }
+    {
+        let (totals, tally) = (&self.totals, &self.tally);
+        TableTotals {
+            packets: totals.packets(),
+            bytes: totals.bytes(),
+            truncated: totals.truncated(),
+            classes: tally.classes(),
+            joined: tally.joined(),
+            given_up: tally.given_up(),
+        }
+    }
+
     /// The conversations that are shown: the `most` with the most bytes, the greatest first, if a number is given. They
     /// are named by their places; none are named if all are shown. Returns `Memory`, and no other fault, if a growth
     /// was refused; all are shown without one.
@@ -243,6 +319,16 @@ impl<F: PacketFeed> Table<F> {
             talks: tally.talks() as u64,
         }
     }
+}
+
+// What is counted of the file of that number, counted from 1, if there is one.
+fn counts_at(counts: &[Counts], number: u32) -> Option<Counts>
+    ensures { result ≡ (if nat_le 1 number then slice_get counts.now (number - 1) else None) }
+{
+    if number == 0 {
+        return None;
+    }
+    counts.get(number as usize - 1).copied()
 }
 
 // How the file of that number ended, once all have.

@@ -1,7 +1,7 @@
 //! What is counted of packets, besides what is reported of files.
 ghost use Rattle.std.specs.Prelude.{◌≡◌, ℕ, true, false, ◌+◌, ◌++◌, IsOkUnless, max, ◌≤◌, ◌<◌, ◌^◌, List, []};
 ghost use Rattle.std.specs.Prelude.{◌∷◌, length, IsTrue, IsSome, OnOk, OnErr, IfOk, IfErr, Option, Some, None};
-ghost use Rattle.std.specs.Prelude.{Err, Ok, if◌then◌else◌};
+ghost use Rattle.std.specs.Prelude.{Err, Ok, if◌then◌else◌, slice_get};
 ghost use Rattle.cap_bytes.specs.Device.{WriterKeeps, writer_of};
 ghost use Rattle.cap_bytes.specs.Printing.{Prints, is_write};
 ghost use Rattle.cap_join.specs.Fragments.{piece_of};
@@ -27,6 +27,7 @@ ghost use Rattle.cap_talks.specs.table.TopRows.{shown_rows};
 use crate::table::adding::{add_ipv4, add_unit, ipv6_unit, joined_unit, whole_unit};
 use crate::table::conversations::{Conversations, ConversationsFault};
 use crate::table::report_lines::{frames_line, joined_line};
+use crate::table::rows::{TalkKey, TalkRow};
 use crate::table::talk_lines::put_talks;
 use crate::table::top::{Ranked, shown_of};
 use cap_bytes::{Fault, Sink, put_all};
@@ -449,6 +450,34 @@ impl Tally {
         ensures bound { result ≤ 65520 }
     {
         max(self.joiner.held_bytes(), waiting_bytes(&self.waiting))
+    }
+
+    /// How many packets there are of each class.
+    pub(crate) fn classes(&self) -> ClassCounts
+        ensures { result ≡ self.now.classes }
+    {
+        self.classes
+    }
+
+    /// How many joined datagrams count.
+    pub(crate) fn joined(&self) -> u64
+        ensures { result ≡ self.now.joined }
+    {
+        self.joined
+    }
+
+    /// How many groups of fragments were given up.
+    pub(crate) fn given_up(&self) -> u64
+        ensures { result ≡ self.now.joiner.given_up }
+    {
+        self.joiner.given_up()
+    }
+
+    /// The conversation at a place in the order of their first units, and its row; `None` past the last.
+    pub(crate) fn talk(&self, place: usize) -> Option<(TalkKey, TalkRow)>
+        ensures { result ≡ slice_get self.now.talks.rows place }
+    {
+        self.talks.get(place)
     }
 
     /// How many conversations there are: at most 1,048,576.

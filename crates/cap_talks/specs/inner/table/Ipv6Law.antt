@@ -1,5 +1,5 @@
 -- What holds of a report that reads IPv6 packets.
-use Rattle.std.specs.Prelude.{◌≡◌, ℕ, List, [], ◌++◌, Bool, true, false, Option, None, length, ⊤}
+use Rattle.std.specs.Prelude.{◌≡◌, List, ◌++◌, Bool, true, false, None, length, ⊤}
 use Rattle.std.specs.List.{AllByRecursion}
 use Rattle.cap_class.specs.Classes.{classes}
 use Rattle.cap_class.specs.Counting.{counts_of, sum_of}
@@ -9,7 +9,7 @@ use Rattle.cap_merge.specs.Run.{Clocked}
 use Rattle.cap_print.specs.declared.forms.Form.{Form}
 use Rattle.cap_source.specs.Feed.{Item, packet, refused}
 use Rattle.cap_talks.specs.table.Conversations.{rows_of, same_talk}
-use Rattle.cap_talks.specs.table.CountedUnits.{counted_units, given_up_in, joined_in, units_for}
+use Rattle.cap_talks.specs.table.CountedUnits.{counted_units, given_up_in, joined_in}
 use Rattle.cap_talks.specs.table.TakenText.{body_for, counts_for}
 use Rattle.cap_talks.specs.table.TalkLines.{talk_texts_in}
 use Rattle.cap_talks.specs.table.Units.{version_of}

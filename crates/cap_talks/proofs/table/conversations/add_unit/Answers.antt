@@ -1,4 +1,4 @@
-use Rattle.std.proofs.Common.{ap, arith, sym, ◌∙◌, ◌≡◌, not, nat_lt}
+use Rattle.std.proofs.Common.{ap, arith, ◌∙◌, not, nat_lt}
 use Rattle.std.proofs.Common.{Err}
 use Rattle.std.proofs.lemmas.Result.{err_from_is_err_and}
 use Rattle.cap_talks.specs.inner.table.Adding.{with_talk_delta}

@@ -1,7 +1,7 @@
-use Rattle.std.proofs.Common.{Bool, Some, None, ap, sym, subst, true, false, ◌≡◌, ◌∙◌, refl, arith}
+use Rattle.std.proofs.Common.{ap, ◌∙◌, arith}
 use Rattle.cap_class.specs.Ipv6.{lone_class_for}
 use Rattle.cap_ipv6.specs.Seen.{packet_seen}
-use Rattle.cap_talks.specs.table.Descriptions.{describe_for, describe_of, describe_seen, describe_unread}
+use Rattle.cap_talks.specs.table.Descriptions.{describe_for}
 use Rattle.cap_talks.specs.table.Descriptions.{described_class}
 use Rattle.cap_talks.proofs.Describing.{described-for, unread-for, read-for}
 use Rattle.cap_talks.proofs.table.descriptions.describe_for.Goals as goal
