@@ -6,7 +6,7 @@ use Rattle.std.proofs.Common.{inl, inr}
 use Rattle.std.proofs.Math.ListN.{set}
 use Rattle.cap_bytes.specs.declared.faults.Fault.{Fault}
 use Rattle.cap_bytes.specs.declared.faults.Refusal.{Refusal}
-use Rattle.cap_merge.specs.inner.First.{lane_at}
+use Rattle.cap_merge.specs.inner.First.{lane_at, lane_turns, AreSameBut}
 use Rattle.cap_source.specs.Feed.{Feed, IsPacket}
 use Rattle.std.specs.List.{refill}
 use Rattle.std.proofs.lemmas.List.{take_at}
@@ -161,3 +161,17 @@ pub passes-at : {F : Type 0} (f : F → Feed) (ls xs : List Lane) (fs : List F) 
 passes-at f ls xs fs i l m y z a b h e =
     at-place f (λ k x ms gs. PassesPart (part k x) (part m (f z)) → PassesAt (parts ls (map f fs)) i (parts ms gs))
     ls xs fs i l m y z a b (passes_there f ls fs i l m y z h e)
+
+turns_set : (ls : List Lane) (i : ℕ) (m : Lane) → AreSameBut (lane_turns ls) (lane_turns (set ls i m)) i
+turns_set [] i m k other = refl
+turns_set (l ∷ ls) zero m zero other = absurd (other refl)
+turns_set (l ∷ ls) zero m (suc k) other = refl
+turns_set (l ∷ ls) (suc i) m zero other = refl
+turns_set (l ∷ ls) (suc i) m (suc k) other = turns_set ls i m k (λ e. other (ap suc e))
+
+-- the turns of the other lanes stay
+pub turns-at : (ls xs : List Lane) (i : ℕ) (m : Lane) → xs ≡ ls
+    → AreSameBut (lane_turns ls) (lane_turns (refill (length ls) ls (set xs i m))) i
+turns-at ls xs i m a =
+    subst (λ (ms : List Lane). AreSameBut (lane_turns ls) (lane_turns ms) i) (sym (written ls xs i m a))
+    (turns_set ls i m)

@@ -18,7 +18,7 @@ use Rattle.cap_merge.proofs.Finding.{first-within}
 use Rattle.cap_merge.proofs.Firsts.{known-packet, passed-of, passes-each}
 use Rattle.cap_merge.proofs.Heads.{known_all}
 use Rattle.cap_merge.proofs.Others.{others-passed}
-use Rattle.cap_merge.proofs.Peeking.{peeked-kept, peeked-reached, peeked-bounded}
+use Rattle.cap_merge.proofs.Peeking.{peeked-kept, peeked-reached, peeked-bounded, peeked-known, peeked-found}
 use Rattle.cap_merge.proofs.Placing.{turns-agree}
 
 either : {A : Type 0} (b : Bool) (x y : A) → x ≡ y → (if b then x else y) ≡ y
@@ -87,8 +87,9 @@ module _ {F : Type 0} (f : F → Feed) (law : (x : F) → IsFeed (f x)) (ls ms :
       (first_found qs place at)
 
   -- the feed that was passed has no packet at hand
-  pub peeked-merge : (place : ℕ) → PeeksAt (parts ls (map f fs)) place (parts ms (map f ys)) → IsMergeState f ms ys None
-  peeked-merge place peeks =
+  pub peeked-merge : (place : ℕ) → front ≡ Some place
+      → PeeksAt (parts ls (map f fs)) place (parts ms (map f ys)) → IsMergeState f ms ys front
+  peeked-merge place at peeks =
       let ps = parts ls (map f fs) in
       let qs = parts ms (map f ys) in
       record {
@@ -99,8 +100,9 @@ module _ {F : Type 0} (f : F → Feed) (law : (x : F) → IsFeed (f x)) (ls ms :
         agrees = agrees;
         reached = peeked-reached place ps qs peeks merge.reached;
         bounded = peeked-bounded place ps qs peeks merge.bounded;
-        others = refl;
-        found = refl;
+        others = subst (OthersKnown qs) (sym at)
+            (peeked-known place ps qs peeks (subst (OthersKnown ps) at merge.others));
+        found = subst (IsFound qs) (sym at) (peeked-found place ps qs peeks (subst (IsFound ps) at merge.found));
       }
 
   -- the packet that comes first was passed
@@ -125,3 +127,11 @@ module _ {F : Type 0} (f : F → Feed) (law : (x : F) → IsFeed (f x)) (ls ms :
         others = kept.0;
         found = kept.1;
       }
+
+-- a place that is kept is that of the first
+pub front-is : (ps : List Part) (front : Option ℕ) (place : ℕ) → IsFound ps front → are_known ps ≡ true
+    → first_place (turns ps) ≡ Some place → (p : ℕ) → front ≡ Some p → p ≡ place
+front-is ps front place f k at p is = same (sym (found-first ps p (subst (IsFound ps) is f) k) ∙ at)
+  where
+    same : {a b : ℕ} → Some a ≡ Some b → a ≡ b
+    same e = cc

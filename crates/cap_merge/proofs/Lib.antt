@@ -10,6 +10,8 @@ pub mod Finding
 pub mod Others
 pub mod Calls
 pub mod FirstClock
+pub mod Rounding
+pub mod Settling
 pub mod Firsts
 pub mod Looking
 pub mod Peeking

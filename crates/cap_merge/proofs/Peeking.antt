@@ -1,21 +1,21 @@
 -- Asking the feed that was passed whether it has a packet at hand.
-use Rattle.std.proofs.Common.{◌≡◌, ℕ, zero, suc, ◌<◌, Bool, true, false, List, ◌∷◌, length, get_or, refl, sym, ◌∙◌}
+use Rattle.std.proofs.Common.{◌≡◌, ℕ, zero, suc, ◌<◌, Bool, true, false, List, ◌∷◌, length, get_or, refl, sym, ap, ◌∙◌}
 use Rattle.std.proofs.Common.{subst, arith, inl, inr, Some, Result, Ok, Err}
-use Rattle.std.specs.Prelude.{map, is_some, not, ◌&&◌}
+use Rattle.std.specs.Prelude.{map, is_some, not, ◌&&◌, if◌then◌else◌}
 use Rattle.std.specs.List.{AllByRecursion, list_all, refill}
 use Rattle.std.specs.Ordering.{is_lt}
 use Rattle.std.proofs.Math.ListN.{set}
-use Rattle.std.proofs.lemmas.Bool.{true≢false}
+use Rattle.std.proofs.lemmas.Bool.{true≢false, and_from}
 use Rattle.cap_bytes.specs.declared.faults.Fault.{Fault}
 use Rattle.cap_bytes.specs.declared.faults.Fault.TheVariants.{Refused, Read, Write, Memory}
 use Rattle.cap_source.specs.declared.feeds.Head.TheVariants as heads
 use Rattle.cap_source.specs.Feed.{Feed, IsFeed}
 use Rattle.cap_merge.specs.declared.lanes.Lane.{Lane}
 use Rattle.cap_time.specs.Clock.{clock_cmp}
-use Rattle.cap_merge.specs.inner.First.{head_coming}
+use Rattle.cap_merge.specs.inner.First.{Turn, head_coming, has_next, first_place}
 use Rattle.cap_merge.specs.inner.Lists.{and-both}
 use Rattle.cap_merge.specs.Parts.{Part, LaneState, part, parts, known_but, known_time, is_bounded, known_of, HasReached}
-use Rattle.cap_merge.specs.Parts.{AreBounded, merged_feed}
+use Rattle.cap_merge.specs.Parts.{AreBounded, IsFound, are_known, turn, turns, merged_feed}
 use Rattle.cap_merge.specs.inner.Merge.{LearnsBy, LaneStops, LearnsAll, StopsAt, LooksAll, LaneShows, PeeksAt, ShowsAt}
 use Rattle.cap_merge.specs.inner.Merge.{TellsNext}
 use Rattle.cap_merge.specs.inner.Merge.{ShowsFirst}
@@ -82,6 +82,31 @@ peeked-reached place ps qs h r =
 
 pub peeked-bounded : (place : ℕ) (ps qs : List Part) → PeeksAt ps place qs → AreBounded ps → AreBounded qs
 peeked-bounded place ps qs h b = lanes_kept (λ lane. is_bounded lane.clock) place ps qs h ∙ b
+
+-- What is known of the other feeds stays so.
+pub peeked-known : (place : ℕ) (ps qs : List Part) → PeeksAt ps place qs → known_but ps place ≡ true
+    → known_but qs place ≡ true
+peeked-known zero (p ∷ ps) (q ∷ qs) h k = ap are_known h.1 ∙ k
+peeked-known (suc place) (p ∷ ps) (q ∷ qs) h k =
+    let both = and-both (is_some p.lane.head) (known_but ps place) k in
+    and_from (is_some q.lane.head) (known_but qs place) ((λ i. is_some ((h.0 i).lane.head)) ∙ both.0)
+    (peeked-known place ps qs h.1 both.1)
+peeked-known place ps qs h k = grind arith
+
+abbrev turn_of : LaneState → Turn
+turn_of lane = record { has_item = has_next lane.head; clock = lane.clock }
+
+turns_kept : (place : ℕ) (ps qs : List Part) → PeeksAt ps place qs → turns qs ≡ turns ps
+turns_kept zero (p ∷ ps) (q ∷ qs) h = λ i. turn_of (peeked_lane p q h.0 i) ∷ turns (h.1 i)
+turns_kept (suc place) (p ∷ ps) (q ∷ qs) h = λ i. turn (h.0 i) ∷ turns_kept place ps qs h.1 i
+turns_kept place ps qs h = grind arith
+
+-- whose item came first still does, if it wasn't passed
+pub peeked-found : (place : ℕ) (ps qs : List Part) → PeeksAt ps place qs → IsFound ps (Some place)
+    → IsFound qs (Some place)
+peeked-found place ps qs h f =
+    (λ i. if lanes_kept (λ lane. is_some lane.head) place ps qs h i then first_place (turns_kept place ps qs h i)
+    else Some place) ∙ f
 
 -- What such a feed tells when it is asked what comes next, it would have told before.
 learned_again : (p q x : Part) → LaneShows p false q → LearnsBy q.lane.head q x → LearnsBy p.lane.head p x

@@ -12,3 +12,4 @@ pub mod PartsProps
 pub mod Readers
 pub mod Sound
 pub mod View
+pub mod Tournament

@@ -1,10 +1,12 @@
 //! What is known of each feed, and which of them comes first.
 ghost use Rattle.std.specs.Prelude.{◌≡◌, ◌<◌, ◌≤◌, List, replicate, length, true, is_some, None, Some, Ok, IfSome, map};
 ghost use Rattle.std.specs.List.{list_all};
+ghost use Rattle.std.specs.Ordering.{is_lt};
+ghost use Rattle.cap_time.specs.Clock.{clock_cmp};
 ghost use Rattle.cap_source.specs.Feed.{Feed};
 ghost use Rattle.cap_merge.specs.Parts.{part, parts, known_of, known_but, both_held, OthersKnown, Matches, LanesAgree};
 ghost use Rattle.cap_merge.specs.inner.First.{head_coming, fresh_lane, lane_at, has_item, lane_turn, lane_turns};
-ghost use Rattle.cap_merge.specs.inner.First.{comes_before, sooner_place, first_place};
+ghost use Rattle.cap_merge.specs.inner.First.{comes_before, sooner_place, first_place, AreSameBut};
 ghost use Rattle.cap_merge.specs.inner.Merge.{LaneAnswers, Asks, AsksAll, LaneShows, ShowsAt, IsPacketAt, PassesAt};
 
 use arrayvec::ArrayVec;
@@ -107,9 +109,9 @@ impl Lane {
         }
     }
 
-    // Whether an item is known to come next.
+    /// Whether an item is known to come next.
     #[inline(always)]
-    fn has_item(&self) -> bool
+    pub(crate) fn has_item(&self) -> bool
         ensures { result ≡ has_item self.now.next }
     {
         match self.next {
@@ -119,12 +121,20 @@ impl Lane {
         }
     }
 
+    /// Whether its clock is below that of another lane.
+    #[inline(always)]
+    pub(crate) fn is_below(&self, other: &Lane) -> bool
+        ensures { result ≡ is_lt (clock_cmp self.now.clock other.now.clock) }
+    {
+        self.clock < other.clock
+    }
+
     // Whether the item comes before that of an earlier lane.
     #[inline(always)]
     fn comes_before(&self, first: &Lane) -> bool
         ensures { result ≡ comes_before (lane_turn self.now) (lane_turn first.now) }
     {
-        self.clock < first.clock && self.has_item()
+        self.is_below(first) && self.has_item()
     }
 }
 
@@ -156,6 +166,7 @@ pub(crate) fn ask_all<F: PacketFeed>(
     requires others { OthersKnown (parts lanes.old.items (map F.feed feeds.old.items)) unknown }
     ensures asks { AsksAll (parts lanes.old.items (map F.feed feeds.old.items)) result
         (parts lanes.new.items (map F.feed feeds.new.items)) }
+    ensures turns { IfSome unknown (AreSameBut (lane_turns lanes.old.items) (lane_turns lanes.new.items)) }
     ensures agrees { LanesAgree lanes.new.items (map F.feed feeds.new.items) }
     ensures lanes { length lanes.new.items ≡ length lanes.old.items }
     ensures feeds { length feeds.new.items ≡ length feeds.old.items }
@@ -179,6 +190,7 @@ pub(crate) fn show_at<F: PacketFeed>(
     requires others { known_but (parts lanes.old.items (map F.feed feeds.old.items)) place ≡ true }
     ensures shows { ShowsAt (parts lanes.old.items (map F.feed feeds.old.items)) place result
         (parts lanes.new.items (map F.feed feeds.new.items)) }
+    ensures turns { AreSameBut (lane_turns lanes.old.items) (lane_turns lanes.new.items) place }
     ensures agrees { LanesAgree lanes.new.items (map F.feed feeds.new.items) }
     ensures packet { result ≡ true → (lane_at lanes.new.items place).next ≡ Some (Ok true) }
     ensures lanes { length lanes.new.items ≡ length lanes.old.items }
@@ -200,6 +212,7 @@ pub(crate) fn pass_at<F: PacketFeed>(
     requires packet { IsPacketAt (parts lanes.old.items (map F.feed feeds.old.items)) place }
     ensures passes { PassesAt (parts lanes.old.items (map F.feed feeds.old.items)) place
         (parts lanes.new.items (map F.feed feeds.new.items)) }
+    ensures turns { AreSameBut (lane_turns lanes.old.items) (lane_turns lanes.new.items) place }
     ensures agrees { LanesAgree lanes.new.items (map F.feed feeds.new.items) }
     ensures lanes { length lanes.new.items ≡ length lanes.old.items }
     ensures feeds { length feeds.new.items ≡ length feeds.old.items }

@@ -16,13 +16,15 @@ ghost use Rattle.cap_merge.specs.Run.{opened_track, run};
 ghost use Rattle.cap_merge.specs.Parts.{item_time, is_refusal, AreNumberedFeeds, are_known};
 ghost use Rattle.cap_merge.specs.Parts.{merged_feed, new_parts, clock_of, run_of, ClocksFrom, MovesClocks};
 ghost use Rattle.cap_merge.specs.Parts.{KeepsRun, ShowsRun, BeginsAt, turns};
-ghost use Rattle.cap_merge.specs.inner.First.{head_coming, has_next, first_place};
+ghost use Rattle.cap_merge.specs.inner.First.{head_coming, has_next, lane_turns, first_place};
 ghost use Rattle.cap_merge.specs.inner.Merge.{AsksAll, LooksAll, TellsNext, ShowsFirst};
 ghost use Rattle.cap_merge.specs.inner.PartsProps.{IsMergeState, IsMergeState-prop};
+ghost use Rattle.cap_merge.specs.inner.Tournament.{IsSettled, IsSettled-prop};
 
 use crate::lanes::{
     Lane, ask_all, clock_at, coming_at, first_lane, greater, new_lanes, pass_at, show_at,
 };
+use crate::tournament::Tournament;
 use arrayvec::ArrayVec;
 use cap_bytes::{Fault, Refusal};
 use cap_source::{Ending, FeedHeld, Head, Meta, PacketFeed, SkippedKinds};
@@ -37,10 +39,13 @@ pub struct Merged<F: PacketFeed> {
     // the place of the feed whose item came first when that was looked for: that item still does, or it was a packet
     // and was passed
     front: Option<usize>,
+    // if there are more than 4 feeds: whose item comes first in each group of them that the front isn't in
+    tournament: Tournament,
     // whether packets that run backward are counted, and how many were passed that do
     counts: bool,
     backward: u64,
     ghost kept: { IsMergeState F.feed lanes.items feeds.items front } by { IsMergeState-prop _ _ _ _ },
+    ghost settled: { IsSettled (lane_turns lanes.items) tournament front } by { IsSettled-prop _ _ _ },
 }
 
 /// A packet of a run, lent by the merge that it comes next of.
@@ -82,6 +87,7 @@ impl<F: PacketFeed> Merged<F> {
             feeds,
             lanes,
             front: None,
+            tournament: Tournament::new(),
             counts: false,
             backward: 0,
         }
@@ -205,7 +211,7 @@ impl<F: PacketFeed> Merged<F> {
         let unknown = self.front;
         self.front = None;
         ask_all(&mut self.lanes, &mut self.feeds, unknown)?;
-        let first = first_lane(self.lanes.as_slice());
+        let first = self.tournament.first(self.lanes.as_slice(), unknown);
         self.front = first;
         Ok(coming_at(self.lanes.as_slice(), first))
     }
@@ -221,14 +227,13 @@ impl<F: PacketFeed> Merged<F> {
             return false;
         };
         if !show_at(&mut self.lanes, &mut self.feeds, place) {
-            self.front = None;
             return false;
         }
         // The packet at hand of the only file comes first.
         if self.lanes.len() == 1 {
             return true;
         }
-        let first = first_lane(self.lanes.as_slice());
+        let first = self.tournament.first(self.lanes.as_slice(), Some(place));
         self.front = first;
         coming_at(self.lanes.as_slice(), first).unwrap_or(false)
     }

@@ -1,6 +1,6 @@
 -- Which lane's item comes first: that of the least clock, of equal ones the first.
-use Rattle.std.specs.Prelude.{ℕ, zero, suc, Bool, true, false, List, length, map, get_or, Option, Some, None, ◌&&◌}
-use Rattle.std.specs.Prelude.{Result, Ok, Err, if◌then◌else◌}
+use Rattle.std.specs.Prelude.{◌≡◌, ℕ, zero, suc, Bool, true, false, List, length, map, get_or, Option, Some, None, ◌&&◌}
+use Rattle.std.specs.Prelude.{◌+◌, Result, Ok, Err, if◌then◌else◌}
 use Rattle.std.specs.Ordering.{is_lt}
 use Rattle.cap_time.specs.declared.stamps.Stamp.{Stamp}
 use Rattle.cap_bytes.specs.declared.faults.Refusal.{Refusal}
@@ -65,11 +65,19 @@ sooner_place turns None place = if (turn_at turns place).has_item then Some plac
 sooner_place turns (Some first) place = if comes_before (turn_at turns place)
     (turn_at turns first) then Some place else Some first
 
--- the place of the first of that many
-unfoldable pub first_among : List Turn → ℕ → Option ℕ
-first_among turns zero = None
-first_among turns (suc count) = sooner_place turns (first_among turns count) count
+-- the place of the first among `count` turns from the place `from` on
+unfoldable pub first_from : List Turn → ℕ → ℕ → Option ℕ
+first_from turns from zero = None
+first_from turns from (suc count) = sooner_place turns (first_from turns from count) (from + count)
+
+-- the place of the first among the first `count` turns
+abbrev pub first_among : List Turn → ℕ → Option ℕ
+first_among turns count = first_from turns 0 count
 
 -- the place of the first of all
 abbrev pub first_place : List Turn → Option ℕ
 first_place turns = first_among turns (length turns)
+
+-- The turns are the same, except at a place.
+abbrev pub AreSameBut : List Turn → List Turn → ℕ → Type 0
+AreSameBut old new place = (k : ℕ) → (k ≡ place → ⊥) → turn_at new k ≡ turn_at old k

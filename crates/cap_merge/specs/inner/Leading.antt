@@ -12,7 +12,8 @@ use Rattle.std.proofs.lemmas.Option.{slice_get-get_or}
 use Rattle.std.proofs.Math.Seq.{drop-cons}
 use Rattle.cap_time.specs.declared.stamps.Stamp.{Stamp}
 use Rattle.cap_time.specs.Clock.{clock_cmp}
-use Rattle.cap_merge.specs.inner.First.{Turn, has_next, no_turn, turn_at, sooner_place, first_among, first_place}
+use Rattle.cap_merge.specs.inner.First.{Turn, has_next, no_turn, turn_at, sooner_place, first_from, first_among}
+use Rattle.cap_merge.specs.inner.First.{first_place}
 use Rattle.cap_merge.specs.Parts.{Part, turn, turns, first_part}
 use Rattle.cap_time.specs.inner.Orderings.{is_less}
 use Rattle.cap_merge.specs.inner.Clocks.{clock_total, AtMost, not_below, below-at_most}
@@ -111,10 +112,20 @@ sooner_is ls count None f = alone ls count ((turn_at ls count).has_item) refl f
 sooner_is ls count (Some place) s = two ls count place ((turn_at ls count).has_item)
     (is_lt (clock_cmp (turn_at ls count).clock (turn_at ls place).clock)) refl refl s
 
+-- of one more turn
+pub among-more : (ls : List Turn) (count : ℕ)
+    → first_among ls (suc count) ≡ sooner_place ls (first_among ls count) count
+unfolding first_from
+among-more ls count =
+    let there : 0 + count ≡ count = omega arith in
+    ap (sooner_place ls (first_among ls count)) there
+
 among_is : (ls : List Turn) (count : ℕ) → LeadsOf ls count (first_among ls count)
-unfolding first_among
+unfolding first_from
 among_is ls zero = λ k h. absurd (omega arith)
-among_is ls (suc count) = sooner_is ls count (first_among ls count) (among_is ls count)
+among_is ls (suc count) =
+    subst (LeadsOf ls (suc count)) (sym (among-more ls count))
+    (sooner_is ls count (first_among ls count) (among_is ls count))
 
 -- what is true of the turn at each place of some parts
 each_turn : (P : Turn → Type 0) (ps : List Part) → ((k : ℕ) → k < length ps → P (turn_at (turns ps) k))

@@ -1,4 +1,4 @@
-use Rattle.cap_merge.proofs.Asking.{matches-at, agrees-at}
+use Rattle.cap_merge.proofs.Asking.{matches-at, agrees-at, turns-at}
 use Rattle.cap_merge.proofs.Others.{asks-at, but_within}
 use Rattle.cap_merge.proofs.lanes.ask_all.Goals as goal
 
@@ -17,3 +17,8 @@ returns-in-Some-clause-asks g c =
 
 pub returns-in-Some-clause-agrees : goal.returns-in-Some-clause-agrees
 returns-in-Some-clause-agrees g c = search (agrees-at)
+
+pub returns-in-Some-clause-turns : goal.returns-in-Some-clause-turns
+returns-in-Some-clause-turns g c =
+    rw c.in-Some.is (turns-at c.args.lanes.now.items c.deref_mut.result.now c.in-Some.place c.ask.new.self
+    c.deref_mut.ensures.value)

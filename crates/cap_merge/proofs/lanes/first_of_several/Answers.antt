@@ -1,6 +1,6 @@
 use Rattle.std.proofs.Common.{◌∙◌, arith, add-one}
 use Rattle.cap_merge.specs.inner.First.{lane_turns}
-use Rattle.cap_merge.proofs.Finding.{among-none, among-more, lanes-within, among-all}
+use Rattle.cap_merge.proofs.Finding.{among-none, among-next, lanes-within, among-all}
 use Rattle.cap_merge.proofs.lanes.first_of_several.Goals as goal
 
 pub loop-place-init : goal.loop-place-init
@@ -12,7 +12,7 @@ sooner-first-requires-clause-first c = lanes-within c.args.lanes.now c.loop-plac
 
 pub loop-place-preserved : goal.loop-place-preserved
 loop-place-preserved c = rw add-one (c.sooner-first.ensures
-    ∙ among-more (lane_turns c.args.lanes.now) c.loop-place.first c.loop-place.place c.loop-place.invariant)
+    ∙ among-next (lane_turns c.args.lanes.now) c.loop-place.first c.loop-place.place c.loop-place.invariant)
 
 pub returns : goal.returns
 returns c = record {

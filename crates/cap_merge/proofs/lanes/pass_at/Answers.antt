@@ -1,7 +1,7 @@
 use Rattle.std.proofs.Common.{refl, sym, subst, get_or, None}
 use Rattle.cap_source.specs.Feed.{IsPacket}
 use Rattle.cap_merge.specs.declared.lanes.Lane.{Lane}
-use Rattle.cap_merge.proofs.Asking.{packet-there, passes-at, agrees-at}
+use Rattle.cap_merge.proofs.Asking.{packet-there, passes-at, agrees-at, turns-at}
 use Rattle.cap_merge.proofs.lanes.pass_at.Goals as goal
 
 pub pass-requires : goal.pass-requires
@@ -26,3 +26,6 @@ returns-clause-passes g c =
 
 pub returns-clause-agrees : goal.returns-clause-agrees
 returns-clause-agrees g c = search (agrees-at)
+
+pub returns-clause-turns : goal.returns-clause-turns
+returns-clause-turns g c = search (turns-at)

@@ -1,4 +1,4 @@
-use Rattle.cap_merge.proofs.Asking.{matches-at, agrees-at, next-at}
+use Rattle.cap_merge.proofs.Asking.{matches-at, agrees-at, next-at, turns-at}
 use Rattle.cap_merge.proofs.Others.{but_within}
 use Rattle.cap_merge.proofs.Peeking.{shows-at}
 use Rattle.cap_merge.proofs.lanes.show_at.Goals as goal
@@ -20,3 +20,6 @@ pub returns-clause-packet : goal.returns-clause-packet
 returns-clause-packet g c = λ t.
     next-at c.args.lanes.now.items c.deref_mut.result.now c.args.place c.show.new.self c.deref_mut.ensures.value
     (but_within g.F.PacketFeed.feed _ _ _ c.requires.alike c.requires.others) (c.show.ensures.packet t)
+
+pub returns-clause-turns : goal.returns-clause-turns
+returns-clause-turns g c = search (turns-at)

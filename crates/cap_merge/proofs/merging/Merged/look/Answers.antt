@@ -4,6 +4,7 @@ use Rattle.cap_merge.specs.Parts.{merged_feed}
 use Rattle.cap_merge.specs.inner.View.{parts_of}
 use Rattle.cap_merge.proofs.Calls.{asked-known}
 use Rattle.cap_merge.proofs.Keeping.{asked-merge, learned-merge}
+use Rattle.cap_merge.proofs.Settling.{front-within, settled-asked}
 use Rattle.cap_merge.proofs.merging.Merged.look.Goals as goal
 
 pub invariant_of-self : goal.invariant_of-self
@@ -14,6 +15,7 @@ invariant_of-self g c =
       kept = asked-merge g.F.PacketFeed.feed g.met.F.PacketFeed.lawful m.lanes.items c.ask_all.new.lanes.items
           m.feeds.items c.ask_all.new.feeds.items m.front m.kept e.lanes e.feeds e.agrees c.ask_all.result e.asks None
           refl refl;
+      settled = tt;
     }
 
 pub invariant_of-self-2 : goal.invariant_of-self-2
@@ -23,8 +25,22 @@ invariant_of-self-2 g c =
     record {
       kept = learned-merge g.F.PacketFeed.feed g.met.F.PacketFeed.lawful m.lanes.items c.ask_all.new.lanes.items
           m.feeds.items c.ask_all.new.feeds.items m.front m.kept e.lanes e.feeds e.agrees c.in_ok-ask_all.ensures.asks
-          c.first_lane-first.result (rw c.as_slice.ensures.value at c.first_lane-first.ensures.place);
+          c.first-first.result (rw c.as_slice.ensures.value at c.first-first.ensures.place);
+      settled = rw c.as_slice.ensures.value at c.first-first.ensures.settled c.first-first.result;
     }
+
+pub first-first-requires-clause-changed : goal.first-first-requires-clause-changed
+first-first-requires-clause-changed g c =
+    let m = c.args.self.now in
+    rw (c.as_slice.ensures.value, c.ask_all.ensures.lanes) (front-within g.F.PacketFeed.feed m.lanes.items m.feeds.items
+    m.front m.kept.alike m.kept.others)
+
+pub first-first-requires-clause-settled : goal.first-first-requires-clause-settled
+first-first-requires-clause-settled g c =
+    let m = c.args.self.now in
+    let e = c.ask_all.ensures in
+    rw c.as_slice.ensures.value (settled-asked m.lanes.items c.ask_all.new.lanes.items m.tournament m.front e.lanes
+    e.turns m.settled)
 
 pub coming_at-requires-clause-known : goal.coming_at-requires-clause-known
 coming_at-requires-clause-known g c =

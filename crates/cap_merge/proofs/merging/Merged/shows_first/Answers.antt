@@ -9,6 +9,7 @@ use Rattle.cap_merge.proofs.Finding.{packet-alone}
 use Rattle.cap_merge.proofs.Keeping.{learned-merge, peeked-merge}
 use Rattle.cap_merge.proofs.Peeking.{peeked-looks, shows-first}
 use Rattle.cap_merge.proofs.Placing.{coming-first}
+use Rattle.cap_merge.proofs.Settling.{settled-at}
 use Rattle.cap_merge.proofs.merging.Merged.shows_first.Goals as goal
 
 -- only a packet counts as one
@@ -21,8 +22,10 @@ invariant_of-self g c =
     let e = c.show_at.ensures in
     record {
       kept = peeked-merge g.F.PacketFeed.feed g.met.F.PacketFeed.lawful m.lanes.items c.show_at.new.lanes.items
-          m.feeds.items c.show_at.new.feeds.items m.front m.kept e.lanes e.feeds e.agrees c.in-Some.place
+          m.feeds.items c.show_at.new.feeds.items m.front m.kept e.lanes e.feeds e.agrees c.in-Some.place c.in-Some.is
           (rw c.if-not-show_at.true at e.shows);
+      settled = rw c.in-Some.is (settled-at m.lanes.items c.show_at.new.lanes.items m.tournament m.front
+          c.in-Some.place c.in-Some.is e.lanes e.turns m.settled);
     }
 
 pub returns-then-not-show_at-clause-shows : goal.returns-then-not-show_at-clause-shows
@@ -45,6 +48,8 @@ invariant_of-self-then-len-eq1 g c =
           c.show_at.new.feeds.items m.front m.kept e.lanes e.feeds e.agrees (rw c.if-not-show_at.false at e.shows)
           m.front (c.in-Some.is ∙ sym (packet-alone ls c.in-Some.place (sym c.len.ensures.value ∙ c.if-len-eq1.true)
           (e.packet c.if-not-show_at.false)));
+      settled = rw c.in-Some.is (settled-at m.lanes.items ls m.tournament m.front c.in-Some.place c.in-Some.is e.lanes
+          e.turns m.settled);
     }
 
 pub returns-then-len-eq1-clause-shows : goal.returns-then-len-eq1-clause-shows
@@ -70,9 +75,17 @@ invariant_of-self-2 g c =
     record {
       kept = learned-merge g.F.PacketFeed.feed g.met.F.PacketFeed.lawful m.lanes.items c.show_at.new.lanes.items
           m.feeds.items c.show_at.new.feeds.items m.front m.kept e.lanes e.feeds e.agrees
-          (rw c.if-not-show_at.false at e.shows) c.first_lane-first.result
-          (rw c.as_slice.ensures.value at c.first_lane-first.ensures.place);
+          (rw c.if-not-show_at.false at e.shows) c.first-first.result
+          (rw c.as_slice.ensures.value at c.first-first.ensures.place);
+      settled = rw c.as_slice.ensures.value at c.first-first.ensures.settled c.first-first.result;
     }
+
+pub first-first-requires-clause-settled : goal.first-first-requires-clause-settled
+first-first-requires-clause-settled g c =
+    let m = c.args.self.now in
+    let e = c.show_at.ensures in
+    rw c.as_slice.ensures.value (settled-at m.lanes.items c.show_at.new.lanes.items m.tournament m.front c.in-Some.place
+    c.in-Some.is e.lanes e.turns m.settled)
 
 pub coming_at-requires-clause-known : goal.coming_at-requires-clause-known
 coming_at-requires-clause-known g c =

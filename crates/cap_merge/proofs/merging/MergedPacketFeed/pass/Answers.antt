@@ -4,8 +4,9 @@ use Rattle.cap_merge.specs.Parts.{clock_of, merged_feed}
 use Rattle.cap_merge.specs.inner.View.{parts_of}
 use Rattle.cap_merge.proofs.Backward.{counted-more}
 use Rattle.cap_merge.proofs.Firsts.{packet-at-first, passed-of, no-packet, known-packet}
-use Rattle.cap_merge.proofs.Keeping.{passed-merge}
+use Rattle.cap_merge.proofs.Keeping.{passed-merge, front-is}
 use Rattle.cap_merge.proofs.Placing.{place_within, none-placed}
+use Rattle.cap_merge.proofs.Settling.{settled-passed}
 use Rattle.cap_merge.proofs.merging.MergedPacketFeed.pass.Goals as goal
 
 pub first_place-requires : goal.first_place-requires
@@ -27,7 +28,7 @@ pass_at-requires g c =
     }
 
 pub invariant_of-self : goal.invariant_of-self
-invariant_of-self g c = record { kept = c.args.self.now.kept }
+invariant_of-self g c = record { kept = c.args.self.now.kept; settled = c.args.self.now.settled }
 
 pub invariant_of-self-in-Some : goal.invariant_of-self-in-Some
 invariant_of-self-in-Some g c =
@@ -37,6 +38,9 @@ invariant_of-self-in-Some g c =
       kept = passed-merge g.F.PacketFeed.feed g.met.F.PacketFeed.lawful m.lanes.items c.pass_at.new.lanes.items
           m.feeds.items c.pass_at.new.feeds.items m.front m.kept e.lanes e.feeds e.agrees c.in-Some.place
           (sym c.first_place.ensures.place ∙ c.in-Some.is) c.requires.packet e.passes;
+      settled = settled-passed m.lanes.items c.pass_at.new.lanes.items m.tournament m.front c.in-Some.place
+          (front-is (parts_of m) m.front c.in-Some.place m.kept.found (known-packet (parts_of m) c.requires.packet)
+          (sym c.first_place.ensures.place ∙ c.in-Some.is)) e.lanes e.turns m.settled;
     }
 
 pub returns-in-Some : goal.returns-in-Some
