@@ -1,9 +1,9 @@
 /* A C program over libcapt, for clib.py. It prints what `capt list` prints of a file, by capt_next (`next`), by
  * capt_next_many (`many`), of standard input (`stdin`), or of bytes that are fed, N at a time (`fed N`), what `capt
- * report` prints, step by step (`table`, also with `--ipv6`), prints the interface of each packet (`interfaces`),
- * misuses the library in each way that the header names (`misuse`, and `flags` for the flags), compares the version's
- * forms (`version`), and measures what a reader that is fed holds (`memory`), and how much stack the calls take
- * (`stack`). */
+ * report` prints, step by step (`table`, also with `--ipv6`), which it makes of the table's numbers too and compares,
+ * prints the interface of each packet (`interfaces`), misuses the library in each way that the header names (`misuse`,
+ * and `flags` for the flags), compares the version's forms (`version`), and measures what a reader that is fed holds
+ * (`memory`), and how much stack the calls take (`stack`). */
 #define _GNU_SOURCE
 #include <capt.h>
 #include <inttypes.h>
@@ -119,12 +119,17 @@ static int list_fed(capt_bytes rest, size_t size, uint32_t flags) {
     uint64_t number = 0;
     uint32_t status = capt_open_fed(&reader, flags);
     if (status != CAPT_DONE) return told(status, place);
-    while ((status = next_fed(&reader, &rest, size, &packet, &place)) == CAPT_PACKET) print_packet(++number, &packet);
+    while ((status = next_fed(&reader, &rest, size, &packet, &place)) == CAPT_PACKET) {
+        print_packet(++number, &packet);
+        if (number == 1 && capt_end(&reader, &ending) != CAPT_MISUSE) return 7;
+    }
     int code = told(status, place);
     if (status == CAPT_MEMORY) return capt_close(&reader), code;
-    /* the end and a refusal come again; no other call knows such a reader */
+    /* the end and a refusal come again, and only after the end it is told how the capture ended; no other call knows
+     * such a reader */
     if (capt_next(&reader, &packet, &again) != status || memcmp(&place, &again, sizeof place)) return 6;
-    if (capt_end(&reader, &ending) != CAPT_MISUSE || capt_next_many(&reader, &packet, 1, &count, &place) != CAPT_MISUSE) return 7;
+    if ((capt_end(&reader, &ending) == CAPT_DONE) != (status == CAPT_DONE)) return 7;
+    if (capt_next_many(&reader, &packet, 1, &count, &place) != CAPT_MISUSE) return 7;
     if (capt_table_step(&reader, &place) != CAPT_MISUSE) return 7;
     if (capt_feed_end(&reader) != CAPT_DONE || capt_feed(&reader, (const uint8_t *)"", 0) != CAPT_MISUSE) return 11;
     capt_close(&reader);
@@ -226,7 +231,112 @@ static int fed_memory(void) {
     return held() - before > MIB / 2 ? 44 : 0;
 }
 
-/* The report of a file, step by step, with one after each step that can be written. */
+static void put_wide(FILE *out, __int128 number) {
+    if (number < 0) fputc('-', out);
+    unsigned __int128 size = number < 0 ? -(unsigned __int128)number : (unsigned __int128)number;
+    uint64_t ten = 10000000000000000000u;
+    if (size >= ten) fprintf(out, "%" PRIu64 "%019" PRIu64, (uint64_t)(size / ten), (uint64_t)(size % ten));
+    else fprintf(out, "%" PRIu64, (uint64_t)size);
+}
+
+static void put_time(FILE *out, const char *label, const capt_time *time) {
+    fprintf(out, " %s ", label);
+    if (!time->denominator) {
+        fputc('-', out);
+        return;
+    }
+    put_wide(out, time->seconds + (__int128)time->carry * ((__int128)1 << 64));
+    fprintf(out, "+%" PRIu64 "/%" PRIu64, time->numerator, time->denominator);
+}
+
+static void put_traffic(FILE *out, const char *between, const capt_traffic *them) {
+    fprintf(out, "%" PRIu64 "%s", them->packets, between);
+    put_wide(out, them->bytes + ((__int128)them->carry << 64));
+}
+
+/* An IPv6 address (RFC 5952, 4): the longest run of two zeros or more, of equal ones the first, is `::`. */
+static void put_ipv6(FILE *out, const uint8_t *at) {
+    int first = 0, longest = 1;
+    for (int from = 0, to; from < 8; from = to + 1) {
+        for (to = from; to < 8 && !at[2 * to] && !at[2 * to + 1]; to++) {}
+        if (to - from > longest) longest = to - from, first = from;
+    }
+    for (int i = 0; i < 8; i++) {
+        if (longest > 1 && i == first) fprintf(out, "::"), i += longest;
+        else if (i) fputc(':', out);
+        if (i < 8) fprintf(out, "%x", at[2 * i] << 8 | at[2 * i + 1]);
+    }
+}
+
+static void put_end(FILE *out, const capt_endpoint *end) {
+    bool is_bracketed = end->version == 6 && end->has_port;
+    fprintf(out, is_bracketed ? " [" : " ");
+    if (end->version == 6) put_ipv6(out, end->address);
+    else fprintf(out, "%d.%d.%d.%d", end->address[0], end->address[1], end->address[2], end->address[3]);
+    if (end->has_port) fprintf(out, is_bracketed ? "]:%d" : ":%d", end->port);
+}
+
+static void put_talk(FILE *out, const capt_talk *talk) {
+    fprintf(out, talk->protocol == 17 ? "talk udp" : talk->protocol == 6 ? "talk tcp" : "talk p%d", talk->protocol);
+    put_end(out, &talk->a);
+    put_end(out, &talk->b);
+    fprintf(out, " forward ");
+    put_traffic(out, " ", &talk->forward);
+    fprintf(out, " backward ");
+    put_traffic(out, " ", &talk->backward);
+    put_time(out, "first", &talk->first);
+    put_time(out, "last", &talk->last);
+    fputc('\n', out);
+}
+
+static void put_file(FILE *out, uint32_t number, const capt_file_counts *file) {
+    static const char *formats[] = {"-", "pcap", "pcapng"};
+    fprintf(out, "file %" PRIu32 " %s packets ", number, formats[file->format]);
+    put_traffic(out, " bytes ", &file->all);
+    fprintf(out, " truncated %" PRIu64 " skipped %" PRIu64, file->truncated, file->skipped);
+    put_time(out, "first", &file->first);
+    put_time(out, "last", &file->last);
+    fprintf(out, file->was_cut ? " cut\n" : "\n");
+}
+
+static void put_totals(FILE *out, const capt_totals *all, uint32_t flags) {
+    fprintf(out, "total packets ");
+    put_traffic(out, " bytes ", &all->all);
+    fprintf(out, " truncated %" PRIu64 "\nframes other-link %" PRIu64 " %s %" PRIu64 " short %" PRIu64, all->truncated,
+            all->other_link, flags & CAPT_IPV6 ? "not-ip" : "not-ipv4", all->not_ip, all->too_short);
+    fprintf(out, " cut %" PRIu64 " bad %" PRIu64 " unjoined %" PRIu64 " counted %" PRIu64 "\n", all->cut, all->bad,
+            all->unjoined, all->counted);
+    fprintf(out, "joined %" PRIu64 " given-up %" PRIu64 "\ntalks %" PRIu64 "\n", all->joined, all->given_up, all->talks);
+}
+
+/* Whether the report so far is that text, line by line, as the table tells it in numbers. */
+static bool is_report(capt_table *table, uint32_t flags, const capt_text *text) {
+    capt_totals totals;
+    capt_file_counts file;
+    capt_talk talk;
+    static char made[1 << 22];
+    uint32_t status = capt_table_totals(table, &totals);
+    if (status != CAPT_DONE) return false;
+    FILE *out = fmemopen(made, sizeof made, "w");
+    if (!out) exit(3);
+    fprintf(out, "files %" PRIu32 "\n", totals.files);
+    for (uint32_t number = 1; (status = capt_table_file(table, number, &file)) == CAPT_DONE; number++)
+        put_file(out, number, &file);
+    put_totals(out, &totals, flags);
+    for (size_t place = 0; capt_table_talk(table, place, &talk) == CAPT_DONE; place++) put_talk(out, &talk);
+    long len = ftell(out);
+    fclose(out);
+    bool is_same = len >= 0 && (size_t)len == text->len && !memcmp(made, text->at, text->len);
+    /* there is nothing at these places, and what is there stays */
+    capt_talk before = talk;
+    bool is_no_talk = capt_table_talk(table, totals.talks, &talk) == CAPT_MISUSE
+                      && capt_table_talk(table, SIZE_MAX, &talk) == CAPT_MISUSE;
+    bool is_no_file = capt_table_file(table, 0, &file) == CAPT_MISUSE
+                      && capt_table_file(table, UINT32_MAX, &file) == CAPT_MISUSE;
+    return is_same && is_no_talk && is_no_file && (totals.talks == 0 || !memcmp(&before, &talk, sizeof talk)) && status == CAPT_MISUSE;
+}
+
+/* The report of a file, step by step, with one after each step that can be written, as text and in numbers. */
 static int report(capt_bytes file, uint32_t flags) {
     capt_table table = {0};
     capt_text text = {0};
@@ -236,11 +346,13 @@ static int report(capt_bytes file, uint32_t flags) {
     do {
         uint32_t written = capt_table_write(&table, &text, &again);
         if (written != CAPT_DONE || text.len < 8 || memcmp(text.at, "files 1\n", 8)) return told(written, again) + 16;
+        if (!is_report(&table, flags, &text)) return 13;
     } while ((status = capt_table_step(&table, &place)) == CAPT_PACKET);
     if (capt_table_step(&table, &again) != status || memcmp(&place, &again, sizeof place)) return 6;
     if (status == CAPT_DONE) {
         uint32_t written = capt_table_write(&table, &text, &again);
         if (written != CAPT_DONE) return told(written, again) + 16;
+        if (!is_report(&table, flags, &text)) return 13;
         fwrite(text.at, 1, text.len, stdout);
     }
     capt_close(&table);
@@ -347,6 +459,16 @@ static int misuse(const char *name) {
     if (capt_next(&table, &packet, &place) != CAPT_MISUSE || capt_end(&table, &ending) != CAPT_MISUSE) return 18;
     if (capt_table_step(&table, &place) != CAPT_PACKET) return 19;
     capt_close(&table);
+    /* what is closed, or a reader, tells no rows */
+    capt_talk talk;
+    capt_file_counts counts;
+    capt_totals totals;
+    for (int i = 0; i < 2; i++) {
+        if (capt_table_talk(&table, 0, &talk) != CAPT_MISUSE) return 24;
+        if (capt_table_file(&table, 1, &counts) != CAPT_MISUSE || capt_table_totals(&table, &totals) != CAPT_MISUSE) return 25;
+        if (i == 0 && capt_open(&table, files[0].at, files[0].len, 0) != CAPT_DONE) return 26;
+    }
+    capt_close(&table);
     place = same;
     if (capt_report(files, 32, 0, &text, &place) != CAPT_DONE || text.len == 0) return 7;
     if (capt_next(&text.handle, &packet, &place) != CAPT_MISUSE) return 8;
@@ -380,6 +502,9 @@ static struct {
     capt_text text;
     capt_packet packet;
     capt_place place;
+    capt_talk talk;
+    capt_file_counts counts;
+    capt_totals totals;
 } on;
 
 static void call_none(void) {}
@@ -397,6 +522,9 @@ static void call_table_open(void) { capt_table_open(&on.table, on.files, 32, CAP
 static void call_table(void) {
     while (capt_table_step(&on.table, &on.place) == CAPT_PACKET) {}
     capt_table_write(&on.table, &on.text, &on.place);
+    capt_table_talk(&on.table, 0, &on.talk);
+    capt_table_file(&on.table, 32, &on.counts);
+    capt_table_totals(&on.table, &on.totals);
     capt_close(&on.table);
 }
 static void call_reader(void) {

@@ -107,7 +107,7 @@ def fed(capt, content, size, allow_cut):
                 lines += map(facts, it)
         except capt.Refused as refused:
             return lines, str(refused)
-        return lines, None
+        return lines, it.ending
 
 
 class Drip:
@@ -134,6 +134,45 @@ def listed(text):
     return packets
 
 
+def end_of(word):
+    """The address and the port of an end that `report` printed."""
+    if word.count(":") > 1 and not word.startswith("["):
+        return word, None
+    address, _, port = word.rpartition(":") if ":" in word else (word, "", "")
+    return address.strip("[]"), int(port) if port else None
+
+
+def rows_of(text):
+    """The talks, the files and the totals of what `report` printed."""
+    talks, files, totals = [], [], []
+    for line in text.splitlines():
+        kind, *words = line.split()
+        if kind == "talk":
+            protocol, a, b, _, *forward, _, packets, size, _, first, _, last = words
+            number = {"udp": 17, "tcp": 6}.get(protocol) or int(protocol[1:])
+            sides = tuple(map(int, forward)), (int(packets), int(size))
+            talks.append((number, *end_of(a), *end_of(b), *sides, printed(first), printed(last)))
+        elif kind == "file":
+            counts = map(int, words[3:10:2])
+            times = printed(words[11]), printed(words[13])
+            files.append((None if words[1] == "-" else words[1], *counts, *times, words[-1] == "cut"))
+        elif kind in ("total", "frames", "joined"):
+            totals += [int(word) for word in words if word.isdigit()]
+    return talks, files, tuple(totals)
+
+
+def check_rows(count, capt, name, content):
+    """The rows of a report are those of its text."""
+    for how in {}, {"allow_cut": True}, {"ipv6": True}, {"ipv6": True, "allow_cut": True}:
+        report, text = tried(capt.report, content, **how), tried(capt.report_text, content, **how)
+        if isinstance(report, capt.Refused):
+            is_same = isinstance(text, capt.Refused) and str(text) == str(report)
+            count.check(f"python: a refused report of {name}", is_same, text)
+            continue
+        seen = report.talks, report.files, report.totals
+        count.check(f"python: rows of {name}", report.text == text and seen == rows_of(text), seen, text)
+
+
 def check_python(count, capt, bench, name, content):
     for allow_cut in (False, True):
         for task in TASKS:
@@ -147,7 +186,7 @@ def check_python(count, capt, bench, name, content):
         lines, ending = walked(capt, content, allow_cut)
         count.check(f"python: packets of {name}", lines == listed(text))
         for size in 1, 100:
-            count.check(f"python: {name} fed by {size}", fed(capt, content, size, allow_cut) == (lines, ending if status else None))
+            count.check(f"python: {name} fed by {size}", fed(capt, content, size, allow_cut) == (lines, ending))
         path, drip = bench.name(content), Drip(content, max(7, len(content) // 1000))
         for how, source in ("by its path", path), ("mapped", path), ("by a few bytes", drip), ("from memory", io.BytesIO(content)):
             seen = walked(capt, source, allow_cut, map=how == "mapped")
@@ -704,12 +743,15 @@ def check_ipv6(count, capt, checker, bench):
     want = [(17, "2001:db8::1", 1000, "2001:db8::2", 2000), (17, "10.0.0.1", 1000, "10.0.0.2", 2000),
             (58, "fe80::1", None, "ff02::1", None)]
     count.check("python: ends of IPv6", ends == want, ends)
-    for word, want in {
-        "[2001:db8::1]:443": ("2001:db8::1", 443), "2001:db8::1": ("2001:db8::1", None), "::": ("::", None),
-        "[::]:0": ("::", 0),
-        "10.0.0.1:53": ("10.0.0.1", 53), "10.0.0.1": ("10.0.0.1", None),
+    # RFC 5952, 4: the longest run of two zeros or more is shortened, of equal ones the first
+    for groups, want in {
+        "2001 db8 0 0 0 0 0 1": "2001:db8::1", "0 0 0 0 0 0 0 0": "::", "0 0 0 0 0 0 0 1": "::1",
+        "1 0 0 0 0 0 0 0": "1::",
+        "1 0 0 2 0 0 0 3": "1:0:0:2::3", "1 0 0 2 0 0 3 4": "1::2:0:0:3:4", "1 0 2 3 4 5 6 7": "1:0:2:3:4:5:6:7",
+        "0 0 0 0 0 ffff a00 1": "::ffff:a00:1", "100 10 0 1000 0 0 10 0": "100:10:0:1000::10:0",
     }.items():
-        count.check(f"python: the end {word}", capt._end(word) == want, capt._end(word))
+        seen = capt._address(b"".join(int(it, 16).to_bytes(2, "big") for it in groups.split()), 6)
+        count.check(f"python: the address {want}", seen == want, seen)
 
 
 def check_faults(count, checker, shim, path, content):
@@ -804,6 +846,8 @@ int main(int count, char **words) {
     /* flags that aren't taken leave it open, and the end and a refusal come again */
     if (begin(words[1], CAPT_TO_PCAP) != CAPT_MISUSE) return 23;
     if (capt_file_next(&file, &packet, &again) != status || memcmp(&place, &again, sizeof place)) return 24;
+    capt_ending ending;
+    if ((capt_file_end(&file, &ending) == CAPT_DONE) != (status == CAPT_DONE)) return 29;
     printf("status %" PRIu32 " rule %" PRIu32 " offset %" PRIu64 "\\n", status, place.rule, place.offset);
     /* a file that is opened again begins anew, and its descriptor isn't kept */
     for (int turn = 0; turn < 3 && strcmp(words[1], "-"); turn++) {
@@ -994,6 +1038,11 @@ fn is_sent<T: Send + 'static>(it: T) -> T {
     std::thread::spawn(move || it).join().ok().unwrap()
 }
 
+// a table is used by another thread while its bytes are there
+fn is_sent_within<'a, 'b>(it: &'b mut capt::Table<'a>, work: fn(&mut capt::Table<'a>)) -> &'b mut capt::Table<'a> {
+    std::thread::scope(|scope| scope.spawn(move || { work(it); it }).join().ok().unwrap())
+}
+
 fn main() -> Result<(), Box<dyn Error>> {
     let bytes = std::fs::read(std::env::args().nth(1).unwrap())?;
     let mut capture = capt::Capture::from_vec(bytes.clone(), false)?;
@@ -1035,6 +1084,7 @@ fn main() -> Result<(), Box<dyn Error>> {
     let mut reader = is_sent(reader);
     assert_eq!(offsets(&mut reader).0, [100, 176]);
     assert!(reader.next()?.is_none());
+    assert!(!reader.ending().unwrap().is_pcapng);
     assert!(reader.into_inner().0.is_empty());
     // a refusal comes again; it shows how long its text is, and not the text
     let mut reader = capt::Reader::open(&bytes[..251], false)?;
@@ -1053,6 +1103,14 @@ fn main() -> Result<(), Box<dyn Error>> {
     let shown = format!("Refused(Refusal {{ file: 1, offset: 176, rule: 3 }}, {text} bytes)");
     assert_eq!(format!("{error:?}"), shown);
     assert!(format!("{:?}", capt::Fed::open(false)?).starts_with("Fed"));
+    // what is fed tells how it ended once it has
+    let mut fed = capt::Fed::open(true)?;
+    fed.feed(&bytes[..251])?;
+    fed.end();
+    while fed.next()? != capt::Next::End {
+        assert!(fed.ending().is_none());
+    }
+    assert!(fed.ending().unwrap().was_cut);
     // a report with the conversations of IPv6, and without them
     let ipv6 = std::fs::read(std::env::args().nth(2).unwrap())?;
     let [with, without] = [true, false].map(|it| capt::report_with(&[&ipv6], capt::ReportOptions::new().ipv6(it)).unwrap());
@@ -1062,6 +1120,22 @@ fn main() -> Result<(), Box<dyn Error>> {
     let cut = &ipv6[..ipv6.len() - 1];
     assert!(capt::report_with(&[cut], capt::ReportOptions::new().ipv6(true)).is_err());
     assert!(capt::report_with(&[cut], capt::ReportOptions::new().ipv6(true).allow_cut(true))?.contains("not-ip 0 "));
+    // the table of a report, as text and as data
+    let mut table = capt::Table::open(&[&ipv6, &bytes], capt::ReportOptions::new().ipv6(true))?;
+    assert!(table.talk(0).is_none() && table.file(1).unwrap().format.is_none() && table.totals().all.packets == 0);
+    let table = is_sent_within(&mut table, |it| while it.step().unwrap() {});
+    assert_eq!(table.text()?, capt::report_with(&[&ipv6, &bytes], capt::ReportOptions::new().ipv6(true))?);
+    let (totals, talks) = (table.totals(), table.talks());
+    assert_eq!((totals.files, totals.talks, totals.all.packets, totals.all.bytes), (2, 3, 9, 411));
+    assert_eq!((totals.not_ip, totals.bad, totals.unjoined, totals.counted, totals.joined), (1, 1, 1, 6, 0));
+    let shown: Vec<_> = talks.iter().map(|it| format!("{} {} {:?}", it.protocol, it.b.address, it.b.port)).collect();
+    assert_eq!(shown, ["17 2001:db8::2 Some(2000)", "17 10.0.0.2 Some(2000)", "58 ff02::1 None"]);
+    assert_eq!((talks[0].backward.packets, talks[0].backward.bytes, talks[0].last.unwrap().seconds), (1, 50, 2));
+    assert_eq!((talks[1].forward.packets, talks[1].forward.bytes), (2, 90));
+    let file = table.file(2).unwrap();
+    assert_eq!((file.format, file.all.packets, file.last.unwrap().seconds), (Some(capt::Format::Pcap), 3, 3));
+    assert!(table.file(0).is_none() && table.file(3).is_none() && !table.step()?);
+    assert_eq!(capt::Table::open(&[], capt::ReportOptions::new()).unwrap_err(), capt::Error::Files);
     // each flag of a file that is written
     for (to, order, magic) in [
         (capt::Format::Pcap, capt::Order::Little, [0xd4, 0xc3, 0xb2, 0xa1]),
@@ -1158,6 +1232,7 @@ def main():
                 pool.submit(check_c, count, checker, shim, bench, name, content)
         for name, content in contents:
             check_python(count, capt, bench, name, content)
+            check_rows(count, capt, name, content)
         for name in "monday.pcap", "tuesday.pcapng":
             check_python_ends(count, capt, name, dict(contents)[name])
         example = dict(contents)["monday.pcap"]

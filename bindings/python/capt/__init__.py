@@ -26,6 +26,7 @@ import ctypes
 import io
 import mmap
 import os
+import re
 import struct
 import threading
 from collections import deque
@@ -35,9 +36,9 @@ from itertools import islice
 from typing import (Any, Callable, Deque, Iterable, Iterator, List, NamedTuple, Optional, Protocol, Sequence, Tuple,
                     TypeVar, Union)
 
-__all__ = ["open", "Capture", "Fed", "Packet", "Ending", "Table", "Report", "Talk", "Side", "Error", "Refused",
-           "ReadFailed", "Closed", "TooManyFiles", "report", "report_text", "info", "listing", "blocks", "convert",
-           "merge", "join", "rule_name", "version"]
+__all__ = ["open", "Capture", "Fed", "Packet", "Ending", "Table", "Report", "Talk", "Side", "FileCounts", "Totals",
+           "Error", "Refused", "ReadFailed", "Closed", "TooManyFiles", "report", "report_text", "info", "listing",
+           "blocks", "convert", "merge", "join", "rule_name", "version"]
 
 Path = Union[str, os.PathLike]
 Buffer = Union[bytes, bytearray, memoryview, mmap.mmap]
@@ -66,6 +67,15 @@ class _Place(ctypes.Structure):
 # capt_packet: frame, offset, instance, seconds, numerator, denominator, resolution, time_offset, carry, captured,
 # original, snaplen, link
 _FIELDS = struct.Struct("@PQQqQQQqIIIII0Q")
+
+
+# capt_talk: of each end the address, port, version and whether it has a port; the protocol; packets, bytes and carry
+# each way; seconds, carry, numerator and denominator of the first and the last time
+_TALK = struct.Struct("@16sHB?16sHB?B7x6QqqQQqqQQ")
+# capt_file_counts: packets, bytes and carry, truncated, skipped, the first and the last time, format, was_cut
+_FILE = struct.Struct("@5QqqQQqqQQI?3x")
+# capt_totals: packets, bytes and carry, and then the other counts, talks and files
+_TOTALS = struct.Struct("@14QI4x")
 
 
 class _Ending(ctypes.Structure):
@@ -100,6 +110,9 @@ def _load() -> ctypes.CDLL:
         ("capt_table_open", status, pointer, pointer, size, flags),
         ("capt_table_step", status, pointer, pointer),
         ("capt_table_write", status, pointer, pointer, pointer),
+        ("capt_table_talk", status, pointer, size, pointer),
+        ("capt_table_file", status, pointer, status, pointer),
+        ("capt_table_totals", status, pointer, pointer),
         ("capt_list", status, pointer, size, flags, pointer, pointer),
         ("capt_blocks", status, pointer, size, flags, pointer, pointer),
         ("capt_info", status, pointer, size, flags, pointer, pointer),
@@ -381,6 +394,13 @@ class Packet:
                 f"original={self.original}, link={self.link})")
 
 
+def _ending_of(reader: _Reader) -> Ending:
+    ending = _Ending()
+    status = _library.capt_end(ctypes.byref(reader), ctypes.byref(ending))
+    _check(status, _Place(), misuse=_NOT_ENDED)
+    return Ending("pcapng" if ending.is_pcapng else "pcap", ending.skipped, ending.was_cut)
+
+
 class _InMemory:
     """A reader of a capture all of whose bytes are in memory."""
 
@@ -402,10 +422,7 @@ class _InMemory:
         return status
 
     def ending(self) -> Ending:
-        ending = _Ending()
-        status = _library.capt_end(self._words[0], ctypes.byref(ending))
-        _check(status, self.place, misuse=_NOT_ENDED)
-        return Ending("pcapng" if ending.is_pcapng else "pcap", ending.skipped, ending.was_cut)
+        return _ending_of(self._reader)
 
     def close(self) -> None:
         _library.capt_close(ctypes.byref(self._reader))
@@ -422,8 +439,7 @@ class _InPieces:
         self._reader, self.place, self._packet = _Reader(), _Place(), bytearray(_FIELDS.size)
         packet = (ctypes.c_uint8 * _FIELDS.size).from_buffer(self._packet)
         self._words = ctypes.byref(self._reader), ctypes.byref(packet), ctypes.byref(self.place)
-        # where the last packet's bytes end, in a pcap file
-        self._past = 24
+        self._has_ended = False
         _check(_library.capt_open_fed(self._words[0], _cut(allow_cut)), self.place)
 
     def feed(self, piece: bytes) -> None:
@@ -440,11 +456,15 @@ class _InPieces:
             status = step(*words)
             if status != _PACKET:
                 # it comes again, after the packets before it
+                self._has_ended = status == _DONE and not count
                 return _PACKET if count else status
-            packet = Packet(unpack(fields))
-            self._past = packet.offset + 16 + packet.captured
-            ready.append(packet)
+            ready.append(Packet(unpack(fields)))
         return _PACKET
+
+    def ending(self) -> Ending:
+        if not self._has_ended:
+            raise ValueError(_NOT_ENDED)
+        return _ending_of(self._reader)
 
     def close(self) -> None:
         _library.capt_close(ctypes.byref(self._reader))
@@ -459,7 +479,6 @@ class _FromFile(_InPieces):
         super().__init__(allow_cut)
         # a piece that was read and isn't fed yet
         self._piece: Optional[bytes] = None
-        self._blocks, self._has_ended = _Blocks(), False
         self._own = None if _kind(source) == "file" else _opened(source)
         self._file = self._own or source
         self._has_read1 = getattr(type(source), "read1", io.BufferedIOBase.read1) is not io.BufferedIOBase.read1
@@ -468,13 +487,11 @@ class _FromFile(_InPieces):
         while True:
             status = super().more(ready)
             if status != _MORE:
-                self._has_ended = status == _DONE
                 return status
             if self._piece is None:
                 self._piece = self._next_piece()
             if self._piece:
                 self.feed(self._piece)
-                self._blocks.pass_by(self._piece)
                 self._piece = None
             else:
                 self.end()
@@ -483,57 +500,12 @@ class _FromFile(_InPieces):
         # read1 doesn't wait for a whole piece; without bytes it doesn't say whether some will come
         return _bytes_of(self._has_read1 and self._file.read1(_PIECE) or self._file.read(_PIECE))
 
-    def ending(self) -> Ending:
-        if not self._has_ended:
-            raise ValueError(_NOT_ENDED)
-        return self._blocks.ending(self._past)
-
     def close(self) -> None:
         super().close()
         if getattr(self, "_own", None) is not None:
             self._own.close()
 
     __del__ = close
-
-
-class _Blocks:
-    """Counts how a capture ends while its pieces pass by. What it tells is right if the library has read the capture to
-    its end: it looks at no more of a block than its kind and its length."""
-    _SECTION, _KINDS = 0x0A0D0D0A, (0x0A0D0D0A, 1, 2, 3, 6)
-
-    def __init__(self) -> None:
-        self._is_pcapng: Optional[bool] = None
-        self._total = self._skipped = 0
-        self._head = struct.Struct("<II").unpack_from
-        # the last bytes, if the next block begins with them; how far after them it begins, if it doesn't; and whether
-        # the last block is one that is skipped
-        self._rest, self._behind, self._is_skipped = b"", 0, False
-
-    def pass_by(self, piece: bytes) -> None:
-        self._total += len(piece)
-        piece, at, head = self._rest + piece, self._behind, self._head
-        if self._is_pcapng is None and len(piece) >= 4:
-            self._is_pcapng = piece.startswith(b"\n\r\r\n")
-        if self._is_pcapng is False:
-            self._rest = b""
-            return
-        while at + 12 <= len(piece):
-            kind, length = head(piece, at)
-            if kind == self._SECTION:
-                head = self._head = struct.Struct(">II" if piece[at + 8] == 0x1A else "<II").unpack_from
-                kind, length = head(piece, at)
-            self._is_skipped = kind not in self._KINDS
-            self._skipped += self._is_skipped
-            # a shorter block is refused
-            at += max(length, 12)
-        self._rest, self._behind = piece[at:], max(at - len(piece), 0)
-
-    def ending(self, past: int) -> Ending:
-        if not self._is_pcapng:
-            return Ending("pcap", 0, past != self._total)
-        # a block that was cut off isn't counted
-        was_cut, skipped = bool(self._rest or self._behind), self._skipped
-        return Ending("pcapng", skipped - 1 if self._behind and self._is_skipped else skipped, was_cut)
 
 
 _Self = TypeVar("_Self", bound="_Handle")
@@ -641,10 +613,7 @@ class Capture(_Packets):
 
     @property
     def ending(self) -> Ending:
-        """How it ended, once an iteration came to its end; before that, it raises ValueError.
-
-        The library tells it for bytes and for a mapped file. For a capture that is read piece by piece this module
-        counts it, from the kinds and lengths of the blocks: then it rests on tests, and on no proof."""
+        """How it ended, once an iteration came to its end; before that, it raises ValueError."""
         return self._call(self._held.ending)
 
 
@@ -678,6 +647,11 @@ class Fed(_Packets):
     def end(self) -> None:
         """No more bytes come."""
         self._call(self._held.end)
+
+    @property
+    def ending(self) -> Ending:
+        """How it ended, once an iteration after `end` came to its end; before that, it raises ValueError."""
+        return self._call(self._held.ending)
 
 
 def _cut(allow_cut: bool) -> int:
@@ -781,10 +755,44 @@ class Talk(NamedTuple):
     last: Optional[Fraction]
 
 
+class FileCounts(NamedTuple):
+    """What is counted of a file: its format, "pcap" or "pcapng", or None if no packet was taken of it so far; its
+    packets and their bytes, how many were captured in part, how many of its blocks were skipped, the exact times of its
+    first and last packet, or None, and whether a cut rest was dropped."""
+    format: Optional[str]
+    packets: int
+    bytes: int
+    truncated: int
+    skipped: int
+    first: Optional[Fraction]
+    last: Optional[Fraction]
+    was_cut: bool
+
+
+class Totals(NamedTuple):
+    """What is counted of all packets: how many there are, their bytes, how many were captured in part, how many are of
+    each class of the line `frames` (`not_ip` is `not-ipv4` in a report without IPv6), how many datagrams were joined,
+    and how many groups of fragments were given up."""
+    packets: int
+    bytes: int
+    truncated: int
+    other_link: int
+    not_ip: int
+    short: int
+    cut: int
+    bad: int
+    unjoined: int
+    counted: int
+    joined: int
+    given_up: int
+
+
 class Report(NamedTuple):
-    """A report: its `text`, and its conversations."""
+    """A report: its `text`, its conversations, what is counted of each file, and of all packets."""
     text: str
     talks: List[Talk]
+    files: List[FileCounts]
+    totals: Totals
 
 
 class _Counting:
@@ -804,7 +812,28 @@ class _Counting:
         _check(status, self._place, paths=[it.path for it in self._wholes])
         return status == _PACKET
 
-    def write(self) -> str:
+    def run(self) -> None:
+        """Takes all packets that are left."""
+        step, table, place = _library.capt_table_step, ctypes.byref(self._table), ctypes.byref(self._place)
+        status = _PACKET
+        while status == _PACKET:
+            status = step(table, place)
+        _check(status, self._place, paths=[it.path for it in self._wholes])
+
+    def report(self) -> Report:
+        *totals, talks, files = self._row(_library.capt_table_totals, _TOTALS)
+        rows = (self._row(_library.capt_table_talk, _TALK, place) for place in range(talks))
+        counts = (self._row(_library.capt_table_file, _FILE, number) for number in range(1, files + 1))
+        packets, low, carry, *rest = totals
+        return Report(self._write(), list(map(_talk, rows)), list(map(_file_counts, counts)),
+                      Totals(packets, low + (carry << 64), *rest))
+
+    def _row(self, call: Callable[..., int], fields: struct.Struct, *which: int) -> Tuple[Any, ...]:
+        row = ctypes.create_string_buffer(fields.size)
+        _check(call(ctypes.byref(self._table), *which, row), self._place)
+        return fields.unpack(row.raw)
+
+    def _write(self) -> str:
         text = _Text()
         try:
             status = _library.capt_table_write(ctypes.byref(self._table), ctypes.byref(text), ctypes.byref(self._place))
@@ -835,37 +864,43 @@ class Table(_Handle):
 
     def report(self) -> Report:
         """The report over the packets that were taken so far."""
-        return _report(self._call(self._held.write))
-
-
-def _time(word: str) -> Optional[Fraction]:
-    if word == "-":
-        return None
-    seconds, fraction = word.split("+")
-    numerator, denominator = fraction.split("/")
-    return int(seconds) + Fraction(int(numerator), int(denominator))
+        return self._call(self._held.report)
 
 
 def report(sources: Sources, allow_cut: bool = False, *, ipv6: bool = False, map: bool = False) -> Report:
     """The report over 1 to 32 captures, with `ipv6` as `report_text` has it."""
-    return _report(report_text(sources, allow_cut, ipv6=ipv6, map=map))
+    with Table(sources, allow_cut, ipv6=ipv6, map=map) as table:
+        table._call(table._held.run)
+        return table.report()
 
 
-def _report(text: str) -> Report:
-    return Report(text, [_talk(line) for line in text.splitlines() if line.startswith("talk ")])
+def _time(seconds: int, carry: int, numerator: int, denominator: int) -> Optional[Fraction]:
+    return seconds + (carry << 64) + Fraction(numerator, denominator) if denominator else None
 
 
-def _end(word: str) -> Tuple[str, Optional[int]]:
-    """The address and the port of an end: `10.0.0.1:53`, `10.0.0.1`, `[2001:db8::1]:53` or `2001:db8::1`."""
-    if word.count(":") > 1 and not word.startswith("["):
-        return word, None
-    address, _, port = word.rpartition(":") if ":" in word else (word, "", "")
-    return address.strip("[]"), int(port) if port else None
+def _address(raw: bytes, version: int) -> str:
+    """An address as text; of IPv6 that of RFC 5952, 4, without the dotted form for any."""
+    if version == 4:
+        return ".".join(map(str, raw[:4]))
+    text = ":".join(f"{it:x}" for it in struct.unpack(">8H", raw))
+    # the longest run of two zeros or more, of equal ones the first
+    run = max(re.finditer(r"\b0(?::0\b)+", text), key=lambda it: len(it[0]), default=None)
+    return f"{text[:run.start()].rstrip(':')}::{text[run.end():].lstrip(':')}" if run else text
 
 
-def _talk(line: str) -> Talk:
-    # talk PROTO A B forward P BYTES backward P BYTES first T last T
-    _, protocol, a, b, _, *rest = line.split()
-    number = {"udp": 17, "tcp": 6}.get(protocol) or int(protocol[1:])
-    forward, backward = Side(int(rest[0]), int(rest[1])), Side(int(rest[3]), int(rest[4]))
-    return Talk(number, *_end(a), *_end(b), forward, backward, _time(rest[6]), _time(rest[8]))
+def _end(raw: bytes, port: int, version: int, has_port: bool) -> Tuple[str, Optional[int]]:
+    return _address(raw, version), port if has_port else None
+
+
+def _side(packets: int, low: int, carry: int) -> Side:
+    return Side(packets, low + (carry << 64))
+
+
+def _talk(row: Tuple[Any, ...]) -> Talk:
+    return Talk(row[8], *_end(*row[:4]), *_end(*row[4:8]), _side(*row[9:12]), _side(*row[12:15]), _time(*row[15:19]),
+                _time(*row[19:]))
+
+
+def _file_counts(row: Tuple[Any, ...]) -> FileCounts:
+    return FileCounts((None, "pcap", "pcapng")[row[13]], *_side(*row[:3]), row[3], row[4], _time(*row[5:9]),
+                      _time(*row[9:13]), row[14])

@@ -11,6 +11,8 @@
 use std::ffi::c_void;
 use std::fmt;
 use std::io;
+use std::marker::PhantomData;
+use std::net::IpAddr;
 use std::sync::Arc;
 
 const DONE: u32 = 0;
@@ -58,6 +60,74 @@ struct RawEnding {
 }
 
 #[repr(C)]
+#[derive(Default)]
+struct RawTime {
+    seconds: i64,
+    carry: i64,
+    numerator: u64,
+    denominator: u64,
+}
+
+#[repr(C)]
+#[derive(Default)]
+struct RawTraffic {
+    packets: u64,
+    bytes: u64,
+    carry: u64,
+}
+
+#[repr(C)]
+#[derive(Default)]
+struct RawEndpoint {
+    address: [u8; 16],
+    port: u16,
+    version: u8,
+    has_port: bool,
+}
+
+#[repr(C)]
+#[derive(Default)]
+struct RawTalk {
+    a: RawEndpoint,
+    b: RawEndpoint,
+    protocol: u8,
+    forward: RawTraffic,
+    backward: RawTraffic,
+    first: RawTime,
+    last: RawTime,
+}
+
+#[repr(C)]
+#[derive(Default)]
+struct RawFile {
+    all: RawTraffic,
+    truncated: u64,
+    skipped: u64,
+    first: RawTime,
+    last: RawTime,
+    format: u32,
+    was_cut: bool,
+}
+
+#[repr(C)]
+#[derive(Default)]
+struct RawTotals {
+    all: RawTraffic,
+    truncated: u64,
+    other_link: u64,
+    not_ip: u64,
+    too_short: u64,
+    cut: u64,
+    bad: u64,
+    unjoined: u64,
+    counted: u64,
+    joined: u64,
+    given_up: u64,
+    talks: u64,
+    files: u32,
+}
+
+#[repr(C)]
 struct RawReader {
     at: *mut c_void,
     is_open: bool,
@@ -86,6 +156,12 @@ extern "C" {
     fn capt_next(reader: *mut RawReader, packet: *mut RawPacket, place: *mut RawPlace) -> u32;
     fn capt_end(reader: *mut RawReader, ending: *mut RawEnding) -> u32;
     fn capt_close(reader: *mut RawReader);
+    fn capt_table_open(table: *mut RawReader, files: *const RawBytes, count: usize, flags: u32) -> u32;
+    fn capt_table_step(table: *mut RawReader, place: *mut RawPlace) -> u32;
+    fn capt_table_write(table: *mut RawReader, text: *mut RawText, place: *mut RawPlace) -> u32;
+    fn capt_table_talk(table: *mut RawReader, place: usize, talk: *mut RawTalk) -> u32;
+    fn capt_table_file(table: *mut RawReader, number: u32, file: *mut RawFile) -> u32;
+    fn capt_table_totals(table: *mut RawReader, totals: *mut RawTotals) -> u32;
     fn capt_list(at: *const u8, len: usize, flags: u32, text: *mut RawText, place: *mut RawPlace) -> u32;
     fn capt_blocks(at: *const u8, len: usize, flags: u32, text: *mut RawText, place: *mut RawPlace) -> u32;
     fn capt_info(files: *const RawBytes, count: usize, flags: u32, text: *mut RawText, place: *mut RawPlace) -> u32;
@@ -297,6 +373,16 @@ fn step(reader: &mut RawReader) -> Result<Step, Error> {
     }
 }
 
+// How a capture ended, if it has.
+fn ending_of(reader: &mut RawReader) -> Option<Ending> {
+    let mut raw = RawEnding::default();
+    // SAFETY: the reader is open
+    match unsafe { capt_end(reader, &mut raw) } {
+        DONE => Some(Ending { skipped: raw.skipped, is_pcapng: raw.is_pcapng, was_cut: raw.was_cut }),
+        _ => None,
+    }
+}
+
 // The packet that the last call with the reader gave.
 fn packet_of(_: &mut RawReader, raw: RawPacket) -> Packet<'_> {
     Packet {
@@ -362,12 +448,7 @@ impl<'a> Capture<'a> {
 
     /// How it ended, once `next` has given none.
     pub fn ending(&mut self) -> Option<Ending> {
-        let mut raw = RawEnding::default();
-        // SAFETY: the reader is open
-        match unsafe { capt_end(&mut self.reader, &mut raw) } {
-            DONE => Some(Ending { skipped: raw.skipped, is_pcapng: raw.is_pcapng, was_cut: raw.was_cut }),
-            _ => None,
-        }
+        ending_of(&mut self.reader)
     }
 }
 
@@ -429,6 +510,11 @@ impl Fed {
             Step::End => Next::End,
         })
     }
+
+    /// How it ended, once `next` has given `End`.
+    pub fn ending(&mut self) -> Option<Ending> {
+        ending_of(&mut self.reader)
+    }
 }
 
 impl fmt::Debug for Fed {
@@ -488,6 +574,11 @@ impl<R: io::Read> Reader<R> {
         self.fed.feed(&self.piece[..self.len])?;
         self.len = 0;
         Ok(())
+    }
+
+    /// How it ended, once `next` has given none.
+    pub fn ending(&mut self) -> Option<Ending> {
+        self.fed.ending()
     }
 
     /// The source, from which more may have been read than the packets that were given.
@@ -579,13 +670,252 @@ impl ReportOptions {
     pub fn ipv6(self, ipv6: bool) -> ReportOptions {
         ReportOptions { ipv6, ..self }
     }
+
+    fn flags(self) -> u32 {
+        cut(self.allow_cut) | if self.ipv6 { IPV6 } else { 0 }
+    }
 }
 
 /// The report over 1 to 32 captures that is asked for.
 pub fn report_with(files: &[&[u8]], options: ReportOptions) -> Result<String, Error> {
     let raw = files_of(files);
-    let flags = cut(options.allow_cut) | if options.ipv6 { IPV6 } else { 0 };
-    made(|text, place| unsafe { capt_report(raw.as_ptr(), raw.len(), flags, text, place) }).map(lines)
+    made(|text, place| unsafe { capt_report(raw.as_ptr(), raw.len(), options.flags(), text, place) }).map(lines)
+}
+
+/// An exact time since 1970: `seconds + numerator/denominator`.
+#[derive(Clone, Copy, Debug, PartialEq, Eq)]
+#[non_exhaustive]
+pub struct Time {
+    /// Whole seconds, rounded down.
+    pub seconds: i128,
+    /// The fraction of a second, below the denominator.
+    pub numerator: u64,
+    /// At least 1.
+    pub denominator: u64,
+}
+
+impl RawTime {
+    fn time(&self) -> Option<Time> {
+        let seconds = i128::from(self.seconds) + (i128::from(self.carry) << 64);
+        let (numerator, denominator) = (self.numerator, self.denominator);
+        (denominator != 0).then_some(Time { seconds, numerator, denominator })
+    }
+}
+
+/// Some packets, and the sum of their original lengths.
+#[derive(Clone, Copy, Debug, PartialEq, Eq)]
+#[non_exhaustive]
+pub struct Traffic {
+    /// How many there are.
+    pub packets: u64,
+    /// How many bytes they had.
+    pub bytes: u128,
+}
+
+impl RawTraffic {
+    fn traffic(&self) -> Traffic {
+        Traffic { packets: self.packets, bytes: u128::from(self.bytes) + (u128::from(self.carry) << 64) }
+    }
+}
+
+/// An end of a conversation.
+#[derive(Clone, Copy, Debug, PartialEq, Eq, Hash)]
+#[non_exhaustive]
+pub struct Endpoint {
+    /// Its address.
+    pub address: IpAddr,
+    /// Its port; none if the protocol has none.
+    pub port: Option<u16>,
+}
+
+impl RawEndpoint {
+    fn endpoint(&self) -> Endpoint {
+        let [a, b, c, d, ..] = self.address;
+        let address = if self.version == 4 { IpAddr::from([a, b, c, d]) } else { IpAddr::from(self.address) };
+        Endpoint { address, port: self.has_port.then_some(self.port) }
+    }
+}
+
+/// A conversation, as a line `talk` of a report has it.
+#[derive(Clone, Copy, Debug, PartialEq, Eq)]
+#[non_exhaustive]
+pub struct Talk {
+    /// The number of its protocol: 6 TCP, 17 UDP.
+    pub protocol: u8,
+    /// The lesser of its two ends.
+    pub a: Endpoint,
+    /// The other end.
+    pub b: Endpoint,
+    /// What went from `a` to `b`.
+    pub forward: Traffic,
+    /// What went from `b` to `a`.
+    pub backward: Traffic,
+    /// The least time of its packets.
+    pub first: Option<Time>,
+    /// The greatest time of its packets.
+    pub last: Option<Time>,
+}
+
+/// What is counted of a file, as its line `file` has it.
+#[derive(Clone, Copy, Debug, PartialEq, Eq)]
+#[non_exhaustive]
+pub struct FileCounts {
+    /// Its format; none if no packet was taken of it so far.
+    pub format: Option<Format>,
+    /// Its packets.
+    pub all: Traffic,
+    /// How many of them had more bytes than were captured.
+    pub truncated: u64,
+    /// How many blocks are neither sections, interfaces nor packets; 0 in a pcap file.
+    pub skipped: u64,
+    /// The least time of its packets.
+    pub first: Option<Time>,
+    /// The greatest time of its packets.
+    pub last: Option<Time>,
+    /// Whether a cut rest was dropped.
+    pub was_cut: bool,
+}
+
+/// What is counted of all packets, as the lines `total`, `frames`, `joined`, `talks` and `files` have it.
+#[derive(Clone, Copy, Debug, PartialEq, Eq)]
+#[non_exhaustive]
+pub struct Totals {
+    /// The packets.
+    pub all: Traffic,
+    /// How many of them had more bytes than were captured.
+    pub truncated: u64,
+    /// How many are of the class `other-link`.
+    pub other_link: u64,
+    /// How many are of the class `not-ip`, or `not-ipv4` in a report without IPv6.
+    pub not_ip: u64,
+    /// How many are of the class `short`.
+    pub short: u64,
+    /// How many are of the class `cut`.
+    pub cut: u64,
+    /// How many are of the class `bad`.
+    pub bad: u64,
+    /// How many are of the class `unjoined`.
+    pub unjoined: u64,
+    /// How many are of the class `counted`.
+    pub counted: u64,
+    /// How many datagrams were joined.
+    pub joined: u64,
+    /// How many groups of fragments were given up.
+    pub given_up: u64,
+    /// How many conversations there are.
+    pub talks: u64,
+    /// How many files there are.
+    pub files: u32,
+}
+
+/// The table of a report over 1 to 32 captures in memory, which takes their packets one by one, in the order of exact
+/// time.
+pub struct Table<'a> {
+    table: RawReader,
+    files: PhantomData<&'a [u8]>,
+}
+
+// SAFETY: what a table holds is its own, and its bytes are only read
+unsafe impl Send for Table<'_> {}
+
+impl<'a> Table<'a> {
+    /// A table of those captures, which has taken no packet.
+    pub fn open(files: &[&'a [u8]], options: ReportOptions) -> Result<Table<'a>, Error> {
+        let raw = files_of(files);
+        let mut table = Table { table: CLOSED, files: PhantomData };
+        // SAFETY: the table begins as zero, and the bytes outlive it
+        match unsafe { capt_table_open(&mut table.table, raw.as_ptr(), raw.len(), options.flags()) } {
+            DONE => Ok(table),
+            status => Err(error_of(status, RawPlace::default(), Vec::new())),
+        }
+    }
+
+    /// Takes the packet that comes next; false if none is left. That and a refusal come again.
+    pub fn step(&mut self) -> Result<bool, Error> {
+        let mut place = RawPlace::default();
+        // SAFETY: the table is open; so in each call below
+        match unsafe { capt_table_step(&mut self.table, &mut place) } {
+            PACKET => Ok(true),
+            DONE => Ok(false),
+            status => Err(error_of(status, place, Vec::new())),
+        }
+    }
+
+    /// The report over the packets that were taken so far.
+    pub fn text(&mut self) -> Result<String, Error> {
+        made(|text, place| unsafe { capt_table_write(&mut self.table, text, place) }).map(lines)
+    }
+
+    /// The conversation at a place in the order of the report's lines, from 0. It keeps its place when more packets are
+    /// taken.
+    pub fn talk(&mut self, place: usize) -> Option<Talk> {
+        let mut raw = RawTalk::default();
+        let status = unsafe { capt_table_talk(&mut self.table, place, &mut raw) };
+        (status == DONE).then(|| Talk {
+            protocol: raw.protocol,
+            a: raw.a.endpoint(),
+            b: raw.b.endpoint(),
+            forward: raw.forward.traffic(),
+            backward: raw.backward.traffic(),
+            first: raw.first.time(),
+            last: raw.last.time(),
+        })
+    }
+
+    /// All conversations, in the order of the report's lines.
+    pub fn talks(&mut self) -> Vec<Talk> {
+        (0..).map_while(|place| self.talk(place)).collect()
+    }
+
+    /// What is counted of the file of that number, from 1.
+    pub fn file(&mut self, number: u32) -> Option<FileCounts> {
+        let mut raw = RawFile::default();
+        let status = unsafe { capt_table_file(&mut self.table, number, &mut raw) };
+        let formats = [None, Some(Format::Pcap), Some(Format::Pcapng)];
+        (status == DONE).then(|| FileCounts {
+            format: formats[raw.format as usize],
+            all: raw.all.traffic(),
+            truncated: raw.truncated,
+            skipped: raw.skipped,
+            first: raw.first.time(),
+            last: raw.last.time(),
+            was_cut: raw.was_cut,
+        })
+    }
+
+    /// What is counted of all packets.
+    pub fn totals(&mut self) -> Totals {
+        let mut raw = RawTotals::default();
+        unsafe { capt_table_totals(&mut self.table, &mut raw) };
+        Totals {
+            all: raw.all.traffic(),
+            truncated: raw.truncated,
+            other_link: raw.other_link,
+            not_ip: raw.not_ip,
+            short: raw.too_short,
+            cut: raw.cut,
+            bad: raw.bad,
+            unjoined: raw.unjoined,
+            counted: raw.counted,
+            joined: raw.joined,
+            given_up: raw.given_up,
+            talks: raw.talks,
+            files: raw.files,
+        }
+    }
+}
+
+impl fmt::Debug for Table<'_> {
+    fn fmt(&self, out: &mut fmt::Formatter<'_>) -> fmt::Result {
+        out.debug_struct("Table").finish_non_exhaustive()
+    }
+}
+
+impl Drop for Table<'_> {
+    fn drop(&mut self) {
+        // SAFETY: a table may be closed at any time
+        unsafe { capt_close(&mut self.table) }
+    }
 }
 
 /// A format of captures.

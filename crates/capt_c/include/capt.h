@@ -29,6 +29,9 @@
  * table holds what a reader holds for each of its files, and besides at most 1,024 groups of fragments and 1,048,576
  * conversations, which take some 200 MB. A call that makes a text holds the whole text.
  *
+ * * Growth. The structs stay as they are as long as the library is libcapt.so.1: what a later version tells besides, it
+ * tells by a call and a struct of its own.
+ *
  * * Stack. A call takes at most 48 KiB of stack. capt_join takes the most: it was measured to take 40 KiB.
  *
  * * No call is to be made from a signal handler. */
@@ -137,6 +140,75 @@ typedef struct {
     bool was_cut;     /* whether a cut rest was dropped, as CAPT_ALLOW_CUT asks */
 } capt_ending;
 
+/* An exact time: carry * 2^64 + seconds + numerator/denominator since 1970-01-01 00:00 UTC. */
+typedef struct {
+    int64_t seconds;      /* whole seconds, rounded down */
+    int64_t carry;        /* add carry * 2^64 to `seconds`: 0 before the year 292,277,026,596 */
+    uint64_t numerator;   /* below the denominator */
+    uint64_t denominator; /* 0 if there is no time */
+} capt_time;
+
+/* Some packets, and the sum of their original lengths: carry * 2^64 + bytes. */
+typedef struct {
+    uint64_t packets;
+    uint64_t bytes;
+    uint64_t carry; /* add carry * 2^64 to `bytes`: 0 below 18 exabytes */
+} capt_traffic;
+
+/* An end of a conversation. */
+typedef struct {
+    uint8_t address[16]; /* in network order: of IPv4 the first 4 bytes, and 12 zeros */
+    uint16_t port;       /* 0 if the protocol has none */
+    uint8_t version;     /* 4 or 6 */
+    bool has_port;       /* whether the protocol has ports */
+} capt_endpoint;
+
+/* A conversation, as a line `talk` of a report has it. The two ends have the same version. */
+typedef struct {
+    capt_endpoint a;      /* the lesser end */
+    capt_endpoint b;      /* the other end */
+    uint8_t protocol;      /* 6 TCP, 17 UDP, or another number (IANA) */
+    capt_traffic forward;  /* from a to b */
+    capt_traffic backward; /* from b to a */
+    capt_time first;       /* the least time of its packets */
+    capt_time last;        /* the greatest time of its packets */
+} capt_talk;
+
+/* The format of a file. */
+enum capt_format {
+    CAPT_FORMAT_UNKNOWN = 0, /* no packet was taken of it so far */
+    CAPT_FORMAT_PCAP = 1,
+    CAPT_FORMAT_PCAPNG = 2
+};
+
+/* What is counted of a file, as its line `file` has it. */
+typedef struct {
+    capt_traffic all;   /* its packets */
+    uint64_t truncated; /* how many of them had more bytes than were captured */
+    uint64_t skipped;   /* how many blocks are neither sections, interfaces nor packets; 0 in a pcap file */
+    capt_time first;    /* the least time of its packets */
+    capt_time last;     /* the greatest time of its packets */
+    uint32_t format;    /* of enum capt_format */
+    bool was_cut;       /* whether a cut rest was dropped */
+} capt_file_counts;
+
+/* What is counted of all packets, as the lines `total`, `frames`, `joined`, `talks` and `files` have it. */
+typedef struct {
+    capt_traffic all;    /* the packets */
+    uint64_t truncated;  /* how many of them had more bytes than were captured */
+    uint64_t other_link; /* those of each class of the line `frames` */
+    uint64_t not_ip;     /* `not-ip` with CAPT_IPV6, and `not-ipv4` without it */
+    uint64_t too_short;  /* `short` */
+    uint64_t cut;
+    uint64_t bad;
+    uint64_t unjoined;
+    uint64_t counted;
+    uint64_t joined;   /* how many datagrams were joined */
+    uint64_t given_up; /* how many groups of fragments were given up */
+    uint64_t talks;    /* how many conversations there are */
+    uint32_t files;    /* how many files there are */
+} capt_totals;
+
 /* A capture that is read packet by packet. */
 typedef struct {
     struct {
@@ -194,7 +266,7 @@ uint32_t capt_next(capt_reader *reader, capt_packet *packet, capt_place *place);
  * until the next call with this reader. CAPT_MISUSE of a reader that is fed. */
 uint32_t capt_next_many(capt_reader *reader, capt_packet *packets, size_t room, size_t *count, capt_place *place);
 
-/* How the capture ended, once capt_next or capt_next_many has returned CAPT_DONE; else, and of a reader that is fed,
+/* How the capture ended, once capt_next or capt_next_many has returned CAPT_DONE, of a reader that is fed too; else
  * CAPT_MISUSE, which leaves `ending`. */
 uint32_t capt_end(capt_reader *reader, capt_ending *ending);
 
@@ -213,6 +285,13 @@ uint32_t capt_table_step(capt_table *table, capt_place *place);
  * CAPT_REFUSED, a file of which no packet was taken has the format `-`, and no line says `cut`. CAPT_DONE, CAPT_MEMORY
  * or CAPT_MISUSE. */
 uint32_t capt_table_write(capt_table *table, capt_text *text, capt_place *place);
+
+/* The same as data, at any time. A conversation by its place in the order of the lines, from 0: it keeps its place when
+ * more packets are taken. A file by its number, from 1. CAPT_DONE; or CAPT_MISUSE if there is none, which leaves the
+ * struct. For all conversations call capt_table_talk from place 0 until CAPT_MISUSE. */
+uint32_t capt_table_talk(capt_table *table, size_t place, capt_talk *talk);
+uint32_t capt_table_file(capt_table *table, uint32_t number, capt_file_counts *file);
+uint32_t capt_table_totals(capt_table *table, capt_totals *totals);
 
 /* What the commands of the program capt print for one file or for 1 to 32 files, byte for byte. Flags: CAPT_ALLOW_CUT,
  * and for capt_report also CAPT_IPV6. CAPT_DONE, CAPT_REFUSED or CAPT_MEMORY; CAPT_MISUSE for no file or more than 32.

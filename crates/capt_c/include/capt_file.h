@@ -118,6 +118,9 @@ static inline uint32_t capt_file_next(capt_file *file, capt_packet *packet, capt
     return status;
 }
 
+/* How the capture ended, once capt_file_next has returned CAPT_DONE; else CAPT_MISUSE, which leaves `ending`. */
+static inline uint32_t capt_file_end(capt_file *file, capt_ending *ending) { return capt_end(&file->reader, ending); }
+
 /* Closes it. Closing it twice does nothing. */
 static inline void capt_file_close(capt_file *file) {
     capt_close(&file->reader);

@@ -2,8 +2,7 @@
 use Rattle.std.specs.Prelude.{◌≡◌, ℕ, Bool, true, false, List, [], Option, Some, None, Result, Ok, Err}
 use Rattle.cap_bytes.specs.declared.faults.Fault.{Fault}
 use Rattle.cap_bytes.specs.declared.faults.Tail.{Tail}
-use Rattle.cap_source.specs.Fed.{FedState, fed_items}
-use Rattle.cap_source.specs.Items.{file_items}
+use Rattle.cap_source.specs.Fed.{FedState, fed_rest, file_rest}
 use Rattle.cap_source.specs.declared.fed_captures.Fed.{Fed}
 use Rattle.cap_source.specs.declared.fed_captures.Fed.TheVariants as feds
 use Rattle.cap_source.specs.inner.FedStates.{FeedsBytes, GivesFed}
@@ -21,7 +20,7 @@ OpensFed tail status (Some (helds.Text text)) = ⊥
 OpensFed tail status (Some (helds.Table t)) = ⊥
 OpensFed tail status (Some (helds.Capture c)) = ⊥
 OpensFed tail status (Some (helds.Fed f)) =
-    (status ≡ 0) × ((bytes : List ℕ) → fed_items f bytes ≡ file_items tail 1 bytes) × (f.state.ended ≡ false)
+    (status ≡ 0) × ((bytes : List ℕ) → fed_rest f bytes ≡ file_rest tail 1 bytes) × (f.state.ended ≡ false)
     × (f.frame ≡ [])
 
 -- The next bytes were fed, or no memory was found for them; either lets go the packet that came last. None are taken

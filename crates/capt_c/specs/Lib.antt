@@ -6,5 +6,6 @@ pub mod Packets
 pub mod Feeding
 pub mod Reading
 pub mod Jobs
+pub mod Rows
 pub mod Tables
 pub mod Names

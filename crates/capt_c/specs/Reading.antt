@@ -9,7 +9,8 @@ use Rattle.cap_source.specs.declared.captures.Capture.{Capture}
 use Rattle.capt_c.specs.Answers.{status_of_result, place_of_result}
 use Rattle.capt_c.specs.contracts.sources.CaptureInputDevice.TheImpl as device
 use Rattle.capt_c.specs.contracts.sources.CaptureInputSource.TheImpl as source
-use Rattle.cap_source.specs.Fed.{FedState}
+use Rattle.cap_source.specs.Fed.{EndingAt, FedState}
+use Rattle.cap_source.specs.declared.feeds.FileEnd.{FileEnd}
 use Rattle.capt_c.specs.Feeding.{StepsFedCapture}
 use Rattle.capt_c.specs.Packets.{StepsPacket, StepsMany}
 use Rattle.capt_c.specs.declared.answers.CPlace.{CPlace}
@@ -110,12 +111,20 @@ EndTold feed was (Ok heads.End) status end =
     (status ≡ 0) × ((file : ℕ) → feed.files ≡ file ∷ [] → ShowsEnding (feed.endings file).ending end)
 EndTold feed was (Err fault) status end = (status ≡ 6) × (end ≡ was)
 
+-- What is known of a capture that is fed, if that is returned for how it ended: it has, or it hasn't, or was refused.
+abbrev pub FedEndBy : Option FileEnd → End → ℕ → End → Type 0
+FedEndBy None was status end = (status ≡ 6) × (end ≡ was)
+FedEndBy (Some told) was status end = (status ≡ 0) × ShowsEnding told.ending end
+
+abbrev pub FedEndTold : FedState → End → ℕ → End → Type 0
+FedEndTold f was status end = (told : Option FileEnd) × EndingAt f.state told × FedEndBy told was status end
+
 -- What a call returns and leaves that tells how a capture ended.
 abbrev pub TellsEnd : (CaptureReader → Feed) → Option HandleValue → End → ℕ → End → Option HandleValue → Type 0
 TellsEnd feed None was status end new = Misused status None new was end
 TellsEnd feed (Some (helds.Text text)) was status end new = Misused status (Some (helds.Text text)) new was end
 TellsEnd feed (Some (helds.Table t)) was status end new = Misused status (Some (helds.Table t)) new was end
-TellsEnd feed (Some (helds.Fed f)) was status end new = Misused status (Some (helds.Fed f)) new was end
+TellsEnd feed (Some (helds.Fed f)) was status end new = (new ≡ Some (helds.Fed f)) × FedEndTold f was status end
 TellsEnd feed (Some (helds.Capture c)) was status end new =
     (answer : Result Head Fault) × (later : CaptureReader) × (new ≡ Some (helds.Capture later))
     × GivesHead (feed c) answer (feed later) × EndTold (feed later) was answer status end

@@ -11,6 +11,8 @@ mod names;
 mod packets;
 mod raw_box;
 mod reading;
+mod rows;
 mod sinks;
 mod sources;
 mod tables;
+mod times;

@@ -8,7 +8,8 @@ ghost use Rattle.capt_c.specs.Flags.{cut_alone, flags_taken};
 ghost use Rattle.capt_c.specs.HandleValue.{IsClosed};
 ghost use Rattle.capt_c.specs.Packets.{StepsPacket};
 ghost use Rattle.capt_c.specs.Sources.{tells_of, input_coming, input_can_fail};
-ghost use Rattle.capt_c.specs.Reading.{Batch, EndTold, Misused, Nexts, NextsMany, OpensCapture, OpensWith, TellsEnd};
+ghost use Rattle.capt_c.specs.Reading.{Batch, EndTold, FedEndTold, Misused, Nexts, NextsMany, OpensCapture, OpensWith};
+ghost use Rattle.capt_c.specs.Reading.{ShowsEnding, TellsEnd};
 ghost use Rattle.capt_c.specs.Reading.{status_of_found};
 
 use crate::answers::{
@@ -21,7 +22,7 @@ use crate::handles::{Handle, HandleValue, with_open};
 use crate::packets::{CPacket, packet_of};
 use crate::sources::{CaptureInput, Slice};
 use cap_bytes::{Fault, Tracked};
-use cap_source::{Capture, Ending, Format, Head, PacketFeed, next_packet};
+use cap_source::{Capture, Ending, FedCapture, Format, Head, PacketFeed, next_packet};
 use std::alloc::Global;
 use std::io::Stdin;
 
@@ -197,6 +198,35 @@ pub extern "C" fn capt_close(alloc: Global, handle: &mut Handle)
     let _ = handle.take(alloc);
 }
 
+// How a capture ended, as a caller sees it.
+fn end_shown(ending: Ending) -> End
+    ensures { ShowsEnding ending result }
+{
+    let Ending {
+        skipped,
+        format,
+        cut,
+    } = ending;
+    End {
+        skipped,
+        is_pcapng: format == Format::Pcapng,
+        was_cut: cut.is_some(),
+    }
+}
+
+// Writes how a capture that is fed ended, if it has.
+fn end_of_fed(fed: &FedCapture, ending: &mut End) -> u32
+    ensures { FedEndTold fed.now ending.old result ending.new }
+{
+    match fed.ending() {
+        Some(end) => {
+            *ending = end_shown(end.ending);
+            DONE
+        }
+        None => MISUSE,
+    }
+}
+
 // Writes how a capture ended, if it has no more packets.
 fn end_of_capture(capture: &mut Capture<CaptureInput>, ending: &mut End) -> u32
     ensures answer { (answer : Result Head Fault)
@@ -208,16 +238,7 @@ fn end_of_capture(capture: &mut Capture<CaptureInput>, ending: &mut End) -> u32
 {
     match capture.head() {
         Ok(Head::End) => {
-            let Ending {
-                skipped,
-                format,
-                cut,
-            } = capture.ending(capture.file());
-            *ending = End {
-                skipped,
-                is_pcapng: format == Format::Pcapng,
-                was_cut: cut.is_some(),
-            };
+            *ending = end_shown(capture.ending(capture.file()));
             DONE
         }
         _ => MISUSE,
@@ -232,7 +253,8 @@ fn end_of(held: &mut HandleValue, ending: &mut End) -> u32
 {
     match held {
         HandleValue::Capture(capture) => end_of_capture(capture, ending),
-        HandleValue::Fed(_) | HandleValue::Table(_) | HandleValue::Text(_) => MISUSE,
+        HandleValue::Fed(fed) => end_of_fed(fed, ending),
+        HandleValue::Text(_) | HandleValue::Table(_) => MISUSE,
     }
 }
 

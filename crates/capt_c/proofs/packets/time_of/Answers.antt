@@ -1,4 +1,4 @@
-use Rattle.std.proofs.Common.{arith, rules, sym, ◌∙◌, ap, ◌%◌}
+use Rattle.std.proofs.Common.{rules, sym, ◌∙◌, ap, ◌%◌}
 use Rattle.capt_c.proofs.NearTimes.{fraction}
 use Rattle.capt_c.proofs.packets.time_of.Goals as goal
 

@@ -1,4 +1,4 @@
-use Rattle.std.proofs.Common.{arith, rules}
+use Rattle.std.proofs.Common.{rules}
 use Rattle.capt_c.proofs.NearTimes.{near-seconds}
 use Rattle.capt_c.proofs.packets.whole_seconds.Goals as goal
 
