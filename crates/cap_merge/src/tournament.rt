@@ -116,8 +116,8 @@ impl Tournament {
         first
     }
 
-    /// The place of the lane whose item comes first: the lane with the least clock, or if clocks are equal, the first of
-    /// these lanes. If `changed` is a place, only the lane there has changed.
+    /// The place of the lane whose item comes first: the lane with the least clock, and the first of them if several
+    /// have it. If `changed` is a place, only the lane there has changed.
     #[inline(always)]
     pub(crate) fn first(&mut self, lanes: &[Lane], changed: Option<usize>) -> Option<usize>
         requires most { length lanes.now ≤ 32 }

@@ -1,5 +1,5 @@
 //! Packets of several files in the order of exact time: lists of packets, and files that are read.
-ghost use Rattle.std.specs.Prelude.{◌≡◌, ◌∷◌, [], IfOk};
+ghost use Rattle.std.specs.Prelude.{◌≡◌, ◌≤◌, ◌∷◌, [], IfOk, length};
 ghost use Rattle.cap_source.specs.Feed.{HasFile};
 ghost use Rattle.cap_merge.specs.Parts.{merged_feed};
 ghost use Rattle.cap_merge.specs.inner.View.{parts_of};
@@ -52,6 +52,22 @@ fn sides_of(rt: &impl Abort, alloc: Global, one: Side, two: Side) -> Merged<List
     merge_of(alloc, first, second).expect(rt, "memory")
 }
 
+// Files, numbered from 1, as one.
+fn many_of(rt: &impl Abort, alloc: Global, sides: &[Side]) -> Merged<Listed>
+    requires some { 1 ≤ length sides.now }
+    requires most { length sides.now ≤ 32 }
+{
+    let mut feeds = Vec::new(alloc);
+    let mut file = 1;
+    for side in sides {
+        feeds
+            .push(make_listed(rt, alloc, file, *side))
+            .expect(rt, "memory");
+        file += 1;
+    }
+    Merged::new(feeds)
+}
+
 // An interface whose clock counts as the code says.
 fn interface_of(code: u8) -> Option<Interface> {
     Some(Interface {
@@ -99,6 +115,118 @@ const MERGED: [(Side, Side, &[Came], Option<(u32, u64)>); 6] = [
         (0, &[7, 8, 9], false),
         &[(2, 7, 0), (2, 8, 0), (2, 9, 0)],
         None,
+    ),
+];
+
+// Many files, the packets that come, and the file and the offset of the refusal that ends them. Row by row: equal
+// clocks, also of files that run back; equal times of many forms; refusals among packets of the same clock, and later;
+// a refusal before all packets.
+const MANY: [(&[Side], &[Came], Option<(u32, u64)>); 4] = [
+    (
+        &[
+            (0, &[5, 9], false),
+            (0, &[5], false),
+            (0, &[1, 5], false),
+            NOTHING,
+            (0, &[9, 2], false),
+            (0, &[5], false),
+            (0, &[2, 2], false),
+            (0, &[9], false),
+            (0, &[1, 6], false),
+            (0, &[5], false),
+        ],
+        &[
+            (3, 1, 0),
+            (9, 1, 0),
+            (7, 2, 0),
+            (7, 2, 0),
+            (1, 5, 0),
+            (2, 5, 0),
+            (3, 5, 0),
+            (6, 5, 0),
+            (10, 5, 0),
+            (9, 6, 0),
+            (1, 9, 0),
+            (5, 9, 0),
+            (5, 9, 0),
+            (8, 9, 0),
+        ],
+        None,
+    ),
+    (
+        &[
+            (9, &[500_000_001], false),
+            (0x8a, &[512], false),
+            (1, &[5], false),
+            (3, &[499, 500], false),
+            (0x81, &[1], false),
+            (6, &[500_000, 500_001], false),
+            (9, &[500_000_000], false),
+            (0x8a, &[511, 513], false),
+            (0, &[0, 1], false),
+            (3, &[500], false),
+        ],
+        &[
+            (9, 0, 0),
+            (4, 499, 3),
+            (8, 511, 0x8a),
+            (2, 512, 0x8a),
+            (3, 5, 1),
+            (4, 500, 3),
+            (5, 1, 0x81),
+            (6, 500_000, 6),
+            (7, 500_000_000, 9),
+            (10, 500, 3),
+            (1, 500_000_001, 9),
+            (6, 500_001, 6),
+            (8, 513, 0x8a),
+            (9, 1, 0),
+        ],
+        None,
+    ),
+    (
+        &[
+            (0, &[4, 5], false),
+            (0, &[1], false),
+            (0, &[4], false),
+            (0, &[6], true),
+            (0, &[2, 4], false),
+            (0, &[4], false),
+            (0, &[3, 4], true),
+            (0, &[4], false),
+            (0, &[3], false),
+            NOTHING,
+            (0, &[4], false),
+            (0, &[0], false),
+        ],
+        &[
+            (12, 0, 0),
+            (2, 1, 0),
+            (5, 2, 0),
+            (7, 3, 0),
+            (9, 3, 0),
+            (1, 4, 0),
+            (3, 4, 0),
+            (5, 4, 0),
+            (6, 4, 0),
+            (7, 4, 0),
+        ],
+        Some((7, 2)),
+    ),
+    (
+        &[
+            (0, &[0], false),
+            (0, &[0], false),
+            (0, &[0], true),
+            (0, &[0], false),
+            (0, &[0], false),
+            (0, &[0], false),
+            (0, &[], true),
+            (0, &[0], false),
+            (0, &[], true),
+        ],
+        &[],
+        Some((7, 0)),
     ),
 ];
 
@@ -164,6 +292,37 @@ fn two_files_in_order(rt: HostRuntime) {
     for (one, two, came, refusal) in &MERGED {
         let mut feed = sides_of(&rt, rt.alloc(), *one, *two);
         merges(&rt, &mut feed, *came, end_of(*refusal));
+    }
+}
+
+#[test]
+fn many_files_in_order(rt: HostRuntime) {
+    for (sides, came, refusal) in &MANY {
+        holds!(&rt; (1..=32).contains(&sides.len()));
+        let mut feed = many_of(&rt, rt.alloc(), *sides);
+        gives(&rt, &mut feed, *came);
+        ends_by(&rt, &mut feed, end_of(*refusal));
+    }
+}
+
+// Each of the files 1 to `files` has a packet of that time.
+fn gives_of_each(rt: &impl Abort, feed: &mut Merged<Listed>, files: u32, units: u64) {
+    for file in 1..=files {
+        let next = next_of(rt, feed);
+        same!(rt; next, (file, time(units, 0)));
+    }
+}
+
+// Two packets of each of 1 to 32 files, at two seconds: of each second they come by their files.
+#[test]
+fn equal_clocks_of_any_number_of_files(rt: HostRuntime) {
+    let sides: [Side; 32] = [(0, &[7, 8], false); 32];
+    for files in 1..=32 {
+        let mut feed = many_of(&rt, rt.alloc(), &sides[..files]);
+        same!(&rt; feed.files() as usize, files);
+        gives_of_each(&rt, &mut feed, files as u32, 7);
+        gives_of_each(&rt, &mut feed, files as u32, 8);
+        ends_by(&rt, &mut feed, Head::End);
     }
 }
 
