@@ -199,6 +199,54 @@ def check_python(count, capt, bench, name, content):
             count.check(f"python: ending of {name}", same)
 
 
+def in_batches(capt, source, allow_cut, room, map=False):
+    """The packets that a capture gives in batches, as their fields and bytes, and how it ends."""
+    packets, end = [], None
+    try:
+        with capt.open(source, allow_cut, map=map) as capture:
+            for batch in capture.batches(room):
+                if not 1 <= len(batch) <= room or memoryview(batch.fields).shape != (len(batch),):
+                    return "a batch of", len(batch)
+                for it in batch.fields:
+                    data, seconds = batch.data[it.start : it.start + it.captured], it.seconds + (it.carry << 64)
+                    time = (seconds, it.numerator, it.denominator) if it.denominator else (None, None, None)
+                    packets.append((*time, it.offset, it.instance, it.resolution, it.time_offset, it.original, it.snaplen, it.link, data))
+            end = capture.ending
+    except capt.Error as error:
+        end = str(error)
+    return packets, end
+
+
+def check_batches(count, capt, bench, name, content):
+    """Batches of any size have the packets of a walk, and end as it does, whatever they are read from."""
+    fields = "seconds numerator denominator offset instance resolution time_offset original snaplen link data".split()
+    for allow_cut in False, True:
+        packets, end = [], None
+        try:
+            with capt.open(content, allow_cut) as capture:
+                packets.extend(tuple(getattr(it, field) for field in fields) for it in capture)
+                end = capture.ending
+        except capt.Error as error:
+            end = str(error)
+        for room in 1, 3, 4096:
+            for how in "from memory", "mapped", "by its path", "by a few bytes":
+                source = {"from memory": content, "by a few bytes": Drip(content, max(7, len(content) // 1000))}
+                seen = in_batches(capt, source.get(how, bench.name(content)), allow_cut, room, map=how == "mapped")
+                count.check(f"python: {name} {how}, {room} packets at once", seen == (packets, end), seen[1], end)
+
+
+def check_batches_apart(count, capt, example):
+    """A packet is in a batch or in an iteration: what one has left isn't lost for the other without a word."""
+    with capt.open(example) as capture:
+        first = next(iter(capture)).offset
+        count.check("python: batches of what an iteration left", "left some" in str(tried(lambda: next(capture.batches()))))
+        rest = [it.offset for it in capture]
+    with capt.open(example) as capture:
+        before, after = [it.offset for it in next(capture.batches(1)).fields], [it.offset for it in capture]
+    count.check("python: an iteration behind a batch", before == [first] and after == rest, before, after)
+    count.check("python: no room", isinstance(tried(capt.open(example).batches, 0), ValueError))
+
+
 def check_python_ends(count, capt, name, content):
     """Cut off anywhere and read in pieces, a capture gives what its bytes give, and ends as they do."""
     for end in range(len(content)):
@@ -1233,6 +1281,8 @@ def main():
         for name, content in contents:
             check_python(count, capt, bench, name, content)
             check_rows(count, capt, name, content)
+            check_batches(count, capt, bench, name, content)
+        check_batches_apart(count, capt, dict(contents)["monday.pcap"])
         for name in "monday.pcap", "tuesday.pcapng":
             check_python_ends(count, capt, name, dict(contents)[name])
         example = dict(contents)["monday.pcap"]

@@ -29,6 +29,7 @@ import os
 import re
 import struct
 import threading
+from array import array
 from collections import deque
 from datetime import datetime as _DateTime, timedelta, timezone
 from fractions import Fraction
@@ -37,8 +38,8 @@ from typing import (Any, Callable, Deque, Iterable, Iterator, List, NamedTuple, 
                     TypeVar, Union)
 
 __all__ = ["open", "Capture", "Fed", "Packet", "Ending", "Table", "Report", "Talk", "Side", "FileCounts", "Totals",
-           "Error", "Refused", "ReadFailed", "Closed", "TooManyFiles", "report", "report_text", "info", "listing",
-           "blocks", "convert", "merge", "join", "rule_name", "version"]
+           "Batch", "Error", "Refused", "ReadFailed", "Closed", "TooManyFiles", "report", "report_text", "info",
+           "listing", "blocks", "convert", "merge", "join", "rule_name", "version"]
 
 Path = Union[str, os.PathLike]
 Buffer = Union[bytes, bytearray, memoryview, mmap.mmap]
@@ -76,6 +77,15 @@ _TALK = struct.Struct("@16sHB?16sHB?B7x6QqqQQqqQQ")
 _FILE = struct.Struct("@5QqqQQqqQQI?3x")
 # capt_totals: packets, bytes and carry, and then the other counts, talks and files
 _TOTALS = struct.Struct("@14QI4x")
+
+
+class _Fields(ctypes.Structure):
+    """The same in a batch, with the place of its bytes instead of `frame`."""
+    _fields_ = [("start", ctypes.c_uint64), ("offset", ctypes.c_uint64), ("instance", ctypes.c_uint64),
+                ("seconds", ctypes.c_int64), ("numerator", ctypes.c_uint64), ("denominator", ctypes.c_uint64),
+                ("resolution", ctypes.c_uint64), ("time_offset", ctypes.c_int64), ("carry", ctypes.c_uint32),
+                ("captured", ctypes.c_uint32), ("original", ctypes.c_uint32), ("snaplen", ctypes.c_uint32),
+                ("link", ctypes.c_uint32)]
 
 
 class _Ending(ctypes.Structure):
@@ -394,6 +404,25 @@ class Packet:
                 f"original={self.original}, link={self.link})")
 
 
+class Batch:
+    """Packets that came together, for numpy and the like.
+
+    `fields` has a structure for each packet: `numpy.asarray(batch.fields)` copies nothing, and is an array whose fields
+    are named as those of `Packet`. A time is `carry` times 2**64 seconds, and `seconds`, and `numerator`/`denominator`;
+    the denominator is 0 if there is none. The captured bytes are `data[start:start + captured]`."""
+    __slots__ = ("fields", "data")
+    fields: Any
+    data: bytes
+
+    def __init__(self, packed: bytearray, starts: List[int], data: bytes):
+        # `starts` go where the addresses of the frames are
+        memoryview(packed).cast("Q")[::_FIELDS.size // 8] = memoryview(array("Q", starts))
+        self.fields, self.data = (_Fields * len(starts)).from_buffer(packed), data
+
+    def __len__(self) -> int:
+        return len(self.fields)
+
+
 def _ending_of(reader: _Reader) -> Ending:
     ending = _Ending()
     status = _library.capt_end(ctypes.byref(reader), ctypes.byref(ending))
@@ -419,6 +448,20 @@ class _InMemory:
         if status == _PACKET:
             some = memoryview(self._some)[:self._count.value * _FIELDS.size]
             ready.extend([Packet(fields) for fields in _FIELDS.iter_unpack(some)])
+        return status
+
+    def batch(self, room: int, batches: List[Batch]) -> int:
+        """Adds a batch of the next packets, at most `room` of them, and returns the status."""
+        packed = bytearray(room * _FIELDS.size)
+        reader, _, _, count, place = self._words
+        status = _library.capt_next_many(reader, (ctypes.c_uint8 * len(packed)).from_buffer(packed), room, count, place)
+        if status == _PACKET:
+            packed = packed[:self._count.value * _FIELDS.size]
+            frames = memoryview(packed).cast("Q")[::_FIELDS.size // 8].tolist()
+            # the frames that came at once are in one piece of memory, in order, with heads between them
+            captured = _FIELDS.unpack_from(packed, len(packed) - _FIELDS.size)[9]
+            data = ctypes.string_at(frames[0], frames[-1] + captured - frames[0])
+            batches.append(Batch(packed, [frame - frames[0] for frame in frames], data))
         return status
 
     def ending(self) -> Ending:
@@ -461,6 +504,25 @@ class _InPieces:
             ready.append(Packet(unpack(fields)))
         return _PACKET
 
+    def batch(self, room: int, batches: List[Batch]) -> int:
+        """Adds a batch of the next packets, at most `room` of them, as far as what was fed tells, and returns the
+        status."""
+        step, words, unpack, fields = _library.capt_next, self._words, _FIELDS.unpack, self._packet
+        packed, starts, data = bytearray(), [], bytearray()
+        status = _PACKET
+        while status == _PACKET and len(starts) < room:
+            status = step(*words)
+            if status == _PACKET:
+                frame, *_, captured, _, _, _ = unpack(fields)
+                packed += fields
+                starts.append(len(data))
+                data += ctypes.string_at(frame, captured)
+        self._has_ended = status == _DONE and not starts
+        if starts:
+            batches.append(Batch(packed, starts, bytes(data)))
+            return _PACKET
+        return status
+
     def ending(self) -> Ending:
         if not self._has_ended:
             raise ValueError(_NOT_ENDED)
@@ -484,8 +546,15 @@ class _FromFile(_InPieces):
         self._has_read1 = getattr(type(source), "read1", io.BufferedIOBase.read1) is not io.BufferedIOBase.read1
 
     def more(self, ready: Deque[Packet]) -> int:
+        return self._fed(super().more, ready)
+
+    def batch(self, room: int, batches: List[Batch]) -> int:
+        return self._fed(super().batch, room, batches)
+
+    def _fed(self, step: Callable[..., int], *words: Any) -> int:
+        """Takes a step, and feeds the next piece as long as it wants more."""
         while True:
-            status = super().more(ready)
+            status = step(*words)
             if status != _MORE:
                 return status
             if self._piece is None:
@@ -560,6 +629,21 @@ class _Packets(_Handle):
 
     def __iter__(self) -> Iterator[Packet]:
         return _Iteration(self)
+
+    def _next_batch(self, room: int) -> Optional[Batch]:
+        if self._ready:
+            raise ValueError("an iteration over packets has left some: take them before batches")
+        batches: List[Batch] = []
+        status = self._held.batch(room, batches)
+        if status != _MORE:
+            _check(status, self._held.place, paths=self._paths)
+        return batches[0] if batches else None
+
+    def batches(self, room: int = 4096) -> Iterator[Batch]:
+        """Its next packets in batches of 1 to `room`. A packet is in one batch, or in an iteration over packets."""
+        if room < 1:
+            raise ValueError("a batch has room for 1 packet or more")
+        return iter(lambda: self._call(self._next_batch, room), None)
 
     def _fill(self) -> bool:
         """Makes packets ready; False if there are none."""
