@@ -1,6 +1,6 @@
 mod Completed
 pub mod Feeding
-mod Forming
+pub mod Forming
 mod Joining
 mod CountingOut
 pub mod LeavingOut

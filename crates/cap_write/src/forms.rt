@@ -1,8 +1,9 @@
 //! Packets that are written one by one in one of the formats.
-ghost use Rattle.std.specs.Prelude.{◌≡◌, ◌≤◌, length, [], ◌∷◌, IsTrue, OnOk, None};
+ghost use Rattle.std.specs.Prelude.{◌≡◌, ◌≤◌, length, [], ◌∷◌, IsTrue, OnErr, OnOk, None};
 ghost use Rattle.cap_bytes.specs.Device.{WriterKeeps, writer_of};
 ghost use Rattle.cap_bytes.specs.Printing.{Prints, IsReadFault, is_write};
 ghost use Rattle.cap_source.specs.Feed.{packet};
+ghost use Rattle.cap_source.specs.inner.Growing.{IfMemory};
 ghost use Rattle.cap_write.specs.inner.Forms.{EndsForm, IsFew, form_after, form_stop, form_text, headed, form_state};
 ghost use Rattle.cap_write.specs.PcapRun.{run_bytes, run_refusal};
 
@@ -40,6 +41,7 @@ fn put_leading<W: Sink>(
     ensures whole { OnOk result (run_refusal unit (packet meta.now frame.now ∷ []) ≡ None) }
     ensures writer { WriterKeeps (writer_of W.Sink writer.old) (is_write result) (writer_of W.Sink writer.new) }
     ensures read { IsReadFault result → ⊥ }
+    ensures memory { IfMemory result ⊥ }
 {
     units_of(meta)?;
     let first = in_unit(unit, meta.interface);
@@ -47,8 +49,11 @@ fn put_leading<W: Sink>(
     put_after_header(&first, order, meta, frame, writer)
 }
 
-// Writes a packet of a pcap file, which has that header if it has one, or returns why it isn't written.
-fn put_headed<W: Sink>(
+/// Writes the next packet of a pcap file whose header is that of the interface `first`, if it has one; else its header
+/// in front of it, in the unit that is asked for, if one is. Returns `Refused` by the rules 17 to 20 (no-time,
+/// link-mixed, inexact, time-range): the packet isn't written then, but in front of a first packet the header may be.
+/// After `Write` a prefix is written. After either `first` is as it was.
+pub fn put_headed<W: Sink>(
     unit: Option<Unit>,
     first: &mut Option<Interface>,
     order: Order,
@@ -63,8 +68,10 @@ fn put_headed<W: Sink>(
         (W.held writer.old) result (W.held writer.new) }
     ensures form { OnOk result ((headed unit first.new ≡ form_after (headed unit first.old) meta.now)
         × (form_stop (headed unit first.old) (packet meta.now frame.now ∷ []) ≡ None)) }
+    ensures kept { OnErr result (first.new ≡ first.old) }
     ensures writer { WriterKeeps (writer_of W.Sink writer.old) (is_write result) (writer_of W.Sink writer.new) }
     ensures read { IsReadFault result → ⊥ }
+    ensures memory { IfMemory result ⊥ }
 {
     if let Some(header) = *first {
         return put_after_header(&header, order, meta, frame, writer);

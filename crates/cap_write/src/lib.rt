@@ -15,6 +15,7 @@ mod pcap;
 mod pcapng;
 
 pub use crate::files::{to_pcap, to_pcapng};
+pub use crate::forms::put_headed;
 pub use crate::joined::{
     write_joined, write_joined_and_count, write_joined_pcap, write_joined_pcap_and_count,
 };
