@@ -1,14 +1,14 @@
-/* capt.h: packet captures (pcap 2.4, pcapng 1.0 and 1.2), read, listed, reported, converted, merged and joined by
- * proved code.
+/* capt.h: packet captures (pcap 2.4, pcapng 1.0 and 1.2), read, written, listed, reported, converted, merged and joined
+ * by proved code.
  *
  * * Link with -lcapt (libcapt.so), or with libcapt.a. It uses malloc, realloc and free, and read(2) for
  * capt_open_stdin; it opens no file, writes to none, starts no thread and keeps nothing between calls but what a
  * handle holds.
  *
- * * Handles. A capt_reader, a capt_table or a capt_text belongs to you. Set it to {0} before its first call, let only
- * the library change it, don't copy it, and close it. Closing sets it to {0} again; closing it twice does nothing. A
- * call that fills a handle closes first what it held. A call that opens a handle leaves {0} if it returns CAPT_MEMORY,
- * and what was there if it returns CAPT_MISUSE.
+ * * Handles. A capt_reader, a capt_table, a capt_writer or a capt_text belongs to you. Set it to {0} before its first
+ * call, let only the library change it, don't copy it, and close it. Closing sets it to {0} again; closing it twice
+ * does nothing. A call that fills a handle closes first what it held. A call that opens a handle leaves {0} if it
+ * returns CAPT_MEMORY, and what was there if it returns CAPT_MISUSE.
  *
  * * Threads. One call at a time with a handle. Calls with different handles may run at once, also over the same bytes.
  *
@@ -27,7 +27,8 @@
  * that it hasn't read, and the last piece; when it returns CAPT_MORE, at most 1 MiB; after CAPT_DONE or CAPT_REFUSED
  * none. It gives back what more it held if malloc can make a block smaller; and it holds at most 1,024 interfaces. A
  * table holds what a reader holds for each of its files, and besides at most 1,024 groups of fragments and 1,048,576
- * conversations, which take some 200 MB. A call that makes a text holds the whole text.
+ * conversations, which take some 200 MB. A writer holds what was put and not taken, in a block that grows, and at most
+ * 1,024 interfaces. A call that makes a text holds the whole text.
  *
  * * Growth. The structs stay as they are as long as the library is libcapt.so.1: what a later version tells besides, it
  * tells by a call and a struct of its own.
@@ -58,7 +59,7 @@ enum capt_status {
     CAPT_READ = 3,    /* a read failed: capt_place says where; or capt_file_open couldn't open, and has no place */
     CAPT_MEMORY = 5,  /* malloc or realloc returned NULL */
     CAPT_MISUSE = 6,  /* the handle isn't open or is of other calls, there are no files or more than 32, there is no
-                         room for a packet, or the call doesn't take a flag */
+                         room for a packet, no packet has such numbers, or the call doesn't take a flag */
     CAPT_MORE = 7     /* of a reader that is fed: more bytes are wanted to tell what comes next */
 };
 
@@ -220,6 +221,9 @@ typedef struct {
 /* A table of a report, which takes the packets of captures one by one. */
 typedef capt_reader capt_table;
 
+/* A capture file that is written packet by packet, in memory. */
+typedef capt_reader capt_writer;
+
 /* A text that the library made: `len` bytes at `at`, with no zero after them. */
 typedef struct {
     const uint8_t *at;
@@ -270,7 +274,7 @@ uint32_t capt_next_many(capt_reader *reader, capt_packet *packets, size_t room, 
  * CAPT_MISUSE, which leaves `ending`. */
 uint32_t capt_end(capt_reader *reader, capt_ending *ending);
 
-/* Lets go what the reader, or the table, holds. */
+/* Lets go what the reader, the table or the writer holds. */
 void capt_close(capt_reader *reader);
 
 /* The report of capt_report step by step, in as much memory, but for the text. Opens a table of 1 to 32 captures.
@@ -312,6 +316,32 @@ uint32_t capt_join(const capt_bytes *files, size_t count, uint32_t flags, capt_t
 
 /* Lets go a text. */
 void capt_text_close(capt_text *text);
+
+/* Opens a capture file that you write packet by packet, in memory. What capt_writer_take gives of it, one text after
+ * another, is the file that the command `capt merge --share-interfaces` writes of these packets in this order, or with
+ * CAPT_TO_PCAP `capt merge --to pcap`. Flags: CAPT_BIG and CAPT_TO_PCAP. CAPT_DONE, CAPT_MEMORY or CAPT_MISUSE. */
+uint32_t capt_writer_open(capt_writer *writer, uint32_t flags);
+
+/* Puts a packet at the end of the file. Its captured bytes are the `len` bytes at `frame`: `frame` and `captured` of a
+ * packet that you read, fewer, or others; the call doesn't look at these two fields of `packet`. The other fields are
+ * as capt_next fills them in, also of a packet that you make; `offset` is only for a refusal, `instance` isn't used.
+ *
+ * A pcapng file gets the packet's interface (link, snaplen, resolution and time_offset) first, if it has none like it.
+ * The header of a pcap file comes with the first packet, and has the link and the snaplen of that one; its times have
+ * microseconds if they can hold each unit of that packet's interface, else nanoseconds.
+ *
+ * CAPT_DONE. CAPT_REFUSED if the file can't hold the packet exactly: by the rules no-time and interface-limit in a
+ * pcapng file, no-time, link-mixed, inexact and time-range in a pcap file; `place` has the packet's offset, and file 1.
+ * CAPT_MEMORY. After the last two the file is as it was. CAPT_MISUSE also if no packet has such fields: the link is
+ * above 65,535, `len` is above 262,144, the resolution is neither a power of 10 up to 10^19 nor one of 2 up to 2^63,
+ * the denominator is neither 0 nor the resolution; or, unless it is 0, the numerator isn't below it, or the time is
+ * before time_offset, or more than 64 bits of units after it. */
+uint32_t capt_writer_put(capt_writer *writer, const capt_packet *packet, const uint8_t *frame, size_t len,
+                         capt_place *place);
+
+/* Takes out what was written since the last call, as a text; the file goes on. CAPT_DONE; CAPT_MEMORY, after which the
+ * text is {0}, nothing was taken, and the call may be made again; or CAPT_MISUSE. */
+uint32_t capt_writer_take(capt_writer *writer, capt_text *text);
 
 /* Put as many bytes of a text into the buffer as it has room for, leave those behind them, and return how long the
  * text is. capt_error_text puts the line that capt prints for CAPT_REFUSED, CAPT_READ or CAPT_MEMORY, with its end, as

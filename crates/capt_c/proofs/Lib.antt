@@ -1,9 +1,12 @@
 pub mod Agreeing
 pub mod AllTold
+pub mod Described
 pub mod NearTimes
 pub mod NeverRead
 pub mod Numbered
 pub mod PointerValues
 pub mod RawBoxValues
 pub mod SameReaders
+pub mod Standing
 pub mod Telling
+pub mod ToldTimes

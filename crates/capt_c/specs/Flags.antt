@@ -40,3 +40,7 @@ cut_and_ipv6 = record { allow_cut = true; big = false; to_pcap = false; ipv6 = t
 -- the flags of a call that writes a capture
 abbrev pub cut_and_form : Flags
 cut_and_form = record { allow_cut = true; big = true; to_pcap = true; ipv6 = false }
+
+-- the flags of a call that writes packets
+abbrev pub form_alone : Flags
+form_alone = record { allow_cut = false; big = true; to_pcap = true; ipv6 = false }

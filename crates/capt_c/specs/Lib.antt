@@ -9,3 +9,5 @@ pub mod Jobs
 pub mod Rows
 pub mod Tables
 pub mod Names
+pub mod Told
+pub mod Writing

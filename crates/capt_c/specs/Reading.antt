@@ -41,6 +41,7 @@ status_of_found false = 0
 abbrev pub OpensCapture : (CaptureReader → Feed) → Tail → Bool → List ℕ → Bool → ℕ → Option HandleValue → Type 0
 OpensCapture feed tail told bytes can_fail status None = status ≡ 5
 OpensCapture feed tail told bytes can_fail status (Some (helds.Text text)) = ⊥
+OpensCapture feed tail told bytes can_fail status (Some (helds.Writer w)) = ⊥
 OpensCapture feed tail told bytes can_fail status (Some (helds.Table t)) = ⊥
 OpensCapture feed tail told bytes can_fail status (Some (helds.Fed f)) = ⊥
 OpensCapture feed tail told bytes can_fail status (Some (helds.Capture c)) =
@@ -66,6 +67,8 @@ Nexts feed (Some (helds.Text text)) was from status p place new =
     Misused {X = CPacket × CPlace} status (Some (helds.Text text)) new (was, from) (p, place)
 Nexts feed (Some (helds.Table t)) was from status p place new =
     Misused {X = CPacket × CPlace} status (Some (helds.Table t)) new (was, from) (p, place)
+Nexts feed (Some (helds.Writer w)) was from status p place new =
+    Misused {X = CPacket × CPlace} status (Some (helds.Writer w)) new (was, from) (p, place)
 Nexts feed (Some (helds.Fed f)) was from status p place new =
     (later : FedState) × (new ≡ Some (helds.Fed later)) × StepsFedCapture f was status p place later
 Nexts feed (Some (helds.Capture c)) was from status p place new =
@@ -86,6 +89,7 @@ NextsMany feed None was status now new = Misused status None new was now
 NextsMany feed (Some (helds.Text text)) was status now new = Misused status (Some (helds.Text text)) new was now
 NextsMany feed (Some (helds.Table t)) was status now new = Misused status (Some (helds.Table t)) new was now
 NextsMany feed (Some (helds.Fed f)) was status now new = Misused status (Some (helds.Fed f)) new was now
+NextsMany feed (Some (helds.Writer w)) was status now new = Misused status (Some (helds.Writer w)) new was now
 NextsMany feed (Some (helds.Capture c)) was status now new =
     (answer : Result Bool Fault) × (later : CaptureReader) × (status ≡ status_of_result status_of_found answer)
     × (now.place ≡ place_of_result answer)
@@ -125,6 +129,7 @@ TellsEnd feed None was status end new = Misused status None new was end
 TellsEnd feed (Some (helds.Text text)) was status end new = Misused status (Some (helds.Text text)) new was end
 TellsEnd feed (Some (helds.Table t)) was status end new = Misused status (Some (helds.Table t)) new was end
 TellsEnd feed (Some (helds.Fed f)) was status end new = (new ≡ Some (helds.Fed f)) × FedEndTold f was status end
+TellsEnd feed (Some (helds.Writer w)) was status end new = Misused status (Some (helds.Writer w)) new was end
 TellsEnd feed (Some (helds.Capture c)) was status end new =
     (answer : Result Head Fault) × (later : CaptureReader) × (new ≡ Some (helds.Capture later))
     × GivesHead (feed c) answer (feed later) × EndTold (feed later) was answer status end

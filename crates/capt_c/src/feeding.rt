@@ -89,7 +89,10 @@ fn end_fed(held: &mut HandleValue) -> u32
             fed.end();
             DONE
         }
-        HandleValue::Capture(_) | HandleValue::Table(_) | HandleValue::Text(_) => MISUSE,
+        HandleValue::Capture(_)
+        | HandleValue::Table(_)
+        | HandleValue::Text(_)
+        | HandleValue::Writer(_) => MISUSE,
     }
 }
 

@@ -39,6 +39,14 @@ pub const CUT_AND_FORM: Flags = Flags {
     ipv6: false,
 };
 
+/// The flags of a call that writes packets.
+pub const FORM_ALONE: Flags = Flags {
+    allow_cut: false,
+    big: true,
+    to_pcap: true,
+    ipv6: false,
+};
+
 // Whether a number has the bit of that value, a power of two.
 fn has_bit(number: u32, bit: u32) -> bool
     requires { 0 < bit }

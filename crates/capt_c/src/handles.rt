@@ -4,6 +4,7 @@ ghost use Rattle.cap_bytes.specs.declared.faults.Fault.{Fault};
 ghost use Rattle.capt_c.specs.HandleValue.{IsClosed};
 ghost use Rattle.capt_c.specs.declared.handles.HandleValue.{HandleValue};
 
+use crate::packet_writers::PacketWriter;
 use crate::raw_box::RawBox;
 use crate::sources::{CaptureInput, Slice};
 use cap_bytes::Fault;
@@ -14,7 +15,8 @@ use std::marker::Model;
 use std::mem::replace;
 use std::ptr::null_mut;
 
-/// What a handle holds: a capture that is being read or fed, a table of captures, or a text.
+/// What a handle holds: a capture that is being read or fed, a table of captures, a text, or a
+/// capture file that is being written.
 #[derive(Drop)]
 pub enum HandleValue {
     /// A capture.
@@ -25,6 +27,8 @@ pub enum HandleValue {
     Table(Box<Table<Capture<Slice<'static>>>>),
     /// A text.
     Text(Vec<u8>),
+    /// A capture file that is being written.
+    Writer(PacketWriter),
 }
 
 /// The address of a box that it owns, or any address if it owns nothing.

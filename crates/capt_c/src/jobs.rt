@@ -44,7 +44,7 @@ pub struct Text {
     pub at: *const u8,
     /// How many bytes it has.
     pub len: usize,
-    handle: Handle,
+    pub(crate) handle: Handle,
 }
 
 /// Readers of files.
@@ -61,8 +61,8 @@ pub(crate) fn slices<'a>(alloc: Global, files: &[Bytes<'a>]) -> Result<Vec<Slice
     Ok(slices)
 }
 
-// A write to memory fails only if an allocation does.
-fn by_memory(answer: Result<(), Fault>) -> Result<(), Fault>
+/// A write to memory fails only if an allocation does.
+pub(crate) fn by_memory(answer: Result<(), Fault>) -> Result<(), Fault>
     ensures { result ≡ by_memory answer }
 {
     match answer {
@@ -71,8 +71,8 @@ fn by_memory(answer: Result<(), Fault>) -> Result<(), Fault>
     }
 }
 
-// Shows no text.
-fn empty(text: &mut Text)
+/// Shows no text.
+pub(crate) fn empty(text: &mut Text)
     ensures at { text.new.at ≡ null_ptr }
     ensures len { text.new.len ≡ 0 }
     ensures handle { text.new.handle ≡ text.old.handle }

@@ -59,7 +59,7 @@ fn next_of(held: &mut HandleValue, packet: &mut CPacket, place: &mut CPlace) -> 
     match held {
         HandleValue::Capture(capture) => status_and_place(step(capture, packet), place),
         HandleValue::Fed(fed) => step_fed(fed, packet, place),
-        HandleValue::Table(_) | HandleValue::Text(_) => MISUSE,
+        HandleValue::Table(_) | HandleValue::Text(_) | HandleValue::Writer(_) => MISUSE,
     }
 }
 
@@ -156,7 +156,10 @@ fn next_many_of(
             step_many(capture, packets, count),
             place,
         ),
-        HandleValue::Fed(_) | HandleValue::Table(_) | HandleValue::Text(_) => MISUSE,
+        HandleValue::Fed(_)
+        | HandleValue::Table(_)
+        | HandleValue::Text(_)
+        | HandleValue::Writer(_) => MISUSE,
     }
 }
 
@@ -254,7 +257,7 @@ fn end_of(held: &mut HandleValue, ending: &mut End) -> u32
     match held {
         HandleValue::Capture(capture) => end_of_capture(capture, ending),
         HandleValue::Fed(fed) => end_of_fed(fed, ending),
-        HandleValue::Text(_) | HandleValue::Table(_) => MISUSE,
+        HandleValue::Table(_) | HandleValue::Text(_) | HandleValue::Writer(_) => MISUSE,
     }
 }
 

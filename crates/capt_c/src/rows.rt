@@ -281,7 +281,10 @@ fn talk_of(held: &HandleValue, place: usize, talk: &mut CTalk) -> u32
 {
     match held {
         HandleValue::Table(table) => write_talk(table, place, talk),
-        HandleValue::Capture(_) | HandleValue::Fed(_) | HandleValue::Text(_) => MISUSE,
+        HandleValue::Capture(_)
+        | HandleValue::Fed(_)
+        | HandleValue::Text(_)
+        | HandleValue::Writer(_) => MISUSE,
     }
 }
 
@@ -306,7 +309,10 @@ fn file_of(held: &HandleValue, number: u32, file: &mut CFile) -> u32
 {
     match held {
         HandleValue::Table(table) => write_file(table, number, file),
-        HandleValue::Capture(_) | HandleValue::Fed(_) | HandleValue::Text(_) => MISUSE,
+        HandleValue::Capture(_)
+        | HandleValue::Fed(_)
+        | HandleValue::Text(_)
+        | HandleValue::Writer(_) => MISUSE,
     }
 }
 
@@ -330,7 +336,10 @@ fn totals_of(held: &HandleValue, totals: &mut CTotals) -> u32
 {
     match held {
         HandleValue::Table(table) => write_totals(table, totals),
-        HandleValue::Capture(_) | HandleValue::Fed(_) | HandleValue::Text(_) => MISUSE,
+        HandleValue::Capture(_)
+        | HandleValue::Fed(_)
+        | HandleValue::Text(_)
+        | HandleValue::Writer(_) => MISUSE,
     }
 }
 

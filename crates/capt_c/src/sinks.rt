@@ -19,8 +19,16 @@ impl VecSink {
         ensures held { ⟦<VecSink as Sink>⟧.held result ≡ [] }
         ensures fresh { ⟦<VecSink as Device>⟧.has_failed result ≡ false }
     {
+        VecSink::behind(Vec::new(alloc))
+    }
+
+    /// A writer behind what a vector has.
+    pub fn behind(bytes: Vec<u8>) -> VecSink
+        ensures held { ⟦<VecSink as Sink>⟧.held result ≡ bytes.items }
+        ensures fresh { ⟦<VecSink as Device>⟧.has_failed result ≡ false }
+    {
         VecSink {
-            bytes: Vec::new(alloc),
+            bytes,
             failed: false,
         }
     }

@@ -85,7 +85,10 @@ fn step_of(held: &mut HandleValue, place: &mut CPlace) -> u32
 {
     match held {
         HandleValue::Table(table) => status_and_place(table.step(), place),
-        HandleValue::Capture(_) | HandleValue::Fed(_) | HandleValue::Text(_) => MISUSE,
+        HandleValue::Capture(_)
+        | HandleValue::Fed(_)
+        | HandleValue::Text(_)
+        | HandleValue::Writer(_) => MISUSE,
     }
 }
 
@@ -107,7 +110,10 @@ fn write_of(alloc: Global, held: &HandleValue, text: &mut Text, place: &mut CPla
             let answer = table.write_so_far(&mut sink);
             show(alloc, text, sink, answer, place)
         }
-        HandleValue::Capture(_) | HandleValue::Fed(_) | HandleValue::Text(_) => MISUSE,
+        HandleValue::Capture(_)
+        | HandleValue::Fed(_)
+        | HandleValue::Text(_)
+        | HandleValue::Writer(_) => MISUSE,
     }
 }
 
