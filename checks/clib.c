@@ -1,9 +1,10 @@
 /* A C program over libcapt, for clib.py. It prints what `capt list` prints of a file, by capt_next (`next`), by
  * capt_next_many (`many`), of standard input (`stdin`), or of bytes that are fed, N at a time (`fed N`), what `capt
  * report` prints, step by step (`table`, also with `--ipv6`), which it makes of the table's numbers too and compares,
- * prints the interface of each packet (`interfaces`), misuses the library in each way that the header names (`misuse`,
- * and `flags` for the flags), compares the version's forms (`version`), and measures what a reader that is fed holds
- * (`memory`), and how much stack the calls take (`stack`). */
+ * prints the interface of each packet (`interfaces`), copies a file packet by packet (`copy FORM`, where FORM is a
+ * number of flags), writes packets of its own (`written`), misuses the library in each way that the header names
+ * (`misuse`, and `flags` for the flags), compares the version's forms (`version`), and measures what a reader that is
+ * fed holds (`memory`), and how much stack the calls take (`stack`). */
 #define _GNU_SOURCE
 #include <capt.h>
 #include <inttypes.h>
@@ -158,6 +159,113 @@ static int interfaces(capt_bytes file) {
     while (next_fed(&reader, &file, 13, packets, &place) == CAPT_PACKET) print_interface(packets);
     capt_close(&reader);
     return 0;
+}
+
+/* Makes a call again that finds no memory, a few times. */
+#define PATIENTLY(status, call) for (int tries = 0; ((status) = (call)) == CAPT_MEMORY && tries < 5; tries++) {}
+
+/* Takes out what was written, and prints it. */
+static uint32_t print_written(capt_writer *writer) {
+    capt_text text = {0};
+    uint32_t status;
+    PATIENTLY(status, capt_writer_take(writer, &text))
+    fwrite(text.at, 1, text.len, stdout);
+    capt_text_close(&text);
+    return status;
+}
+
+/* A file written packet by packet, and taken out after each third; a call that finds no memory is made again. */
+static int copy(capt_bytes file, uint32_t form, uint32_t flags) {
+    capt_reader reader = {0};
+    capt_writer writer = {0};
+    capt_packet packet;
+    capt_place place = {0, 0, 0};
+    uint32_t status, put;
+    PATIENTLY(status, capt_open(&reader, file.at, file.len, flags))
+    PATIENTLY(put, capt_writer_open(&writer, form))
+    if (status != CAPT_DONE || put != CAPT_DONE) return 80;
+    for (uint64_t number = 1;; number++) {
+        PATIENTLY(status, capt_next(&reader, &packet, &place))
+        if (status != CAPT_PACKET) break;
+        PATIENTLY(status, capt_writer_put(&writer, &packet, packet.frame, packet.captured, &place))
+        if (status != CAPT_DONE) break;
+        if (number % 3 == 0 && print_written(&writer) != CAPT_DONE) return 81;
+    }
+    if (print_written(&writer) != CAPT_DONE) return 82;
+    capt_close(&reader);
+    capt_close(&writer);
+    capt_close(&writer);
+    return capt_writer_put(&writer, &packet, packet.frame, 0, &(capt_place){0, 0, 0}) == CAPT_MISUSE ? told(status, place) : 83;
+}
+
+/* What was written since the last call is that. */
+static bool is_written(capt_writer *writer, const uint8_t *want, size_t len) {
+    capt_text text = {0};
+    bool is_same = capt_writer_take(writer, &text) == CAPT_DONE && text.len == len && (!len || !memcmp(text.at, want, len));
+    capt_text_close(&text);
+    return is_same;
+}
+
+/* Packets of one's own, those that a file can't hold, which leave it as it was, and numbers that no packet has. */
+static int written(void) {
+    static const uint8_t frame[] = {1, 2, 3, 4}, long_frame[262145];
+    static const uint8_t front[] = {10, 13, 13, 10, 28, 0, 0, 0, 0x4d, 0x3c, 0x2b, 0x1a, 1, 0, 0, 0, 255, 255, 255, 255, 255, 255, 255, 255, 28, 0, 0, 0};
+    static const uint8_t block[] = {1, 0, 0, 0, 32, 0, 0, 0, 1, 0, 0, 0, 0, 0, 4, 0, 9, 0, 1, 0, 6, 0, 0, 0, 0, 0, 0, 0, 32, 0, 0, 0,
+                                    6, 0, 0, 0, 36, 0, 0, 0, 0, 0, 0, 0, 0, 0, 0, 0, 0xa0, 0x25, 0x26, 0, 4, 0, 0, 0, 4, 0, 0, 0, 1, 2, 3, 4, 36, 0, 0, 0};
+    static const uint8_t header[] = {0xd4, 0xc3, 0xb2, 0xa1, 2, 0, 4, 0, 0, 0, 0, 0, 0, 0, 0, 0, 0, 0, 4, 0, 1, 0, 0, 0,
+                                     2, 0, 0, 0, 0x20, 0xa1, 7, 0, 4, 0, 0, 0, 4, 0, 0, 0, 1, 2, 3, 4};
+    const capt_packet good = {.offset = 7, .seconds = 2, .numerator = 500000, .denominator = 1000000, .resolution = 1000000,
+                              .original = 4, .snaplen = 262144, .link = 1};
+    capt_packet bad[14];
+    capt_writer writer = {0};
+    capt_text text = {0};
+    capt_place place = {1, 2, 3};
+    for (int i = 0; i < 14; i++) bad[i] = good;
+    bad[0].denominator = 0;                                        /* no-time */
+    bad[1].link = 228;                                             /* link-mixed */
+    bad[2].denominator = bad[2].resolution = 10000000000;          /* inexact */
+    bad[2].numerator = 1;
+    bad[3].seconds = 4294967296;                                   /* time-range */
+    const uint32_t rules[] = {CAPT_RULE_NO_TIME, CAPT_RULE_LINK_MIXED, CAPT_RULE_INEXACT, CAPT_RULE_TIME_RANGE};
+    bad[4].link = 65536;
+    bad[5].denominator = bad[5].resolution = 1000001;
+    bad[6].denominator = 1000;
+    bad[7].numerator = 1000000;
+    bad[8].seconds = -1;
+    bad[9].time_offset = 3;
+    bad[10].carry = 1;
+    bad[11].resolution = 0;
+    bad[12].denominator = bad[12].resolution = (uint64_t)3 << 62;
+    bad[13].denominator = bad[13].resolution = 256;                /* a numerator above it */
+    for (uint32_t form = 0; form <= CAPT_TO_PCAP; form += CAPT_TO_PCAP) {
+        if (capt_writer_open(&writer, form) != CAPT_DONE) return 84;
+        if (form == 0 && !is_written(&writer, front, sizeof front)) return 85;
+        if (!is_written(&writer, NULL, 0) || capt_writer_put(&writer, &good, frame, 4, &place) != CAPT_DONE) return 86;
+        if (place.offset || place.file || place.rule) return 87;
+        for (uint32_t i = 0; i < 14; i++) {
+            uint32_t rule = i < 4 && (form || i == 0) ? rules[i] : 0;
+            if (!form && 0 < i && i < 4) continue;
+            place = (capt_place){1, 2, 3};
+            uint32_t status = capt_writer_put(&writer, &bad[i], frame, 4, &place);
+            if (rule ? status != CAPT_REFUSED || place.rule != rule || place.offset != 7 || place.file != 1
+                     : status != CAPT_MISUSE || place.rule != 3) return 100 + (int)i;
+        }
+        if (capt_writer_put(&writer, &good, long_frame, sizeof long_frame, &place) != CAPT_MISUSE) return 88;
+        if (!(form ? is_written(&writer, header, sizeof header) : is_written(&writer, block, sizeof block))) return 89;
+        /* the first packet of a pcap file is refused before its header is written */
+        if (capt_writer_open(&writer, CAPT_TO_PCAP) != CAPT_DONE) return 90;
+        if (capt_writer_put(&writer, &bad[3], frame, 4, &place) != CAPT_REFUSED || !is_written(&writer, NULL, 0)) return 91;
+    }
+    /* no reader, no table and no text, nor they a writer */
+    capt_packet packet;
+    if (capt_next(&writer, &packet, &place) != CAPT_MISUSE || capt_table_step(&writer, &place) != CAPT_MISUSE) return 92;
+    if (capt_feed(&writer, frame, 4) != CAPT_MISUSE || capt_feed_end(&writer) != CAPT_MISUSE) return 93;
+    if (capt_writer_open(&writer, CAPT_ALLOW_CUT) != CAPT_MISUSE || capt_writer_open(&writer, CAPT_IPV6) != CAPT_MISUSE) return 94;
+    if (capt_writer_put(&writer, &good, frame, 4, &place) != CAPT_DONE || !is_written(&writer, header, sizeof header)) return 95;
+    if (capt_open(&writer, frame, 4, 0) != CAPT_DONE || capt_writer_put(&writer, &good, frame, 4, &place) != CAPT_MISUSE) return 96;
+    if (capt_writer_take(&writer, &text) != CAPT_MISUSE) return 97;
+    capt_close(&writer);
+    return capt_writer_take(&writer, &text) == CAPT_MISUSE && !text.at ? 0 : 98;
 }
 
 /* How many bytes malloc holds for this program. */
@@ -538,6 +646,17 @@ static void call_reader(void) {
     capt_text_close(&on.text);
 }
 
+static void call_writer(void) {
+    capt_open(&on.reader, on.files[0].at, on.files[0].len, 0);
+    capt_writer_open(&on.table, 0);
+    while (capt_next(&on.reader, &on.packet, &on.place) == CAPT_PACKET)
+        capt_writer_put(&on.table, &on.packet, on.packet.frame, on.packet.captured, &on.place);
+    capt_writer_take(&on.table, &on.text);
+    capt_close(&on.table);
+    capt_close(&on.reader);
+    capt_text_close(&on.text);
+}
+
 static void *called(void *call) {
     ((void (*)(void))call)();
     return NULL;
@@ -562,7 +681,7 @@ static size_t stack_of(void (*call)(void)) {
 /* Each call takes at most 48 KiB of stack. */
 static int stack(const char *name) {
     void (*calls[])(void) = {call_list, call_blocks, call_convert, call_info, call_report, call_report_ipv6, call_merge, call_merge_pcap, call_join,
-                             call_join_pcap, call_table_open, call_table, call_reader};
+                             call_join_pcap, call_table_open, call_table, call_reader, call_writer};
     for (int i = 0; i < 32; i++) on.files[i] = i ? on.files[0] : bytes_of(name);
     size_t none = stack_of(call_none);
     for (size_t i = 0; i < sizeof calls / sizeof *calls; i++) {
@@ -588,6 +707,7 @@ int main(int count, char **words) {
     if (strcmp(words[1], "flags") == 0) return flags_refused(words[count - 1]);
     if (strcmp(words[1], "memory") == 0) return fed_memory();
     if (strcmp(words[1], "version") == 0) return version();
+    if (strcmp(words[1], "written") == 0) return written();
     if (strcmp(words[1], "stack") == 0) return stack(words[count - 1]);
     if (strcmp(words[1], "stdin") == 0) {
         uint32_t status = capt_open_stdin(&reader, flags);
@@ -596,6 +716,11 @@ int main(int count, char **words) {
     capt_bytes bytes = bytes_of(words[count - 1]);
     if (strcmp(words[1], "fed") == 0 && count > 3) {
         int code = list_fed(bytes, strtoul(words[2], NULL, 10), count > 4 ? flag_of(words[3]) : 0);
+        free((void *)bytes.at);
+        return code;
+    }
+    if (strcmp(words[1], "copy") == 0 && count > 3) {
+        int code = copy(bytes, (uint32_t)strtoul(words[2], NULL, 10), count > 4 ? flag_of(words[3]) : 0);
         free((void *)bytes.at);
         return code;
     }

@@ -125,6 +125,31 @@ class Drip:
         return piece
 
 
+def copied(capt, content, allow_cut, to, order):
+    """The same of what the binding's writer makes of the packets of a capture, taken out after some of them."""
+    parts = []
+    with capt.Capture(content, allow_cut) as capture, capt.Writer(to, "big" if order == ">" else "little") as writer:
+        try:
+            for packet in capture:
+                writer.put(packet)
+                if packet.offset % 8:
+                    parts.append(writer.take())
+        except capt.Refused as refused:
+            return 1, b"".join(parts) + writer.take(), f"{refused}\n".encode()
+        return 0, b"".join(parts) + writer.take(), b""
+
+
+def merged(bench, task, content, allow_cut, order, out):
+    """What the program merges of one file, as a writer writes it: a pcap file of which no packet was put has no byte, not
+    even the header in front of a packet that is refused; and one unit in a second is 10^0, whether it was that or 2^0."""
+    status, text, error = bench.run(task, [content], allow_cut, order, out)[:3]
+    if error.endswith(b" rule 21 no-interface\n"):
+        return 0, b"", b""
+    for two, ten in ("0900010080", "0900010000"), ("0009000180", "0009000100"):
+        text = text.replace(bytes.fromhex(two), bytes.fromhex(ten))
+    return status, b"" if task == "merge-pcap" and len(text) == 24 else text, error
+
+
 def listed(text):
     """The packets of what `list` printed."""
     packets = []
@@ -182,6 +207,9 @@ def check_python(count, capt, bench, name, content):
                 if out and os.path.exists(out):
                     os.remove(out)
                 count.check(f"python: {task} {name}", called(capt, task, content, allow_cut, order) == (status, written, error))
+        for task, to, order in ("merge-shared", "pcapng", ">"), ("merge-pcap", "pcap", "<"):
+            copy = merged(bench, task, content, allow_cut, order, os.path.join(bench.folder, f"written-{to}-{name}"))
+            count.check(f"python: a copy of {name} as {to}", copied(capt, content, allow_cut, to, order) == copy)
         status, text, error = bench.run("list", [content], allow_cut)[:3]
         lines, ending = walked(capt, content, allow_cut)
         count.check(f"python: packets of {name}", lines == listed(text))
@@ -670,6 +698,11 @@ def check_c(count, checker, shim, bench, name, content):
             count.check(f"c: fed by {size} {name}", run([checker, "fed", size, *words, path]) == want)
         report = bench.run("report", [content], bool(words))[:3]
         count.check(f"c: table {name}", run([checker, "table", *words, path]) == report)
+        for form, task, order in (0, "merge-shared", "<"), (2, "merge-shared", ">"), (4, "merge-pcap", "<"), (6, "merge-pcap", ">"):
+            out = os.path.join(bench.folder, f"copy-{form}-{len(words)}-{name}")
+            copy = merged(bench, task, content, bool(words), order, out)
+            seen = run([checker, "copy", str(form), *words, path])
+            count.check(f"c: copy {form} {name}", seen == copy, seen[0], seen[2], copy[0], copy[2])
         for piece in ({}, {"LD_PRELOAD": shim, "FAULT_PIECE": "1"}):
             with open(path, "rb") as file:
                 count.check(f"c: stdin {name}", run([checker, "stdin", *words], stdin=file, env={**os.environ, **piece}) == want)
@@ -804,6 +837,7 @@ def check_ipv6(count, capt, checker, bench):
 
 def check_faults(count, checker, shim, path, content):
     """Each growth of a walk is refused in turn, and each read of standard input fails."""
+    copied = run([checker, "copy", "0", path])
     for at in range(1, 40):
         status, _, error = run([checker, "next", path], env={**os.environ, "LD_PRELOAD": shim, "FAULT_GROWTHS": f"{at}-{at + 1}"})
         count.check(f"c: growth {at}", (status, error) in ((0, b""), (1, b"fault: memory\n"), (3, b""), (5, b""), (6, b"fault: memory\n")))
@@ -811,6 +845,8 @@ def check_faults(count, checker, shim, path, content):
         status, _, error = run([checker, "table", path], env=environment)
         count.check(f"c: growth of a table {at}", (status, error) in ((0, b""), (1, b"fault: memory\n"), (3, b""), (17, b"fault: memory\n"), (6, b"")))
         status, text, error = run([checker, "fed", "7", path], env={**os.environ, "LD_PRELOAD": shim, "FAULT_GROWTHS": f"{at}-{at + 1}"})
+        seen = run([checker, "copy", "0", path], env={**os.environ, "LD_PRELOAD": shim, "FAULT_GROWTHS": f"{at}-{at + 1}"})
+        count.check(f"c: growth of a writer {at}", seen in (copied, (3, b"", b"")), seen)
         count.check(f"c: growth of a fed reader {at}", (status, error) in ((0, b""), (1, b"fault: memory\n"), (3, b"")))
     offsets = set()
     for at in range(1, len(content), 2):
@@ -841,6 +877,15 @@ def check_example(count, folder, library, shim, bench, content):
     source = os.path.join(CRATE, "examples", "list.c")
     subprocess.run(["cc", "-std=c11", "-o", example, source, os.path.join(library, "libcapt.a")], check=True)
     count.check("c: the example", run([example, "packets", path]) == bench.run("list", [content])[:3])
+    # the packets of at least so many bytes, as a merge writes them of a file of these
+    filter = os.path.join(folder, "filter")
+    source = os.path.join(CRATE, "examples", "filter.c")
+    subprocess.run(["cc", "-std=c11", "-I", library, "-o", filter, source, os.path.join(library, "libcapt.a")], check=True)
+    mixed = pcap_header(1) + record(1, bytes(99)) + record(2, bytes(100)) + record(3, bytes(101))
+    longer = pcap_header(1) + record(2, bytes(100)) + record(3, bytes(101))
+    want = bench.run("merge-shared", [longer], False, "<", os.path.join(folder, "longer"))[:3]
+    seen = run([filter, "100", bench.name(mixed)])
+    count.check("c: the filter", seen == want and len(want[1]) > 300, seen, want)
     # two records end at byte 176
     seen = run([example, "packets", path], env={**os.environ, "LD_PRELOAD": shim, "FAULT_PIECE": "88", "FAULT_READ": "3-3"})
     count.check("c: the example, whose read fails", seen[:2] == (1, b"") and b"Input/output error" in seen[2], seen)
@@ -1207,6 +1252,30 @@ fn main() -> Result<(), Box<dyn Error>> {
 """
 
 
+# Writes the packets of a file as pcapng, and what refuses the first that can't be written.
+COPY = """
+use std::io::Write;
+fn main() {
+    let bytes = std::fs::read(std::env::args().nth(1).unwrap()).unwrap();
+    let mut capture = capt::Capture::open(&bytes, false).unwrap();
+    let mut writer = capt::Writer::open(capt::Format::Pcapng, capt::Order::Little).unwrap();
+    let mut status = Ok(());
+    while status.is_ok() {
+        status = match capture.next() {
+            Ok(Some(packet)) => writer.put(&packet),
+            Ok(None) => break,
+            Err(error) => Err(error),
+        };
+    }
+    std::io::stdout().write_all(&writer.take().unwrap()).unwrap();
+    if let Err(error) = status {
+        eprintln!("{error}");
+        std::process::exit(1);
+    }
+}
+"""
+
+
 def check_rust(count, folder, library, bench, contents):
     with open(os.path.join(TOP, "bindings", "rust", "examples", "list.rs")) as program:
         command = rust(folder, library, "list", program.read())
@@ -1218,6 +1287,10 @@ def check_rust(count, folder, library, bench, contents):
         count.check(f"rust: {name}", (status, text, error) == want)
         count.check(f"rust: {name}, fed", run(command, input=content) == want)
         count.check(f"rust: {name}, read", run([*command, "-"], input=content) == want)
+    command = rust(folder, library, "copy", COPY)
+    for name, content in contents:
+        copy = merged(bench, "merge-shared", content, False, "<", os.path.join(folder, f"rust-{name}"))
+        count.check(f"rust: a copy of {name}", run([*command, bench.name(content)]) == copy)
     seen = run([*rust(folder, library, "types", TYPES), bench.name(dict(contents)["monday.pcap"]),
                 bench.name(of_ipv6())])
     count.check("rust: types", seen == (0, b"", b""), seen)
@@ -1294,7 +1367,7 @@ def main():
         check_python_processes(count, folder)
         path = bench.name(example)
         for it in (checker, shared):
-            for what in "misuse", "flags", "version":
+            for what in "misuse", "flags", "version", "written":
                 seen = run([it, what, path])
                 count.check(f"c: {what}", seen == (0, b"", b""), seen)
             seen = run([it, "memory"])
@@ -1341,6 +1414,9 @@ def main():
                 count.check(f"valgrind: {name}", status in (0, 1), status)
                 status = run([*watch, checker, "fed", "13", bench.name(content)])[0]
                 count.check(f"valgrind: {name}, fed", status in (0, 1), status)
+                for form in "0", "4":
+                    status = run([*watch, checker, "copy", form, bench.name(content)])[0]
+                    count.check(f"valgrind: {name}, copied", status in (0, 1), status)
     count.end()
 
 

@@ -319,14 +319,16 @@ void capt_text_close(capt_text *text);
 
 /* Opens a capture file that you write packet by packet, in memory. What capt_writer_take gives of it, one text after
  * another, is the file that the command `capt merge --share-interfaces` writes of these packets in this order, or with
- * CAPT_TO_PCAP `capt merge --to pcap`. Flags: CAPT_BIG and CAPT_TO_PCAP. CAPT_DONE, CAPT_MEMORY or CAPT_MISUSE. */
+ * CAPT_TO_PCAP `capt merge --to pcap`; before its first packet a pcap file has no byte. Flags: CAPT_BIG and
+ * CAPT_TO_PCAP. CAPT_DONE, CAPT_MEMORY or CAPT_MISUSE. */
 uint32_t capt_writer_open(capt_writer *writer, uint32_t flags);
 
 /* Puts a packet at the end of the file. Its captured bytes are the `len` bytes at `frame`: `frame` and `captured` of a
  * packet that you read, fewer, or others; the call doesn't look at these two fields of `packet`. The other fields are
  * as capt_next fills them in, also of a packet that you make; `offset` is only for a refusal, `instance` isn't used.
  *
- * A pcapng file gets the packet's interface (link, snaplen, resolution and time_offset) first, if it has none like it.
+ * A pcapng file gets the packet's interface (link, snaplen, resolution and time_offset) first, if it has none like it;
+ * a resolution of 1 is written as 10^0.
  * The header of a pcap file comes with the first packet, and has the link and the snaplen of that one; its times have
  * microseconds if they can hold each unit of that packet's interface, else nanoseconds.
  *
