@@ -17,7 +17,7 @@ iterable of 1 to 32 sources.
 and read them into memory. With `map=True` each call maps the file of a path instead. If a mapped file gets shorter
 while it is used, the system ends the process (SIGBUS). Bytes that you give mustn't change while they are used.
 
-Threads may share a `Capture`, a `Fed` or a `Table`. One thread at a time works with it, and `close` waits for that
+Threads may share a `Capture`, a `Fed`, a `Table` or a `Writer`. One thread at a time works with it, and `close` waits for that
 thread, even if it waits for a read. After `close` each call raises `Closed`. A call from within a call of the same
 object, as by the handler of a signal, raises RuntimeError. If a handler raises an exception, such as KeyboardInterrupt,
 and that ends an iteration, don't go on with the capture: bytes that were read may be lost.
@@ -37,9 +37,9 @@ from itertools import islice
 from typing import (Any, Callable, Deque, Iterable, Iterator, List, NamedTuple, Optional, Protocol, Sequence, Tuple,
                     TypeVar, Union)
 
-__all__ = ["open", "Capture", "Fed", "Packet", "Ending", "Table", "Report", "Talk", "Side", "FileCounts", "Totals",
-           "Batch", "Error", "Refused", "ReadFailed", "Closed", "TooManyFiles", "report", "report_text", "info",
-           "listing", "blocks", "convert", "merge", "join", "rule_name", "version"]
+__all__ = ["open", "Capture", "Fed", "Packet", "Batch", "Ending", "Table", "Writer", "Report", "Talk", "Side",
+           "FileCounts", "Totals", "Error", "Refused", "ReadFailed", "Closed", "TooManyFiles", "report", "report_text",
+           "info", "listing", "blocks", "convert", "merge", "join", "rule_name", "version"]
 
 Path = Union[str, os.PathLike]
 Buffer = Union[bytes, bytearray, memoryview, mmap.mmap]
@@ -59,6 +59,7 @@ _DONE, _PACKET, _REFUSED, _READ, _MEMORY, _MISUSE, _MORE = 0, 1, 2, 3, 5, 6, 7
 _ALLOW_CUT, _BIG, _TO_PCAP, _IPV6 = 1, 2, 4, 8
 _ROOM, _PIECE, _MOST_FILES = 256, 1 << 18, 32
 _NOT_ENDED = "the capture hasn't ended: its packets come first"
+_NO_PACKET = "no packet has these fields"
 
 
 class _Place(ctypes.Structure):
@@ -123,6 +124,9 @@ def _load() -> ctypes.CDLL:
         ("capt_table_talk", status, pointer, size, pointer),
         ("capt_table_file", status, pointer, status, pointer),
         ("capt_table_totals", status, pointer, pointer),
+        ("capt_writer_open", status, pointer, flags),
+        ("capt_writer_put", status, pointer, pointer, pointer, size, pointer),
+        ("capt_writer_take", status, pointer, pointer),
         ("capt_list", status, pointer, size, flags, pointer, pointer),
         ("capt_blocks", status, pointer, size, flags, pointer, pointer),
         ("capt_info", status, pointer, size, flags, pointer, pointer),
@@ -581,7 +585,7 @@ _Self = TypeVar("_Self", bound="_Handle")
 
 
 class _Handle:
-    """What threads work with, one at a time: `_held` is a reader or a table."""
+    """What threads work with, one at a time: `_held` is a reader, a table or a writer."""
 
     def __init__(self, held: Any):
         # a thread may take the lock again, as in the handler of a signal, and then sees that it is within a call
@@ -949,6 +953,57 @@ class Table(_Handle):
     def report(self) -> Report:
         """The report over the packets that were taken so far."""
         return self._call(self._held.report)
+
+
+class _Writing:
+    """A capture file that is written packet by packet."""
+
+    def __init__(self, flags: int):
+        self._writer, self._place = _Reader(), _Place()
+        _check(_library.capt_writer_open(ctypes.byref(self._writer), flags), self._place)
+
+    def put(self, packet: Any, data: bytes) -> None:
+        carry, seconds = divmod((packet.seconds or 0) + (1 << 63), 1 << 64)
+        try:
+            fields = _FIELDS.pack(0, packet.offset, packet.instance, seconds - (1 << 63), packet.numerator or 0,
+                                  packet.denominator or 0, packet.resolution, packet.time_offset, carry, 0,
+                                  packet.original, packet.snaplen, packet.link)
+        except struct.error:
+            raise ValueError(_NO_PACKET) from None
+        status = _library.capt_writer_put(ctypes.byref(self._writer), fields, data, len(data),
+                                          ctypes.byref(self._place))
+        _check(status, self._place, misuse=_NO_PACKET)
+
+    def take(self) -> bytes:
+        text = _Text()
+        try:
+            _check(_library.capt_writer_take(ctypes.byref(self._writer), ctypes.byref(text)), self._place)
+            return ctypes.string_at(text.at, text.len)
+        finally:
+            _library.capt_text_close(ctypes.byref(text))
+
+    def close(self) -> None:
+        _library.capt_close(ctypes.byref(self._writer))
+
+    __del__ = close
+
+
+class Writer(_Handle):
+    """A capture file of the format `to`, "pcapng" or "pcap", in that order of bytes, which is written packet by packet,
+    in memory: what `take` returns, one after another, is the file. Close it, or use it as a context."""
+
+    def __init__(self, to: str = "pcapng", order: str = "little"):
+        super().__init__(_Writing(_form_flags(False, to, order)))
+
+    def put(self, packet: Packet, data: Optional[Buffer] = None) -> None:
+        """Puts a packet, or an object with the fields of one, at the end of the file, with those captured bytes in place
+        of its own. If the file can't hold it exactly, `Refused` is raised; if no packet has such fields, ValueError.
+        Either leaves the file as it was."""
+        self._call(self._held.put, packet, bytes(packet.data if data is None else data))
+
+    def take(self) -> bytes:
+        """What was written since the last call."""
+        return self._call(self._held.take)
 
 
 def report(sources: Sources, allow_cut: bool = False, *, ipv6: bool = False, map: bool = False) -> Report:

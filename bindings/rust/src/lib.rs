@@ -169,6 +169,15 @@ extern "C" {
     fn capt_convert(at: *const u8, len: usize, flags: u32, text: *mut RawText, place: *mut RawPlace) -> u32;
     fn capt_merge(files: *const RawBytes, count: usize, flags: u32, text: *mut RawText, place: *mut RawPlace) -> u32;
     fn capt_join(files: *const RawBytes, count: usize, flags: u32, text: *mut RawText, place: *mut RawPlace) -> u32;
+    fn capt_writer_open(writer: *mut RawReader, flags: u32) -> u32;
+    fn capt_writer_put(
+        writer: *mut RawReader,
+        packet: *const RawPacket,
+        frame: *const u8,
+        len: usize,
+        place: *mut RawPlace,
+    ) -> u32;
+    fn capt_writer_take(writer: *mut RawReader, text: *mut RawText) -> u32;
     fn capt_text_close(text: *mut RawText);
     fn capt_rule_name(rule: u32, buffer: *mut u8, room: usize) -> usize;
     fn capt_version(buffer: *mut u8, room: usize) -> usize;
@@ -199,6 +208,8 @@ pub enum Error {
     Files,
     /// Bytes were fed after the end.
     Ended,
+    /// No packet has these fields.
+    NoPacket,
 }
 
 fn text_of(call: impl Fn(*mut u8, usize) -> usize) -> String {
@@ -234,6 +245,7 @@ impl fmt::Display for Error {
             Error::Memory => write!(out, "fault: memory"),
             Error::Files => write!(out, "fault: files"),
             Error::Ended => write!(out, "fault: fed after the end"),
+            Error::NoPacket => write!(out, "fault: no packet has these fields"),
         }
     }
 }
@@ -247,6 +259,7 @@ impl fmt::Debug for Error {
             Error::Memory => out.write_str("Memory"),
             Error::Files => out.write_str("Files"),
             Error::Ended => out.write_str("Ended"),
+            Error::NoPacket => out.write_str("NoPacket"),
         }
     }
 }
@@ -942,6 +955,81 @@ fn form(to: Format, order: Order, allow_cut: bool) -> u32 {
     let format = if to == Format::Pcap { TO_PCAP } else { 0 };
     let order = if order == Order::Big { BIG } else { 0 };
     cut(allow_cut) | format | order
+}
+
+/// A capture file that is written packet by packet, in memory. What [`Writer::take`] gives, one after another, is the
+/// file.
+pub struct Writer {
+    writer: RawReader,
+}
+
+// SAFETY: what a writer holds is its own
+unsafe impl Send for Writer {}
+
+impl Writer {
+    /// A file of that format, in that order of bytes, without packets.
+    pub fn open(to: Format, order: Order) -> Result<Writer, Error> {
+        let mut writer = Writer { writer: CLOSED };
+        // SAFETY: the writer begins as zero
+        match unsafe { capt_writer_open(&mut writer.writer, form(to, order, false)) } {
+            DONE => Ok(writer),
+            _ => Err(Error::Memory),
+        }
+    }
+
+    /// Puts a packet at the end of the file. If that can't hold it exactly, it is refused. After an error the file is as
+    /// it was.
+    pub fn put(&mut self, packet: &Packet<'_>) -> Result<(), Error> {
+        let carry = packet.seconds.checked_add(1 << 63).and_then(|seconds| u32::try_from(seconds >> 64).ok());
+        let Some(carry) = carry else {
+            return Err(Error::NoPacket);
+        };
+        let raw = RawPacket {
+            frame: packet.data.as_ptr(),
+            offset: packet.offset,
+            instance: packet.instance,
+            // what the carry leaves fits
+            seconds: (packet.seconds - (i128::from(carry) << 64)) as i64,
+            numerator: packet.numerator,
+            denominator: packet.denominator,
+            resolution: packet.resolution,
+            time_offset: packet.time_offset,
+            carry,
+            captured: 0,
+            original: packet.original,
+            snaplen: packet.snaplen,
+            link: packet.link,
+        };
+        let mut place = RawPlace::default();
+        // SAFETY: the captured bytes are there while the call runs
+        let status = unsafe {
+            capt_writer_put(&mut self.writer, &raw, packet.data.as_ptr(), packet.data.len(), &mut place)
+        };
+        match status {
+            DONE => Ok(()),
+            REFUSED | MEMORY => Err(error_of(status, place, Vec::new())),
+            _ => Err(Error::NoPacket),
+        }
+    }
+
+    /// What was written since the last call.
+    pub fn take(&mut self) -> Result<Vec<u8>, Error> {
+        // SAFETY: the writer is open
+        made(|text, _| unsafe { capt_writer_take(&mut self.writer, text) })
+    }
+}
+
+impl fmt::Debug for Writer {
+    fn fmt(&self, out: &mut fmt::Formatter<'_>) -> fmt::Result {
+        out.debug_struct("Writer").finish_non_exhaustive()
+    }
+}
+
+impl Drop for Writer {
+    fn drop(&mut self) {
+        // SAFETY: a writer may be closed at any time
+        unsafe { capt_close(&mut self.writer) }
+    }
 }
 
 /// A capture as a file of a format.
