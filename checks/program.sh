@@ -328,7 +328,7 @@ explained 'blocks of a pcap file, explained' 'refused: file 1 offset 0 rule 1 ma
 input=$one; explained 'blocks of standard input, explained' 'refused: file 1 offset 0 rule 1 magic
   -: only pcapng files have blocks, and this is a pcap file: capt list shows its packets' blocks --explain -; input=
 explained 'blocks of a text, explained' 'refused: file 1 offset 0 rule 1 magic
-  text: only pcapng files have blocks, and this isn't one' blocks --explain text
+  text: only pcapng files have blocks, and this isn'\''t one' blocks --explain text
 explained 'a text, explained' 'refused: file 1 offset 0 rule 1 magic
   text: this is no capture of pcap or pcapng' list --explain text
 for kind in 'gzip zcat \x1f\x8b\x08\0' 'zstd zstdcat \x28\xb5\x2f\xfd' 'xz xzcat \xfd7zXZ\0' 'lz4 lz4cat \x04\x22\x4d\x18' 'bzip2 bzcat BZh9'; do

@@ -261,7 +261,7 @@ the greatest first; N is at least 1";
 pub(crate) const TIME_HELP: &str = "Form of times,
 default exact";
 
-pub(crate) const IGNORE_HELP: &str = "Let packets differ in KIND";
+pub(crate) const IGNORE_HELP: &str = "Let KIND differ";
 
 pub(crate) const WHOLE_HELP: &str = "Write a new file beside OUT, and rename it to OUT once
 all is done: a run that fails leaves OUT as it was.

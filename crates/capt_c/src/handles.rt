@@ -1,4 +1,6 @@
 //! What the library keeps for a caller between calls.
+ghost use Rattle.std.specs.Coded.{coded_option};
+ghost use Rattle.capt_c.specs.contracts.handles.HandleValue.{the_row as held_row};
 ghost use Rattle.std.specs.Prelude.{◌≡◌, IsOkUnless, IsSome, IfSome, OnErr, OnOk, Option, is_some, Some, None};
 ghost use Rattle.cap_bytes.specs.declared.faults.Fault.{Fault};
 ghost use Rattle.capt_c.specs.HandleValue.{IsClosed};
@@ -35,7 +37,7 @@ pub enum HandleValue {
 #[repr(C)]
 pub struct OwnedPointer {
     at: *mut u8,
-    pub ghost value: { Option HandleValue },
+    pub ghost value: { Option HandleValue } by { coded_option (held_row.coded) },
 }
 
 impl Model for OwnedPointer {

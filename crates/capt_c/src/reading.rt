@@ -257,7 +257,7 @@ fn end_of(held: &mut HandleValue, ending: &mut End) -> u32
     match held {
         HandleValue::Capture(capture) => end_of_capture(capture, ending),
         HandleValue::Fed(fed) => end_of_fed(fed, ending),
-        HandleValue::Table(_) | HandleValue::Text(_) | HandleValue::Writer(_) => MISUSE,
+        HandleValue::Text(_) | HandleValue::Table(_) | HandleValue::Writer(_) => MISUSE,
     }
 }
 
