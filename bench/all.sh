@@ -1,6 +1,6 @@
 #!/usr/bin/env bash
-# What each command of capt costs, beside `cat`, `dd`, plain C programs (count.c, info.c, a loop that copies text) and its
-# peers where they are installed. One table of ratios.
+# What each command of capt costs, beside `cat`, `dd`, plain C programs (count.c, info.c, a loop that copies text) and
+# its peers where they are installed. One table of ratios.
 #
 # A peer gets the options with which its work is nearest to capt's. What it does besides, and what it leaves out:
 #   tshark -n -q -z conv,udp -z conv,tcp   each packet goes through all dissectors; no other protocols' conversations
@@ -10,9 +10,9 @@
 #                                          -tt it also calculates local times
 #   sha256sum                              hashes the file's bytes: 16 more of each record than its data, where a digest has 42
 #   editcap -F, mergecap -I none -F        carry on comments and other options; -I none keeps the interfaces of all files
-# A plain C program checks no more than the lengths that it reads past: count.c knows neither tags nor fragments. What writes
-# files stands beside a `dd` by 64 KiB, which reads and writes the bytes of its inputs: `cat FILE > OUT` of coreutils has the
-# kernel copy them, and is no floor for a program that looks at packets.
+# A plain C program checks no more than the lengths that it reads past: count.c knows neither tags nor fragments. What
+# writes files is compared with a `dd` by 64 KiB, which reads and writes the bytes of its inputs: in `cat FILE > OUT` of
+# coreutils the kernel copies them, which is no floor for a program that looks at packets.
 #
 # Makes its inputs (deterministic, in a folder of its own that is removed again; sizes at 100 percent):
 #   mixed.pcap   1,470,000 packets of 64 to 1,514 bytes in 1,000 conversations, 1.2 GB

@@ -4,7 +4,8 @@
 The packets are of 1,000 conversations, in random order; of 32 files, each packet is in a file at random. Instructions
 don't depend on what else the machine does, and say little of memory and of branches.
 
-Use: bench/instructions.py PROGRAM [WORD]..     of the rows that have one of the words (it wants valgrind, and a C compiler)
+Use: bench/instructions.py PROGRAM [WORD]..     of the rows that have one of the words (it needs valgrind and a C
+                                                compiler)
 """
 import sys
 
@@ -23,7 +24,11 @@ RESOLUTIONS = {6: 10**6, 9: 10**9, 0x80 | 20: 2**20, 7: 10**7}
 
 def pcap(packets):
     """A pcap file of frames with times in milliseconds."""
-    return HEADER + b"".join(struct.pack("<IIII", 1000 + ms // 1000, ms % 1000 * 1000, len(data), len(data)) + data for ms, data in packets)
+
+    def record(ms, data):
+        return struct.pack("<IIII", 1000 + ms // 1000, ms % 1000 * 1000, len(data), len(data)) + data
+
+    return HEADER + b"".join(record(*it) for it in packets)
 
 
 def pcapng(packets, resolution):
@@ -38,8 +43,9 @@ def pcapng(packets, resolution):
         return block(6, struct.pack("<IIIII", 0, high, low, len(data), len(data)) + data)
 
     options = struct.pack("<HHB3xHH", 9, 1, resolution, 0, 0)
-    head = block(0x0A0D0D0A, struct.pack("<IHHq", 0x1A2B3C4D, 1, 0, -1)) + block(1, struct.pack("<HHI", 1, 0, 262144) + options)
-    return head + b"".join(packet(*it) for it in packets)
+    section = block(0x0A0D0D0A, struct.pack("<IHHq", 0x1A2B3C4D, 1, 0, -1))
+    interface = block(1, struct.pack("<HHI", 1, 0, 262144) + options)
+    return section + interface + b"".join(packet(*it) for it in packets)
 
 
 def make(folder, count):
@@ -80,9 +86,8 @@ ROWS = {
 
 def instructions(words, folder):
     """How many instructions a run takes."""
-    run = subprocess.run(
-        ["valgrind", "--tool=callgrind", "--callgrind-out-file=/dev/null", *words], cwd=folder, capture_output=True, text=True
-    )
+    words = ["valgrind", "--tool=callgrind", "--callgrind-out-file=/dev/null", *words]
+    run = subprocess.run(words, cwd=folder, capture_output=True, text=True)
     counted = re.search(r"Collected : (\d+)", run.stderr)
     if run.returncode != 0 or not counted:
         sys.exit(f"{' '.join(words)}: status {run.returncode}: {run.stderr[-300:]}")
@@ -98,9 +103,14 @@ def main(words):
             os.mkdir(f"{folder}/{count}")
             make(f"{folder}/{count}", count)
         subprocess.run(["cc", "-O2", "-o", f"{folder}/count", f"{here}/count.c"], check=True)
-        rows = {name: [program, *row] for name, row in ROWS.items()} | {"plain C that counts conversations": [f"{folder}/count", "small.pcap"]}
+        rows = {name: [program, *row] for name, row in ROWS.items()}
+        rows["plain C that counts conversations"] = [f"{folder}/count", "small.pcap"]
         rows = {name: row for name, row in rows.items() if not words[1:] or any(word in name for word in words[1:])}
-        cost = lambda row: (instructions(row, f"{folder}/{MORE}") - instructions(row, f"{folder}/{LESS}")) / (MORE - LESS)
+
+        def cost(row):
+            more, less = (instructions(row, f"{folder}/{count}") for count in (MORE, LESS))
+            return (more - less) / (MORE - LESS)
+
         with ThreadPoolExecutor(os.cpu_count()) as pool:
             for name, taken in zip(rows, pool.map(cost, rows.values())):
                 print(f"{name:40} {taken:6.0f}", flush=True)

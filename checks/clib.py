@@ -140,8 +140,8 @@ def copied(capt, content, allow_cut, to, order):
 
 
 def merged(bench, task, content, allow_cut, order, out):
-    """What the program merges of one file, as a writer writes it: a pcap file of which no packet was put has no byte, not
-    even the header in front of a packet that is refused; and one unit in a second is 10^0, whether it was that or 2^0."""
+    """What the program merges of one file, as a writer writes it: a pcap file without packets has no byte, not even the
+    header in front of a packet that is refused; and one unit in a second is 10^0, whether it was that or 2^0."""
     status, text, error = bench.run(task, [content], allow_cut, order, out)[:3]
     if error.endswith(b" rule 21 no-interface\n"):
         return 0, b"", b""
@@ -238,7 +238,8 @@ def in_batches(capt, source, allow_cut, room, map=False):
                 for it in batch.fields:
                     data, seconds = batch.data[it.start : it.start + it.captured], it.seconds + (it.carry << 64)
                     time = (seconds, it.numerator, it.denominator) if it.denominator else (None, None, None)
-                    packets.append((*time, it.offset, it.instance, it.resolution, it.time_offset, it.original, it.snaplen, it.link, data))
+                    place, interface = (it.offset, it.instance), (it.resolution, it.time_offset)
+                    packets.append((*time, *place, *interface, it.original, it.snaplen, it.link, data))
             end = capture.ending
     except capt.Error as error:
         end = str(error)
@@ -267,7 +268,8 @@ def check_batches_apart(count, capt, example):
     """A packet is in a batch or in an iteration: what one has left isn't lost for the other without a word."""
     with capt.open(example) as capture:
         first = next(iter(capture)).offset
-        count.check("python: batches of what an iteration left", "left some" in str(tried(lambda: next(capture.batches()))))
+        seen = tried(lambda: next(capture.batches()))
+        count.check("python: batches of what an iteration left", "left some" in str(seen), seen)
         rest = [it.offset for it in capture]
     with capt.open(example) as capture:
         before, after = [it.offset for it in next(capture.batches(1)).fields], [it.offset for it in capture]
@@ -698,7 +700,8 @@ def check_c(count, checker, shim, bench, name, content):
             count.check(f"c: fed by {size} {name}", run([checker, "fed", size, *words, path]) == want)
         report = bench.run("report", [content], bool(words))[:3]
         count.check(f"c: table {name}", run([checker, "table", *words, path]) == report)
-        for form, task, order in (0, "merge-shared", "<"), (2, "merge-shared", ">"), (4, "merge-pcap", "<"), (6, "merge-pcap", ">"):
+        forms = (0, "merge-shared", "<"), (2, "merge-shared", ">"), (4, "merge-pcap", "<"), (6, "merge-pcap", ">")
+        for form, task, order in forms:
             out = os.path.join(bench.folder, f"copy-{form}-{len(words)}-{name}")
             copy = merged(bench, task, content, bool(words), order, out)
             seen = run([checker, "copy", str(form), *words, path])
@@ -845,7 +848,8 @@ def check_faults(count, checker, shim, path, content):
         status, _, error = run([checker, "table", path], env=environment)
         count.check(f"c: growth of a table {at}", (status, error) in ((0, b""), (1, b"fault: memory\n"), (3, b""), (17, b"fault: memory\n"), (6, b"")))
         status, text, error = run([checker, "fed", "7", path], env={**os.environ, "LD_PRELOAD": shim, "FAULT_GROWTHS": f"{at}-{at + 1}"})
-        seen = run([checker, "copy", "0", path], env={**os.environ, "LD_PRELOAD": shim, "FAULT_GROWTHS": f"{at}-{at + 1}"})
+        faults = {"LD_PRELOAD": shim, "FAULT_GROWTHS": f"{at}-{at + 1}"}
+        seen = run([checker, "copy", "0", path], env={**os.environ, **faults})
         count.check(f"c: growth of a writer {at}", seen in (copied, (3, b"", b"")), seen)
         count.check(f"c: growth of a fed reader {at}", (status, error) in ((0, b""), (1, b"fault: memory\n"), (3, b"")))
     offsets = set()
@@ -880,7 +884,8 @@ def check_example(count, folder, library, shim, bench, content):
     # the packets of at least so many bytes, as a merge writes them of a file of these
     filter = os.path.join(folder, "filter")
     source = os.path.join(CRATE, "examples", "filter.c")
-    subprocess.run(["cc", "-std=c11", "-I", library, "-o", filter, source, os.path.join(library, "libcapt.a")], check=True)
+    words = ["cc", "-std=c11", "-I", library, "-o", filter, source, os.path.join(library, "libcapt.a")]
+    subprocess.run(words, check=True)
     mixed = pcap_header(1) + record(1, bytes(99)) + record(2, bytes(100)) + record(3, bytes(101))
     longer = pcap_header(1) + record(2, bytes(100)) + record(3, bytes(101))
     want = bench.run("merge-shared", [longer], False, "<", os.path.join(folder, "longer"))[:3]

@@ -124,7 +124,8 @@ def check(crate, folder, room, rlibs, only):
     for found in {os.path.dirname(rlibs[library]) for library in here} | {f"{kit()}/rlibs"}:
         words += ["-L", f"dependency={found}"]
     words += ["--links", f"{crate.name}=", "--jobs", "1", "--incremental", f"{room}/kept"]
-    words += ["--antt-project", f"{kit()}/rattle/logic/antt-project.json", "--logic-built", f"{kit()}/logic_built", *only]
+    words += ["--antt-project", f"{kit()}/rattle/logic/antt-project.json", "--logic-built", f"{kit()}/logic_built"]
+    words += only
     for is_last in (False, True):
         status, said = run(words, folder, crate.name)
         # (most likely for memory)
@@ -207,7 +208,8 @@ def room_of(crate, rooms):
 
 
 def link_if_proved(one, other):
-    """Copies a file that a check kept: what it proved by a link, since a later check replaces such a file, and changes none."""
+    """Copies a file that a check kept: what it proved by a link, since a later check replaces such a file, and changes
+    none."""
     (link_or_copy if one.endswith(".oantt") else shutil.copy2)(one, other)
 
 
@@ -275,8 +277,8 @@ def link_or_copy(one, other):
 
 
 class Turns:
-    """The groups that are still to be tried, each once the libraries below its crate are built, and once the crate was checked
-    as it stands, if it has several groups."""
+    """The groups that are still to be tried, each once the libraries below its crate are built, and once the crate was
+    checked as it stands, if it has several groups."""
 
     def __init__(self, groups, room, rlibs):
         self.left, self.room, self.rlibs = list(groups), room, rlibs
@@ -290,7 +292,8 @@ class Turns:
             crate = group.crate
             if not self.rlibs.are_below(crate):
                 continue
-            if self.counts[crate.name] > 1 and crate.name not in self.begun and all(it.name in self.rlibs for it in crate.below):
+            is_due = self.counts[crate.name] > 1 and crate.name not in self.begun
+            if is_due and all(it.name in self.rlibs for it in crate.below):
                 self.begun[crate.name] = None
                 return lambda: self.begin(crate)
             if self.begun.get(crate.name, []) is not None:
@@ -307,7 +310,8 @@ class Turns:
     def tried(self, group):
         """Tries a group of a crate, unless it isn't proved as it stands."""
         if self.begun.get(group.crate.name):
-            return {}, [f"{edit.label}: not tried, since {group.crate.name} isn't proved as it stands" for edit in group.edits]
+            why = f"not tried, since {group.crate.name} isn't proved as it stands"
+            return {}, [f"{edit.label}: {why}" for edit in group.edits]
         return tried(group, self.room, self.rlibs)
 
 

@@ -1,9 +1,9 @@
 #!/usr/bin/env python3
 """Prints what man/capt.1 takes from the helps, as troff: the commands and the options.
 
-The helps are those of checks/says.txt, which program.sh compares with what the program prints. An option has the text of
-its commands' helps, after the names of these commands. The options of FULLER, and those that no command has, have the
-text of `capt --help`.
+The helps are those of checks/says.txt, which program.sh compares with what the program prints. An option has the text
+of its commands' helps, after the names of these commands. The options of FULLER, and those that no command has, have
+the text of `capt --help`.
 
 Use: checks/manual.py            prints it
      checks/manual.py --write    writes it between the marks of man/capt.1
@@ -14,7 +14,7 @@ import pathlib, re, sys, textwrap
 TOP = pathlib.Path(__file__).resolve().parent.parent
 PAGE = TOP / "man/capt.1"
 MARKS = ('.\\" BEGIN checks/manual.py --write\n', '.\\" END\n')
-# the options of which `capt --help` says more than the commands' helps
+# `capt --help` says more about these options than the commands' helps
 FULLER = ("explain", "help", "ignore", "ipv6", "time", "unit")
 EVERY = "each command"
 HEAD = """.SH OPTIONS

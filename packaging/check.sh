@@ -3,7 +3,7 @@
 # in another folder, compares, runs the packed programs over examples/, and builds and runs LIBRARY's program for C by
 # what the packages of the library install, and that for Python by the wheel.
 #
-# Use: packaging/check.sh [PROGRAM [LIB]]     (as packaging/make.sh, and with CMake if it is there; it isn't in the gate)
+# Use: packaging/check.sh [PROGRAM [LIB]]     (as packaging/make.sh, with CMake if it is there; it isn't in the gate)
 set -euo pipefail
 program=$(realpath "${1:-$(dirname "$0")/../crates/capt/out/capt}")
 lib=$(realpath "${2:-$(dirname "$0")/../lib}")
@@ -69,11 +69,17 @@ fi
 walked=$'1 link 1 bytes 60\n2 link 1 bytes 60\n3 link 1 bytes 60'
 # says WANTED COMMAND..: whether a command prints that
 says() { [ "$("${@:2}")" = "$1" ]; }
-for walk in "${built[@]}"; do judged "$walk" says "$walked" env LD_LIBRARY_PATH="$place" "$work/c/$walk" monday.pcap; done
+for walk in "${built[@]}"; do
+    judged "$walk" says "$walked" env LD_LIBRARY_PATH="$place" "$work/c/$walk" monday.pcap
+done
 judged 'the soname' says 'libcapt.so.1' basename "$(readlink -f "$place/libcapt.so")"
 # the wheel has the library: nothing else says where it is
 judged 'the wheel' python3 -m pip install -q --no-index --target "$work/site" "$work"/once/*.whl
-printf 'import sys, capt\nfor packet in capt.open(sys.argv[1]):\n    print(packet.seconds, "link", packet.link, "bytes", len(packet.data))' > "$work/walk.py"
+cat > "$work/walk.py" << END
+import sys, capt
+for packet in capt.open(sys.argv[1]):
+    print(packet.seconds, "link", packet.link, "bytes", len(packet.data))
+END
 judged 'by the wheel' says "$walked" env -u CAPT_LIBRARY PYTHONPATH="$work/site" python3 "$work/walk.py" monday.pcap
 echo "$passed passed, $failed failed"
 [ "$failed" = 0 ]

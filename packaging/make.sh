@@ -129,8 +129,8 @@ if [ -d "$lib" ]; then
     install_library
     pack libcapt1 libs "libc6 (>= $(glibc_of "$lib/libcapt.so.1"))" "packet captures, read and reported by proved code
  The library that a program is linked with which reads captures by capt."
-    pack libcapt-dev libdevel "libcapt1 (= $version)" "packet captures, read and reported by proved code: for development
- The headers, the static library, and what pkg-config and CMake want."
+    pack libcapt-dev libdevel "libcapt1 (= $version)" "packet captures, read and reported by proved code: headers
+ The headers, the static library, and files for pkg-config and CMake."
     make_wheel
 else
     echo "without $lib, which ./build.sh lib makes, libcapt1, libcapt-dev and the wheel are left out" >&2

@@ -1,7 +1,8 @@
 #!/usr/bin/env bash
 # Links the archive that `rt lib` or `build.sh lib` made of this crate as libcapt: puts libcapt.a, libcapt.so, capt.h,
-# capt_file.h, and what pkg-config and CMake want, capt.pc and cmake/, into a folder. Only the names that begin with capt_ are seen from outside: those of the shared
-# library are listed in capt.map, each under the release that brought it.
+# capt_file.h, and what pkg-config and CMake want, capt.pc and cmake/, into a folder. Only the names that begin with
+# capt_ are seen from outside: those of the shared library are listed in capt.map, each under the release that brought
+# it.
 #
 # Use: crates/capt_c/link.sh ARCHIVE FOLDER [PREFIX]     (it wants a C compiler and binutils; PREFIX, for capt.pc, is /usr/local)
 set -euo pipefail

@@ -18,8 +18,8 @@ and read them into memory. With `map=True` each call maps the file of a path ins
 while it is used, the system ends the process (SIGBUS). Bytes that you give mustn't change while they are used.
 
 Threads may share a `Capture`, a `Fed`, a `Table` or a `Writer`. One thread at a time works with it, and `close` waits
-for that thread, even if it waits for a read. After `close` each call raises `Closed`. A call from within a call of the same
-object, as by the handler of a signal, raises RuntimeError. If a handler raises an exception, such as KeyboardInterrupt,
+for that thread, even if it waits for a read. After `close` each call raises `Closed`. A call from within a call of the
+same object, as by the handler of a signal, raises RuntimeError. If a handler raises an exception, such as KeyboardInterrupt,
 and that ends an iteration, don't go on with the capture: bytes that were read may be lost.
 """
 import ctypes
@@ -997,8 +997,8 @@ class Writer(_Handle):
 
     def put(self, packet: Packet, data: Optional[Buffer] = None) -> None:
         """Puts a packet, or an object with the fields of one, at the end of the file, with those captured bytes in
-        place of its own. If the file can't hold it exactly, `Refused` is raised; if no packet has such fields, ValueError.
-        Either leaves the file as it was."""
+        place of its own. If the file can't hold it exactly, `Refused` is raised; if no packet has such fields,
+        ValueError. Either leaves the file as it was."""
         self._call(self._held.put, packet, bytes(packet.data if data is None else data))
 
     def take(self) -> bytes:

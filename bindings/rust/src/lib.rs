@@ -977,8 +977,8 @@ impl Writer {
         }
     }
 
-    /// Puts a packet at the end of the file. If that can't hold it exactly, it is refused. After an error the file is as
-    /// it was.
+    /// Puts a packet at the end of the file. If that can't hold it exactly, it is refused. After an error the file is
+    /// as it was.
     pub fn put(&mut self, packet: &Packet<'_>) -> Result<(), Error> {
         let carry = packet.seconds.checked_add(1 << 63).and_then(|seconds| u32::try_from(seconds >> 64).ok());
         let Some(carry) = carry else {

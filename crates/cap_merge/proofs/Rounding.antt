@@ -29,7 +29,7 @@ unfolding first_from
 from_has ts from zero = tt
 from_has ts from (suc count) = sooner_has ts (first_from ts from count) (from + count) (from_has ts from count)
 
--- a turn k after two others a and b, of which b isn't before a
+-- a turn k after two others, a and b, where b isn't before a
 below_both : (ts : List Turn) (a b k : ℕ)
     → is_lt (clock_cmp (turn_at ts k).clock (turn_at ts b).clock) ≡ true
     → is_lt (clock_cmp (turn_at ts b).clock (turn_at ts a).clock) ≡ true

@@ -119,8 +119,8 @@ const MERGED: [(Side, Side, &[Came], Option<(u32, u64)>); 6] = [
 ];
 
 // Many files, the packets that come, and the file and the offset of the refusal that ends them. Row by row: equal
-// clocks, also of files that run back; equal times of many forms; refusals among packets of the same clock, and later;
-// a refusal before all packets.
+// clocks, and files whose times go backward; equal times of many forms; refusals among packets of the same clock, and
+// later; a refusal before all packets.
 const MANY: [(&[Side], &[Came], Option<(u32, u64)>); 4] = [
     (
         &[

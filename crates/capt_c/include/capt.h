@@ -325,7 +325,7 @@ uint32_t capt_writer_open(capt_writer *writer, uint32_t flags);
 
 /* Puts a packet at the end of the file. Its captured bytes are the `len` bytes at `frame`: `frame` and `captured` of a
  * packet that you read, fewer, or others; the call doesn't look at these two fields of `packet`. The other fields are
- * as capt_next fills them in, also of a packet that you make; `offset` is only for a refusal, `instance` isn't used.
+ * as capt_next fills them in, even for a packet that you make; `offset` is only for a refusal, `instance` isn't used.
  *
  * A pcapng file gets the packet's interface (link, snaplen, resolution and time_offset) first, if it has none like it;
  * a resolution of 1 is written as 10^0.

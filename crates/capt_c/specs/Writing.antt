@@ -95,7 +95,7 @@ emptied writer = record { bytes = []; order = writer.order; form = writer.form }
 
 -- ---- what the calls return and leave
 
--- A file is open of which no packet was put; or no memory was found.
+-- A file without packets is open; or no memory was found.
 abbrev pub OpensWriter : Format → Order → ℕ → Option HandleValue → Type 0
 OpensWriter format order status None = status ≡ 5
 OpensWriter format order status (Some (helds.Capture c)) = ⊥

@@ -219,7 +219,7 @@ fn file_shown(it: &Counted) -> CFile
     }
 }
 
-// What is counted of all packets, of which there are so many conversations and files.
+// What is counted of all packets, with so many conversations and files.
 fn totals_shown(totals: &TableTotals, talks: u64, files: u32) -> CTotals
     ensures { ShowsTotals (record { totals = totals.now; talks = talks; files = files }) result }
 {

@@ -127,8 +127,8 @@ fn units_of(packet: &CPacket, interface: &Interface) -> Option<Option<u64>>
     }
 }
 
-/// The packet that numbers tell, of which that many bytes were captured: that of which a reader would show these
-/// numbers. `None` if there is none.
+/// The packet that a caller's numbers tell, with that many captured bytes: the one for which a reader would show these
+/// numbers. `None` if there is no such packet.
 pub fn told_packet(packet: &CPacket, captured: usize) -> Option<Meta>
     ensures some { IfSome result (λ meta. TellsPacket packet.now captured meta) }
     ensures none { result ≡ None → (meta : Meta) → TellsPacket packet.now captured meta → ⊥ }
