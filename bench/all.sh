@@ -21,13 +21,16 @@
 #   many.pcap    2,000,000 packets of 64 bytes in 1,000,000 conversations, 0.16 GB
 #   far.pcap     800,000 fragments of 8 bytes, each of which opens a group of 65,512 bytes, 47 MB
 #   part1 to 8   1,200,000 packets of 64 to 1,514 bytes, whose times come in turn, 1 GB together
-# and mixed.pcapng and small.pcapng, which capt makes of the first two. Holds the conversations that capt prints to those
-# of count.c, and what it prints of a file to what info.c counts: `info` all of it, `check` the packets and how many of
-# them are truncated. A row has the processor seconds of capt (user and system,
-# the best of several runs), its peak of resident memory, and its processor seconds as a ratio to those of each other
-# program in the same run, whose runs come in turn. Aims, as ratios: report at most 1.5 of count.c (2 on many), info 1.5 of
-# info.c, diff 1.5 of info of both files, convert and merge 1.8 of `dd`,
-# a third of editcap and half of mergecap on small packets.
+# and mixed.pcapng and small.pcapng, which capt makes of the first two. tshark, which takes a hundred times as long,
+# reads a twentieth of each (for a row of its own, in which capt does too). Holds the conversations that capt prints to
+# those of count.c, and what it prints of a file to what info.c counts: `info` all of it, `check` the packets and how
+# many of them are truncated.
+#
+# Prints a table in Markdown, whose rows have the processor seconds of capt (user and system, the best of several runs),
+# their ratio to those of each other program in the same run, whose runs come in turn, and the peak of capt's resident
+# memory. Aims, as ratios: report at most 1.4 of count.c in random order, 1.6 in turn, 1.05 on mixed sizes (2 on many),
+# info 1.5 of info.c, diff 1.5 of info of both files, convert and merge 1.8 of `dd`, a third of editcap and half of
+# mergecap on small packets.
 #
 # Use: bench/all.sh [PROGRAM] [PERCENT OF THE SIZES] [RUNS]
 set -eu
@@ -70,6 +73,11 @@ make("small.pcap", 50_000 * percent, lambda i: small[choice.randrange(2000)])
 make("turns.pcap", 50_000 * percent, lambda i: turns[i % 1000])
 make("many.pcap", 2 * talks, lambda i: frame(i * 617 % talks, i >= talks, 64))
 make("far.pcap", 8_000 * percent, far)
+some = max(1, talks // 20)
+make("part_of_mixed.pcap", 735 * percent, lambda i: mixed[i % 8000])
+make("part_of_small.pcap", 2_500 * percent, lambda i: small[choice.randrange(2000)])
+make("part_of_turns.pcap", 2_500 * percent, lambda i: turns[i % 1000])
+make("part_of_many.pcap", 2 * some, lambda i: frame(i * 617 % some, i >= some, 64))
 parts = [f"part{n}.pcap" for n in range(1, 9)]
 for n, part in enumerate(parts):
     make(part, 1_500 * percent, lambda i: mixed[i % 8000], n, 8)
@@ -92,18 +100,17 @@ def text_of(*words):
     with open("text", "wb") as out:
         subprocess.run([program, *words], check=True, stdout=out)
 
-def row(label, own, beside, output=False):
+def row(command, source, own, plain={}, peer={}, floor={}):
     """Measures capt and others in turn, and prints how they compare."""
     best = {}
-    for n in range(runs):
-        for name, words in {"capt": own, **beside}.items():
-            if (n == 0 or not name.startswith("tshark")) and shutil.which(words[0]):
-                taken = measure(words, ["out"])
-                if taken:
-                    best[name] = min(taken, best.get(name, taken))
+    for _ in range(runs):
+        for name, words in {"capt": own, **plain, **peer, **floor}.items():
+            if shutil.which(words[0]) and (taken := measure(words, ["out"])):
+                best[name] = min(taken, best.get(name, taken))
     own_cost, peak = best["capt"][0], best["capt"][4]
-    ratios = "  ".join(f"{name} {own_cost / max(cost[0], 0.001):.2f}" for name, cost in best.items() if name != "capt")
-    print(f"{label:22} {own_cost:7.2f} s {peak:6.1f} MiB   {ratios}", flush=True)
+    ratios = [", ".join(f"{own_cost / max(best[it][0], 0.001):.2f} of {it}" for it in others if it in best)
+              for others in (plain, peer, floor)]
+    print(f"| `{command}` | {source} | {own_cost:.2f} | " + " | ".join(ratios) + f" | {peak:.1f} |", flush=True)
     return peak
 
 def copy(*names):
@@ -111,39 +118,54 @@ def copy(*names):
 
 with open("/proc/cpuinfo") as info:
     model = next((line.split(":")[1].strip() for line in info if line.startswith("model name")), platform.machine())
-print(f"{model}, {os.cpu_count()} processors, load {os.getloadavg()[0]:.1f}; {percent} percent of the sizes, best of {runs} runs")
+print(f"{model}, {os.cpu_count()} processors, load {os.getloadavg()[0]:.1f}; {percent} percent of the sizes, best of {runs} runs\n")
+print("| command | input | seconds | beside plain C | beside a peer | beside `cat` or `dd` | MiB |")
+print("|---|---|---|---|---|---|---|")
+KINDS = {
+    "mixed": "mixed sizes",
+    "small": "small packets in random order",
+    "turns": "small packets in turn",
+    "many": "two small packets a conversation",
+}
+
+def kind_of(file):
+    name, form = file.split(".")
+    return KINDS[name] + ", pcapng" * (form == "pcapng")
+
 peaks = {}
-for name in ("mixed", "small", "turns", "many"):
+for name in KINDS:
     file = f"{name}.pcap"
-    peaks[name] = row(f"report {file}", [program, "report", file],
-        {"cat": ["cat", file], "count.c": ["./count", file],
-         "tshark -n -q -z ..": ["tshark", "-n", "-q", "-z", "conv,udp", "-z", "conv,tcp", "-r", file]})
-more = (peaks["many"] - peaks["small"]) * 2**20 / max(1, talks - 1000)
-print(f"{'':22} {more:.0f} bytes of memory for each further conversation")
-for file in ("mixed.pcap", "small.pcap", "mixed.pcapng", "small.pcapng"):
-    row(f"info {file}", [program, "info", file],
-        {"cat": ["cat", file], "info.c": ["./info", file], "capinfos -Tmtcdae": ["capinfos", "-Tmtcdae", file]})
-for file in ("mixed.pcap", "small.pcap", "mixed.pcapng", "small.pcapng"):
-    row(f"check {file}", [program, "check", file], {"info": [program, "info", file], "info.c": ["./info", file]})
-for file in ("mixed.pcap", "small.pcap", "mixed.pcapng"):
-    row(f"digest {file}", [program, "digest", file], {"sha256sum": ["sha256sum", file]})
+    peaks[name] = row("report", kind_of(file), [program, "report", file], {"count.c": ["./count", file]}, {}, {"cat": ["cat", file]})
+for name in KINDS:
+    file = f"part_of_{name}.pcap"
+    tshark = ["tshark", "-n", "-q", "-z", "conv,udp", "-z", "conv,tcp", "-r", file]
+    row("report", f"a twentieth of {KINDS[name]}", [program, "report", file], {}, {"tshark": tshark})
+for file in ("mixed.pcap", "mixed.pcapng", "small.pcap", "small.pcapng"):
+    row("info", kind_of(file), [program, "info", file],
+        {"info.c": ["./info", file]}, {"capinfos": ["capinfos", "-Tmtcdae", file]}, {"cat": ["cat", file]})
+for file in ("mixed.pcap", "mixed.pcapng", "small.pcap", "small.pcapng"):
+    row("check", kind_of(file), [program, "check", file], {"info.c": ["./info", file]})
+for file in ("mixed.pcap", "small.pcap"):
+    row("digest", kind_of(file), [program, "digest", file], {}, {"sha256sum": ["sha256sum", file]})
 for words in (["list", "small.pcap"], ["list", "small.pcapng"], ["blocks", "small.pcapng"]):
     text_of(*words)
-    peer = {"tcpdump -nn -tt -q": ["tcpdump", "-nn", "-tt", "-q", "-r", words[1]]} if words[0] == "list" else {}
-    row(" ".join(words), [program, *words], {"plain loop over the text": ["./copy", "text"], **peer})
+    peer = {"tcpdump": ["tcpdump", "-nn", "-tt", "-q", "-r", words[1]]} if words[0] == "list" else {}
+    row(words[0], kind_of(words[1]), [program, *words], {"a copy of the text": ["./copy", "text"]}, peer)
 for command, file in (("list", "small.pcap"), ("blocks", "small.pcapng"), ("info", "small.pcap"), ("report", "many.pcap")):
-    row(f"{command} --json {file}", [program, command, "--json", file], {"as text": [program, command, file]})
+    row(f"{command} --json", kind_of(file), [program, command, "--json", file], {}, {"text": [program, command, file]})
 os.remove("text")
-for first, second in (("mixed.pcap", "mixed.pcapng"), ("small.pcap", "small.pcapng"), ("small.pcap", "small.pcap")):
-    row(f"diff {first} {second}", [program, "diff", first, second],
-        {"info of both": [program, "info", first, second], "cat": ["cat", first, second]})
-for source, target in (("mixed.pcap", "pcapng"), ("small.pcap", "pcapng"), ("mixed.pcapng", "pcap"), ("small.pcapng", "pcap")):
-    row(f"convert {source}", [program, "convert", "--to", target, "-o", "out", source],
-        {"dd": copy(source), "editcap": ["editcap", "-F", target, source, "out"]})
-for label, files in (("8 parts", parts), ("small twice", ["small.pcap", "small.pcapng"])):
-    row(f"merge {label}", [program, "merge", "-o", "out", *files],
-        {"dd": copy(*files), "mergecap -I none": ["mergecap", "-I", "none", "-F", "pcapng", "-w", "out", *files]})
-row("report far.pcap", [program, "report", "far.pcap"], {"cat": ["cat", "far.pcap"]})
-row("join far.pcap", [program, "join", "-o", "out", "far.pcap"], {"dd": copy("far.pcap")})
-row("join small.pcap", [program, "join", "-o", "out", "small.pcap"], {"dd": copy("small.pcap")})
+for first, second in (("mixed.pcap", "mixed.pcapng"), ("small.pcap", "small.pcapng")):
+    row("diff", f"{kind_of(first)}, and as pcapng", [program, "diff", first, second],
+        {}, {"info of both": [program, "info", first, second]}, {"cat": ["cat", first, second]})
+for source, target in (("mixed.pcap", "pcapng"), ("mixed.pcapng", "pcap"), ("small.pcap", "pcapng"), ("small.pcapng", "pcap")):
+    row(f"convert --to {target}", kind_of(source), [program, "convert", "--to", target, "-o", "out", source],
+        {}, {"editcap": ["editcap", "-F", target, source, "out"]}, {"dd": copy(source)})
+for label, files in (("8 files of mixed sizes", parts), ("small packets, a file of each format", ["small.pcap", "small.pcapng"])):
+    row("merge", label, [program, "merge", "-o", "out", *files],
+        {}, {"mergecap": ["mergecap", "-I", "none", "-F", "pcapng", "-w", "out", *files]}, {"dd": copy(*files)})
+row("join", kind_of("small.pcap"), [program, "join", "-o", "out", "small.pcap"], {}, {}, {"dd": copy("small.pcap")})
+for command in (["report"], ["join", "-o", "out"]):
+    row(command[0], "fragments, each of which opens a group", [program, *command, "far.pcap"], {}, {}, {"cat": ["cat", "far.pcap"]})
+more = (peaks["many"] - peaks["small"]) * 2**20 / max(1, talks - 1000)
+print(f"\nEach further conversation takes {more:.0f} bytes of memory.")
 PY

@@ -229,8 +229,11 @@ fn add_tail(buffer: &mut BlockBuffer, order: Order, captured: u32)
     ensures { buffer.new ≡ buffer.old ++ packet_tail order captured }
 {
     let size = padded(captured);
-    let zeros = [0u8; 3];
-    buffer.add(zeros.split_at((size - captured) as usize).0);
+    // many packets have none, and to put no bytes costs as much as to put some
+    if size > captured {
+        let zeros = [0u8; 3];
+        buffer.add(zeros.split_at((size - captured) as usize).0);
+    }
     buffer.add_u32(order, 32 + size);
 }
 

@@ -1,6 +1,5 @@
 -- What a call of a device does to the bytes that it tells.
 use Rattle.std.specs.Prelude.{◌≡◌, ◌<◌, ◌||◌, ℕ, List, [], ◌++◌, length, take, Bool, IsTrue, Result, Ok, Err}
-use Rattle.cap_bytes.specs.declared.faults.Fault.{Fault}
 use Rattle.cap_bytes.specs.declared.devices.Broken.{Broken}
 
 -- A reader gave the front of the buffer, and none only at its end or without room. If it
@@ -15,7 +14,7 @@ Gives old (Ok n) new bytes = new ≡ old ++ take n bytes
 Gives old (Err _) new bytes = new ≡ old
 
 -- All the bytes were written, or, at a fault, some number of the first.
-abbrev pub Puts : {A : Type 0} → List ℕ → Result A Fault → List ℕ → List ℕ → Type 0
+abbrev pub Puts : {A E : Type 0} → List ℕ → Result A E → List ℕ → List ℕ → Type 0
 Puts old (Ok _) new bytes = new ≡ old ++ bytes
 Puts old (Err _) new bytes = (n : ℕ) × (new ≡ old ++ take n bytes)
 

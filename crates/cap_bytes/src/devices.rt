@@ -66,22 +66,37 @@ pub trait Sink: Device {
         ensures failed { Self.has_failed self.new ≡ (Self.has_failed self.old || is_err result) }
         ensures can { IsErr result → IsTrue (Self.can_fail self.old) }
         ensures cannot { IsTrue (Self.can_fail self.new) → IsTrue (Self.can_fail self.old) };
+
+    /// Takes all the bytes, by as many calls of `give` as that takes. After a failure it has taken a prefix of them. A
+    /// device for which one call costs less writes this method too.
+    fn give_all(&mut self, bytes: &[u8]) -> Result<(), Broken>
+        ensures bytes { IsTrue (tells_held self.old)
+            → Puts (held self.old) result (held self.new) bytes.now }
+        ensures told { IsTrue (tells_held self.old) → IsTrue (tells_held self.new) }
+        ensures failed { Self.has_failed self.new ≡ (Self.has_failed self.old || is_err result) }
+        ensures can { IsErr result → IsTrue (Self.can_fail self.old) }
+        ensures cannot { IsTrue (Self.can_fail self.new) → IsTrue (Self.can_fail self.old) }
+    {
+        let mut rest = bytes;
+        while !rest.is_empty() {
+            let count = self.give(rest)?;
+            rest = rest.split_at(count).1;
+        }
+        Ok(())
+    }
 }
 
-/// Writes all the bytes, in as many calls of `give` as it takes. Returns `Fault::Write`, and no
-/// other fault, if the writer failed: a prefix of the bytes is written then.
+/// Writes all the bytes. Returns `Fault::Write`, and no other fault, if the writer failed: a prefix of the bytes is
+/// written then.
+#[inline(always)]
 pub fn put_all<W: Sink>(writer: &mut W, bytes: &[u8]) -> Result<(), Fault>
     ensures bytes { IsTrue (W.tells_held writer.old)
         → Puts (W.held writer.old) result (W.held writer.new) bytes.now }
     ensures writer { WriterKeeps (writer_of W.Sink writer.old) (is_err result) (writer_of W.Sink writer.new) }
     ensures fault { IsOkUnless result Fault.Write }
 {
-    let mut rest = bytes;
-    while !rest.is_empty() {
-        match writer.give(rest) {
-            Ok(count) => rest = rest.split_at(count).1,
-            Err(Broken) => return Err(Fault::Write),
-        }
+    match writer.give_all(bytes) {
+        Ok(()) => Ok(()),
+        Err(Broken) => Err(Fault::Write),
     }
-    Ok(())
 }

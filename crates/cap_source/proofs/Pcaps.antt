@@ -26,6 +26,8 @@ use Rattle.cap_source.specs.Items.{SectionProgress, interface_of, meta_of, pcap_
 use Rattle.cap_source.specs.inner.FileState.{pcap_state, noted_by, header_or, first_in_pcap, lent_length, part_of}
 use Rattle.cap_source.specs.inner.FileState.{FileLearns, FileWaits}
 use Rattle.cap_source.specs.inner.FileState.{ReadsTo, FileTakes, FileKeeps}
+use Rattle.cap_source.specs.inner.PeekSlotView.{IsPrepared, with_record}
+use Rattle.cap_source.specs.declared.packets.Meta.{Meta}
 use Rattle.cap_source.specs.declared.readers.Peeked.TheVariants as peeks
 
 pub known_header : (h : Option PcapHeader) (header : PcapHeader) (bytes : List ℕ) → h ≡ Some header
@@ -301,3 +303,19 @@ pub header_reads : (header : PcapHeader) (old new : ReaderState PcapHeader) (p :
     → ReachesHeader old (Ok header) new
     → ReadsTo (pcap_state old p) (pcap_state new p)
 header_reads header old new p h reads = header_by header old.known old new refl h reads
+
+-- A packet of a file, with another record, is what that record tells.
+pub recorded : (file : ℕ) (header : PcapHeader) (meta : Meta) (r : Record) → IsPrepared file (Some header) meta
+    → with_record meta r ≡ meta_of file (interface_of header) r
+recorded file header meta r p = ap (λ m. with_record m r) (sym p)
+
+-- It has what that file's packets have in common, too.
+pub recorded-of : (file : ℕ) (header : PcapHeader) (meta : Meta) (r : Record) → IsPrepared file (Some header) meta
+    → IsPrepared file (Some header) (with_record meta r)
+recorded-of file header meta r p = ap (λ m. with_record m r) p
+
+-- What is kept stays prepared, as the file and its header do.
+pub prepared-kept : (old new : ReaderState PcapHeader) (header : PcapHeader) (meta kept : Meta)
+    → IsPrepared old.file (Some header) meta → new.file ≡ old.file → new.known ≡ Some header → kept ≡ meta
+    → IsPrepared new.file new.known kept
+prepared-kept old new header meta kept p file known same = rw (known, file, same) p

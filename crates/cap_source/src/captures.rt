@@ -11,6 +11,7 @@ ghost use Rattle.cap_source.specs.inner.FileState.{FileAnswers, FileKeeps, FileT
 ghost use Rattle.cap_source.specs.inner.FileState.{ShowsNext, TakesShown};
 ghost use Rattle.cap_source.specs.inner.Fronts.{FrontsAnswer, FrontsFind, FrontsPass, unread_fronts};
 ghost use Rattle.cap_source.specs.inner.Laws.{captures_lawful};
+ghost use Rattle.cap_source.specs.inner.PeekSlotView.{with_reader};
 ghost use Rattle.cap_source.specs.inner.SectionState.{progress_of};
 ghost use Rattle.cap_source.specs.inner.Readers.{reader_file_state, is_there, reader_room};
 
@@ -39,7 +40,8 @@ pub struct Capture<R: Source> {
     next: PeekSlot,
     ghost there: { IsTrue (is_there reader) },
     ghost room: { IsTrue (reader_room reader reached) },
-    ghost sound: { IsSoundFile (reader_file_state reader (progress_of reached)) next } by { Prim.hlevel props },
+    ghost prepared: { with_reader reader next.meta ≡ next.meta },
+    ghost sound: { IsSoundFile (reader_file_state reader (progress_of reached)) next.next } by { Prim.hlevel props },
 }
 
 impl<R: Source> Capture<R> {
@@ -148,11 +150,12 @@ impl<R: Source> Capture<R> {
     // Learns what comes next, unless it is known.
     #[inline(always)]
     fn learn(&mut self) -> Result<(), Fault>
-        ensures answer { LearnsNext (capture_file self.old) self.old.next result (capture_file self.new) self.new.next }
-        ensures reaches { IfOk result (λ _. IfTaken self.new.next
+        ensures answer { LearnsNext (capture_file self.old) self.old.next.next result (capture_file self.new)
+            self.new.next.next }
+        ensures reaches { IfOk result (λ _. IfTaken self.new.next.next
             (ReadsTo (capture_file self.old) (capture_file self.new))) }
-        ensures fronts { self.old.next ≡ None → IsTrue (capture_fronts self.old).told
-            → FrontsAnswer (capture_fronts self.old) result self.new.next (capture_fronts self.new) }
+        ensures fronts { self.old.next.next ≡ None → IsTrue (capture_fronts self.old).told
+            → FrontsAnswer (capture_fronts self.old) result self.new.next.next (capture_fronts self.new) }
         ensures keeps { FileKeeps (capture_file self.old) (capture_file self.new) }
     {
         if self.next.is_some() {
@@ -168,7 +171,8 @@ impl<R: Source> Capture<R> {
     // is known then.
     #[inline(always)]
     fn try_peek(&mut self) -> bool
-        ensures answer { ShowsNext (capture_file self.old) self.old.next result (capture_file self.new) self.new.next }
+        ensures answer { ShowsNext (capture_file self.old) self.old.next.next result (capture_file self.new)
+            self.new.next.next }
         ensures keeps { FileKeeps (capture_file self.old) (capture_file self.new) }
     {
         if self.next.is_some() {
@@ -181,13 +185,13 @@ impl<R: Source> Capture<R> {
     // changed.
     #[inline(always)]
     fn try_next_buffered(&mut self) -> bool
-        requires { self.old.next ≡ None }
-        ensures answer { TakesShown (capture_file self.old) result self.new.next (capture_file self.new) }
+        requires { self.old.next.next ≡ None }
+        ensures answer { TakesShown (capture_file self.old) result self.new.next.next (capture_file self.new) }
         ensures reaches { IsTrue result → FileTakes (capture_file self.old) (capture_file self.new) }
-        ensures fronts { IsTrue (capture_fronts self.old).told → IsTrue result → IfTaken self.new.next
-            (FrontsPass (capture_fronts self.old) self.new.next (capture_fronts self.new)) }
+        ensures fronts { IsTrue (capture_fronts self.old).told → IsTrue result → IfTaken self.new.next.next
+            (FrontsPass (capture_fronts self.old) self.new.next.next (capture_fronts self.new)) }
         ensures keeps { FileKeeps (capture_file self.old) (capture_file self.new) }
-        ensures none { result ≡ false → (capture_file self.new ≡ capture_file self.old) × (self.new.next ≡ None)
+        ensures none { result ≡ false → (capture_file self.new ≡ capture_file self.old) × (self.new.next.next ≡ None)
             × (capture_fronts self.new ≡ capture_fronts self.old) }
     {
         // the commonest format is asked for first, in place of a jump by a table
@@ -208,12 +212,12 @@ impl<R: Source> Capture<R> {
     // reading it.
     #[inline(never)]
     fn find(&mut self) -> Result<(), Fault>
-        requires { self.old.next ≡ None }
-        ensures answer { FileAnswers (capture_file self.old) result self.new.next (capture_file self.new) }
-        ensures reaches { IfOk result (λ _. IfTaken self.new.next
+        requires { self.old.next.next ≡ None }
+        ensures answer { FileAnswers (capture_file self.old) result self.new.next.next (capture_file self.new) }
+        ensures reaches { IfOk result (λ _. IfTaken self.new.next.next
             (FileTakes (capture_file self.old) (capture_file self.new))) }
         ensures fronts { IsTrue (capture_fronts self.old).told
-            → FrontsAnswer (capture_fronts self.old) result self.new.next (capture_fronts self.new) }
+            → FrontsAnswer (capture_fronts self.old) result self.new.next.next (capture_fronts self.new) }
         ensures keeps { FileKeeps (capture_file self.old) (capture_file self.new) }
     {
         open(&mut self.reader)?;
@@ -230,7 +234,7 @@ impl<R: Source> PacketFeed for Capture<R> {
     ghost use Rattle.cap_source.specs.inner.Captures.{ReadsForPacket};
     ghost use Rattle.cap_source.specs.inner.Captures.{capture_fronts};
 
-    ghost feed = { λ c. file_feed (reader_file_state c.reader (progress_of c.reached)) c.next };
+    ghost feed = { λ c. file_feed (reader_file_state c.reader (progress_of c.reached)) c.next.next };
 
     fn head(&mut self) -> Result<Head, Fault>
         ensures answer { GivesHead (capture_feed self.old) result (capture_feed self.new) }
@@ -317,5 +321,5 @@ impl<R: Source> PacketFeed for Capture<R> {
         }
     }
 
-    ghost lawful = { λ c. captures_lawful (reader_file_state c.reader (progress_of c.reached)) c.next c.sound };
+    ghost lawful = { λ c. captures_lawful (reader_file_state c.reader (progress_of c.reached)) c.next.next c.sound };
 }

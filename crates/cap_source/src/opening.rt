@@ -5,8 +5,10 @@ ghost use Rattle.cap_bytes.specs.inner.Window as windows;
 ghost use Rattle.cap_source.specs.Items.{SectionProgress};
 ghost use Rattle.cap_source.specs.inner.FileState.{FileKeeps};
 ghost use Rattle.cap_source.specs.inner.Fronts.{FrontsAnswer, reader_fronts};
+ghost use Rattle.cap_source.specs.inner.PeekSlotView.{with_reader};
 ghost use Rattle.cap_source.specs.inner.Readers.{reader_file_state, is_there, IsReadyReader, is_stopped, OpensReader};
 ghost use Rattle.cap_source.specs.inner.Readers.{LooksAtWindow, reader_by, reader_room};
+ghost use Rattle.cap_source.specs.declared.packets.Meta.{Meta};
 ghost use Rattle.cap_source.specs.declared.section_states.SectionState.{SectionState};
 
 use crate::readers::Reader;
@@ -64,6 +66,7 @@ pub fn open<R: Source>(reader: &mut Reader<R>) -> Result<(), Fault>
         → FrontsAnswer (reader_fronts reader.old progress) result None (reader_fronts reader.new progress) }
     ensures room { (reached : SectionState) → IsTrue (reader_room reader.old reached)
         → IsTrue (reader_room reader.new reached) }
+    ensures prepared { (meta : Meta) → with_reader reader.old meta ≡ meta → with_reader reader.new meta ≡ meta }
 {
     match reader {
         Reader::Unread(window, _) => {

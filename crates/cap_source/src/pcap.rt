@@ -4,6 +4,7 @@ ghost use Rattle.cap_source.specs.Items.{SectionProgress, resolution_of_unit, in
 ghost use Rattle.cap_source.specs.inner.FileState.{FileAnswers, TakesShown, FileKeeps, IfTaken, FileTakes, noted_by};
 ghost use Rattle.cap_source.specs.inner.FileState.{pcap_state};
 ghost use Rattle.cap_source.specs.inner.Fronts.{FrontsAnswer, FrontsPass, pcap_fronts};
+ghost use Rattle.cap_source.specs.inner.PeekSlotView.{IsPrepared};
 
 use crate::feeds::{Ending, FileEnd, NO_KINDS};
 use crate::packets::Meta;
@@ -52,20 +53,33 @@ pub fn ending_of_pcap(cut: Option<CutRest>) -> FileEnd
     }
 }
 
+// What the packets of a pcap file have in common.
+fn common_meta(file: u32, header: PcapHeader) -> Meta
+    ensures { IsPrepared file (Some header) result }
+{
+    Meta {
+        file,
+        offset: 0,
+        format: Format::Pcap,
+        skipped: 0,
+        instance: 0,
+        interface: interface_of_pcap(header),
+        units: None,
+        captured: 0,
+        original: 0,
+    }
+}
+
 /// What a record tells of its packet.
 pub fn meta_of_record(file: u32, header: PcapHeader, given: Record) -> Meta
     ensures { result ≡ meta_of file (interface_of header) given }
 {
     Meta {
-        file,
         offset: given.offset,
-        format: Format::Pcap,
-        skipped: 0,
-        instance: 0,
-        interface: interface_of_pcap(header),
         units: Some(given.units),
         captured: given.captured,
         original: given.original,
+        ..common_meta(file, header)
     }
 }
 
@@ -83,25 +97,25 @@ pub fn noted_of_pcap<R: Source>(reader: &PcapReader<R>) -> Option<Interface>
 /// of them. Returns whether it did: if not, nothing has changed.
 #[inline(always)]
 pub fn try_next_buffered<R: Source>(reader: &mut PcapReader<R>, known: &mut PeekSlot) -> bool
-    requires unknown { known.old ≡ None }
-    ensures answer { (progress : SectionProgress) → TakesShown (pcap_state reader.old progress) result known.new
+    requires unknown { known.old.next ≡ None }
+    requires prepared { IsPrepared reader.old.file reader.old.known known.old.meta }
+    ensures answer { (progress : SectionProgress) → TakesShown (pcap_state reader.old progress) result known.new.next
         (pcap_state reader.new progress) }
     ensures reaches { (progress : SectionProgress) → IsTrue result
         → FileTakes (pcap_state reader.old progress) (pcap_state reader.new progress) }
     ensures keeps { (progress : SectionProgress) → FileKeeps (pcap_state reader.old progress)
         (pcap_state reader.new progress) }
     ensures fronts { IsTrue reader.old.told → IsTrue result
-        → IfTaken known.new (FrontsPass (pcap_fronts reader.old) known.new (pcap_fronts reader.new)) }
-    ensures none { result ≡ false → (reader.new ≡ reader.old) × (known.new ≡ None) }
+        → IfTaken known.new.next (FrontsPass (pcap_fronts reader.old) known.new.next (pcap_fronts reader.new)) }
+    ensures none { result ≡ false → (reader.new ≡ reader.old) × (known.new.next ≡ None) }
+    ensures prepared { IsPrepared reader.new.file reader.new.known known.new.meta }
 {
     let Some(header) = reader.known() else {
         return false;
     };
-    let file = reader.window().file();
     match reader.try_next_buffered(header) {
         Some(record) => {
-            let meta = meta_of_record(file, header, record);
-            known.set_packet(meta, 0);
+            known.set_record(record);
             true
         }
         None => false,
@@ -114,22 +128,23 @@ fn next_record_of<R: Source>(
     header: PcapHeader,
     known: &mut PeekSlot,
 ) -> Result<(), Fault>
-    requires unknown { known.old ≡ None }
+    requires unknown { known.old.next ≡ None }
     requires header { reader.old.known ≡ Some header }
     requires free { reader.old.stop ≡ None }
-    ensures answer { (progress : SectionProgress) → FileAnswers (pcap_state reader.old progress) result known.new
+    ensures answer { (progress : SectionProgress) → FileAnswers (pcap_state reader.old progress) result known.new.next
         (pcap_state reader.new progress) }
     ensures reaches { (progress : SectionProgress) → IfOk result
-        (λ _. IfTaken known.new (FileTakes (pcap_state reader.old progress) (pcap_state reader.new progress))) }
+        (λ _. IfTaken known.new.next (FileTakes (pcap_state reader.old progress) (pcap_state reader.new progress))) }
     ensures keeps { (progress : SectionProgress) → FileKeeps (pcap_state reader.old progress)
         (pcap_state reader.new progress) }
     ensures fronts { IsTrue reader.old.told
-        → FrontsAnswer (pcap_fronts reader.old) result known.new (pcap_fronts reader.new) }
+        → FrontsAnswer (pcap_fronts reader.old) result known.new.next (pcap_fronts reader.new) }
+    ensures prepared { IsPrepared reader.new.file reader.new.known known.new.meta }
 {
-    let file = reader.window().file();
+    known.set_common(common_meta(reader.window().file(), header));
     match reader.next_record() {
         Ok(Some(record)) => {
-            known.set_packet(meta_of_record(file, header, record), 0);
+            known.set_record(record);
             Ok(())
         }
         Ok(None) => {
@@ -149,16 +164,18 @@ pub fn next_of_pcap<R: Source>(
     reader: &mut PcapReader<R>,
     known: &mut PeekSlot,
 ) -> Result<(), Fault>
-    requires unknown { known.old ≡ None }
+    requires unknown { known.old.next ≡ None }
     requires free { reader.old.stop ≡ None }
-    ensures answer { (progress : SectionProgress) → FileAnswers (pcap_state reader.old progress) result known.new
+    requires prepared { IsPrepared reader.old.file reader.old.known known.old.meta }
+    ensures answer { (progress : SectionProgress) → FileAnswers (pcap_state reader.old progress) result known.new.next
         (pcap_state reader.new progress) }
     ensures reaches { (progress : SectionProgress) → IfOk result
-        (λ _. IfTaken known.new (FileTakes (pcap_state reader.old progress) (pcap_state reader.new progress))) }
+        (λ _. IfTaken known.new.next (FileTakes (pcap_state reader.old progress) (pcap_state reader.new progress))) }
     ensures keeps { (progress : SectionProgress) → FileKeeps (pcap_state reader.old progress)
         (pcap_state reader.new progress) }
     ensures fronts { IsTrue reader.old.told
-        → FrontsAnswer (pcap_fronts reader.old) result known.new (pcap_fronts reader.new) }
+        → FrontsAnswer (pcap_fronts reader.old) result known.new.next (pcap_fronts reader.new) }
+    ensures prepared { IsPrepared reader.new.file reader.new.known known.new.meta }
 {
     match reader.header() {
         Ok(header) => next_record_of(reader, header, known),

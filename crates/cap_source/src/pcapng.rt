@@ -132,8 +132,8 @@ fn take_content(
 )
     requires room { vec_len reached.old.interfaces < vec_capacity reached.old.interfaces }
     requires limit { counted_blocks (progress_of reached.old) < 2 ^ 40 }
-    requires unknown { known.old ≡ None }
-    ensures next { known.new ≡ next_at file (progress_of reached.old) block content }
+    requires unknown { known.old.next ≡ None }
+    ensures next { known.new.next ≡ next_at file (progress_of reached.old) block content }
     ensures behind { progress_of reached.new ≡ behind (progress_of reached.old) content }
 {
     match content {
@@ -155,19 +155,19 @@ pub fn try_next_buffered<R: Source>(
     reached: &SectionState,
     known: &mut PeekSlot,
 ) -> bool
-    requires unknown { known.old ≡ None }
+    requires unknown { known.old.next ≡ None }
     requires counted { counted_blocks (progress_of reached.now) ≤ 2 ^ 40 }
-    ensures answer { TakesShown (pcapng_state reader.old (progress_of reached.now)) result known.new
+    ensures answer { TakesShown (pcapng_state reader.old (progress_of reached.now)) result known.new.next
         (pcapng_state reader.new (progress_of reached.now)) }
     ensures reaches { IsTrue result → FileTakes (pcapng_state reader.old (progress_of reached.now))
         (pcapng_state reader.new (progress_of reached.now)) }
     ensures keeps { FileKeeps (pcapng_state reader.old (progress_of reached.now))
         (pcapng_state reader.new (progress_of reached.now)) }
     ensures room { IsTrue (has_room reader.old.broken reached.now) → IsTrue (has_room reader.new.broken reached.now) }
-    ensures fronts { IsTrue reader.old.told → IsTrue result → IfTaken known.new
-        (FrontsPass (pcapng_fronts reader.old (progress_of reached.now)) known.new
+    ensures fronts { IsTrue reader.old.told → IsTrue result → IfTaken known.new.next
+        (FrontsPass (pcapng_fronts reader.old (progress_of reached.now)) known.new.next
         (pcapng_fronts reader.new (progress_of reached.now))) }
-    ensures none { result ≡ false → (reader.new ≡ reader.old) × (known.new ≡ None) }
+    ensures none { result ≡ false → (reader.new ≡ reader.old) × (known.new.next ≡ None) }
 {
     // the comments of a packet that is taken here aren't looked for
     if reached.comments.is_some() {
@@ -194,7 +194,7 @@ fn set_packet(
     known: &mut PeekSlot,
 )
     requires { counted_blocks (progress_of reached.now) ≤ 2 ^ 40 }
-    ensures { known.new ≡ next_at file (progress_of reached.now) block (of_body BlockContent.Packet said) }
+    ensures { known.new.next ≡ next_at file (progress_of reached.now) block (of_body BlockContent.Packet said) }
 {
     match said {
         Ok(packet) => {
@@ -209,7 +209,7 @@ fn set_packet(
 #[inline(never)]
 fn refuse(reached: &SectionState, file: u32, block: Block, rule: Rule, known: &mut PeekSlot)
     requires { counted_blocks (progress_of reached.now) ≤ 2 ^ 40 }
-    ensures { known.new ≡ next_at file (progress_of reached.now) block (Err rule) }
+    ensures { known.new.next ≡ next_at file (progress_of reached.now) block (Err rule) }
 {
     known.set_refused(
         Refusal {
@@ -229,20 +229,20 @@ fn take_block<R: Source>(
     known: &mut PeekSlot,
 ) -> Result<(), Fault>
     requires room { vec_len reached.old.interfaces < vec_capacity reached.old.interfaces }
-    requires unknown { known.old ≡ None }
+    requires unknown { known.old.next ≡ None }
     requires counted { counted_blocks (progress_of reached.old) ≤ reader.old.offset }
     requires free { reader.old.stop ≡ None }
     requires limit { reader.old.offset ≤ 2 ^ 40 }
-    ensures answer { FileSteps (pcapng_state reader.old (progress_of reached.old)) result known.new
+    ensures answer { FileSteps (pcapng_state reader.old (progress_of reached.old)) result known.new.next
         (pcapng_state reader.new (progress_of reached.new)) }
-    ensures reaches { IfOk result (λ _. IfTaken known.new
+    ensures reaches { IfOk result (λ _. IfTaken known.new.next
         (FileTakes (pcapng_state reader.old (progress_of reached.old))
         (pcapng_state reader.new (progress_of reached.new)))) }
     ensures keeps { FileKeeps (pcapng_state reader.old (progress_of reached.old))
         (pcapng_state reader.new (progress_of reached.new)) }
     ensures room { IsTrue (has_room reader.new.broken reached.new) }
     ensures fronts { IsTrue reader.old.told → FrontsAnswer (pcapng_fronts reader.old (progress_of reached.old)) result
-        known.new (pcapng_fronts reader.new (progress_of reached.new)) }
+        known.new.next (pcapng_fronts reader.new (progress_of reached.new)) }
 {
     let file = reader.window().file();
     match reader.next_block() {
@@ -270,21 +270,21 @@ fn step<R: Source>(
     reached: &mut SectionState,
     known: &mut PeekSlot,
 ) -> Result<(), Fault>
-    requires unknown { known.old ≡ None }
+    requires unknown { known.old.next ≡ None }
     requires counted { counted_blocks (progress_of reached.old) ≤ reader.old.offset }
     requires free { reader.old.stop ≡ None }
     requires limit { reader.old.offset ≤ 2 ^ 40 }
     requires room { IsTrue (has_room reader.old.broken reached.old) }
-    ensures answer { FileSteps (pcapng_state reader.old (progress_of reached.old)) result known.new
+    ensures answer { FileSteps (pcapng_state reader.old (progress_of reached.old)) result known.new.next
         (pcapng_state reader.new (progress_of reached.new)) }
-    ensures reaches { IfOk result (λ _. IfTaken known.new
+    ensures reaches { IfOk result (λ _. IfTaken known.new.next
         (FileTakes (pcapng_state reader.old (progress_of reached.old))
         (pcapng_state reader.new (progress_of reached.new)))) }
     ensures keeps { FileKeeps (pcapng_state reader.old (progress_of reached.old))
         (pcapng_state reader.new (progress_of reached.new)) }
     ensures room { IsTrue (has_room reader.new.broken reached.new) }
     ensures fronts { IsTrue reader.old.told → FrontsAnswer (pcapng_fronts reader.old (progress_of reached.old)) result
-        known.new (pcapng_fronts reader.new (progress_of reached.new)) }
+        known.new.next (pcapng_fronts reader.new (progress_of reached.new)) }
 {
     reached.interfaces.reserve(1)?;
     take_block(reader, reached, known)
@@ -296,21 +296,21 @@ pub fn next_of_blocks<R: Source>(
     reached: &mut SectionState,
     known: &mut PeekSlot,
 ) -> Result<(), Fault>
-    requires unknown { known.old ≡ None }
+    requires unknown { known.old.next ≡ None }
     requires counted { counted_blocks (progress_of reached.old) ≤ reader.old.offset }
     requires free { reader.old.stop ≡ None }
     requires limit { reader.old.offset ≤ 2 ^ 40 }
     requires room { IsTrue (has_room reader.old.broken reached.old) }
-    ensures answer { FileAnswers (pcapng_state reader.old (progress_of reached.old)) result known.new
+    ensures answer { FileAnswers (pcapng_state reader.old (progress_of reached.old)) result known.new.next
         (pcapng_state reader.new (progress_of reached.new)) }
-    ensures reaches { IfOk result (λ _. IfTaken known.new
+    ensures reaches { IfOk result (λ _. IfTaken known.new.next
         (FileTakes (pcapng_state reader.old (progress_of reached.old))
         (pcapng_state reader.new (progress_of reached.new)))) }
     ensures keeps { FileKeeps (pcapng_state reader.old (progress_of reached.old))
         (pcapng_state reader.new (progress_of reached.new)) }
     ensures room { IsTrue (has_room reader.new.broken reached.new) }
     ensures fronts { IsTrue reader.old.told → FrontsAnswer (pcapng_fronts reader.old (progress_of reached.old)) result
-        known.new (pcapng_fronts reader.new (progress_of reached.new)) }
+        known.new.next (pcapng_fronts reader.new (progress_of reached.new)) }
 {
     loop {
         step(reader, reached, known)?;

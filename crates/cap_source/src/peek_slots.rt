@@ -3,17 +3,20 @@ ghost use Rattle.std.specs.Prelude.{◌≡◌, Some, None, is_some};
 ghost use Rattle.cap_source.specs.Feed.{IsPacket};
 ghost use Rattle.cap_source.specs.declared.feeds.Head.TheVariants as heads;
 ghost use Rattle.cap_source.specs.inner.FileState.{next_head, is_packet, start_of};
+ghost use Rattle.cap_source.specs.inner.PeekSlotView.{with_record};
 ghost use Rattle.cap_source.specs.declared.readers.Peeked.TheVariants.{Packet, Refused, End};
 
 use crate::feeds::FileEnd;
 use crate::packets::Meta;
 use crate::readers::Peeked;
 use cap_bytes::{Format, Refusal};
+use cap_pcap::Record;
 use cap_time::{Interface, Resolution};
 use std::marker::Model;
 
 /// What comes next of a file, if that is known, as it is kept: an `Option<Peeked>` in which a packet has fields of its
-/// own. So it is forgotten by one mark, where an `Option<Peeked>` would be set to zero as a whole.
+/// own. So it is forgotten by one mark, where an `Option<Peeked>` would be set to zero as a whole, and what a pcap
+/// file's packets have in common is written once.
 #[derive(Drop)]
 pub struct PeekSlot {
     // whether a packet comes next, if anything is known
@@ -25,14 +28,11 @@ pub struct PeekSlot {
 }
 
 impl Model for PeekSlot {
-    ghost use Rattle.std.specs.Prelude.{Option};
-    ghost use Rattle.cap_source.specs.declared.readers.Peeked.{Peeked};
+    ghost use Rattle.cap_source.specs.inner.PeekSlotView.{KeptPeek, peeked_by, IsKeptPeek};
 
-    ghost Value = { Option Peeked };
+    ghost Value = { KeptPeek };
 
-    ghost use Rattle.cap_source.specs.inner.PeekSlotView.{peeked_by, IsKeptPeek};
-
-    ghost view = { λ k. peeked_by k.is_packet k.place k.meta k.last };
+    ghost view = { λ k. record { next = peeked_by k.is_packet k.place k.meta k.last; meta = k.meta } };
 
     ghost invariant = { λ k. IsKeptPeek k.is_packet k.last };
 }
@@ -40,7 +40,7 @@ impl Model for PeekSlot {
 impl PeekSlot {
     /// Nothing is known.
     pub fn new() -> PeekSlot
-        ensures { result ≡ None }
+        ensures { result.next ≡ None }
     {
         // the packet isn't read before it was put
         PeekSlot {
@@ -69,7 +69,7 @@ impl PeekSlot {
     /// Whether anything is.
     #[inline(always)]
     pub fn is_some(&self) -> bool
-        ensures { result ≡ is_some self.now }
+        ensures { result ≡ is_some self.now.next }
     {
         self.is_packet.is_some()
     }
@@ -77,7 +77,7 @@ impl PeekSlot {
     /// Whether a packet is known to come next.
     #[inline(always)]
     pub fn is_packet(&self) -> bool
-        ensures { result ≡ is_packet self.now }
+        ensures { result ≡ is_packet self.now.next }
     {
         self.is_packet.unwrap_or(false)
     }
@@ -85,8 +85,8 @@ impl PeekSlot {
     /// That packet, without its bytes.
     #[inline(always)]
     pub fn packet(&self) -> &Meta
-        requires { IsPacket (next_head self.now) }
-        ensures { next_head self.now ≡ Some (heads.Packet result.now) }
+        requires { IsPacket (next_head self.now.next) }
+        ensures { next_head self.now.next ≡ Some (heads.Packet result.now) }
     {
         &self.meta
     }
@@ -94,15 +94,15 @@ impl PeekSlot {
     /// Where its captured bytes begin in what the reader lends.
     #[inline(always)]
     pub fn place(&self) -> usize
-        requires { IsPacket (next_head self.now) }
-        ensures { result ≡ start_of self.now }
+        requires { IsPacket (next_head self.now.next) }
+        ensures { result ≡ start_of self.now.next }
     {
         self.place as usize
     }
 
     /// What comes next.
     pub fn get(&self) -> Option<Peeked>
-        ensures { result ≡ self.now }
+        ensures { result ≡ self.now.next }
     {
         match self.is_packet {
             None => None,
@@ -114,16 +114,40 @@ impl PeekSlot {
     /// A packet comes next.
     #[inline(always)]
     pub fn set_packet(&mut self, meta: Meta, place: u32)
-        ensures { self.new ≡ Some (Packet meta place) }
+        ensures { self.new.next ≡ Some (Packet meta place) }
     {
         self.is_packet = Some(true);
         self.place = place;
         self.meta = meta;
     }
 
+    /// A packet of a pcap file comes next, which has what the packet before it had, but for its record.
+    #[inline(always)]
+    pub fn set_record(&mut self, given: Record)
+        ensures packet { self.new.next ≡ Some (Packet (with_record self.old.meta given) 0) }
+        ensures meta { self.new.meta ≡ with_record self.old.meta given }
+    {
+        self.is_packet = Some(true);
+        self.place = 0;
+        self.meta.offset = given.offset;
+        self.meta.units = Some(given.units);
+        self.meta.captured = given.captured;
+        self.meta.original = given.original;
+    }
+
+    /// What the packets have in common of a file of which nothing else is known.
+    pub fn set_common(&mut self, meta: Meta)
+        ensures next { self.new.next ≡ None }
+        ensures meta { self.new.meta ≡ meta }
+    {
+        self.is_packet = None;
+        self.meta = meta;
+    }
+
     /// A refusal comes next.
     pub fn set_refused(&mut self, refusal: Refusal, ending: FileEnd)
-        ensures { self.new ≡ Some (Refused refusal ending) }
+        ensures next { self.new.next ≡ Some (Refused refusal ending) }
+        ensures meta { self.new.meta ≡ self.old.meta }
     {
         self.is_packet = Some(false);
         self.last = Some(Peeked::Refused(refusal, ending));
@@ -131,7 +155,8 @@ impl PeekSlot {
 
     /// The end comes next.
     pub fn set_end(&mut self, ending: FileEnd)
-        ensures { self.new ≡ Some (End ending) }
+        ensures next { self.new.next ≡ Some (End ending) }
+        ensures meta { self.new.meta ≡ self.old.meta }
     {
         self.is_packet = Some(false);
         self.last = Some(Peeked::End(ending));
@@ -140,7 +165,8 @@ impl PeekSlot {
     /// What came next is passed: nothing is known.
     #[inline(always)]
     pub fn forget(&mut self)
-        ensures { self.new ≡ None }
+        ensures next { self.new.next ≡ None }
+        ensures meta { self.new.meta ≡ self.old.meta }
     {
         self.is_packet = None;
     }

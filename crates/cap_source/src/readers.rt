@@ -58,9 +58,9 @@ fn lent_of<R: Source>(reader: &Reader<R>) -> &[u8]
 
 /// The captured bytes of a packet that comes next.
 pub fn part_of<'a, R: Source>(reader: &'a Reader<R>, next: &PeekSlot) -> &'a [u8]
-    requires packet { IsPacket (next_head next.now) }
-    requires lent { lent_end next.now ≤ lent_length (lent_of reader.now) }
-    ensures { result.now ≡ next_frame next.now (lent_of reader.entry.now) }
+    requires packet { IsPacket (next_head next.now.next) }
+    requires lent { lent_end next.now.next ≤ lent_length (lent_of reader.now) }
+    ensures { result.now ≡ next_frame next.now.next (lent_of reader.entry.now) }
 {
     let (_, behind) = lent_of(reader).split_at(next.place());
     behind.split_at(next.packet().captured as usize).0

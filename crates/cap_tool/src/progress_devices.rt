@@ -66,6 +66,11 @@ impl<'a, T: Sink, C: Clock> Sink for ProgressDevice<'a, T, C> {
         self.progress.make_way();
         self.inner.give(bytes)
     }
+
+    fn give_all(&mut self, bytes: &[u8]) -> Result<(), Broken> {
+        self.progress.make_way();
+        self.inner.give_all(bytes)
+    }
 }
 
 impl<'a, T: Outlet, C: Clock> Outlet for ProgressDevice<'a, T, C> {

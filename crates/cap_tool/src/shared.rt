@@ -44,6 +44,17 @@ impl SharedOutput {
         }
     }
 
+    // Writes all the bytes, or lets them wait in the buffer.
+    fn give_all(&self, bytes: &[u8]) -> Result<(), Broken> {
+        match self.buffered.try_borrow_mut() {
+            Ok(mut output) => match &mut *output {
+                Some(output) => output.give_all(bytes),
+                None => Err(Broken),
+            },
+            Err(_) => Err(Broken),
+        }
+    }
+
     /// The number of the system's error at which the last write or flush failed, if one did.
     pub fn error(&self) -> Option<i32> {
         match self.buffered.try_borrow() {
@@ -106,6 +117,12 @@ impl<'a> Sink for OutputHandle<'a> {
 
     fn give(&mut self, bytes: &[u8]) -> Result<usize, Broken> {
         let answer = self.output.give(bytes);
+        self.failed = self.failed || answer.is_err();
+        answer
+    }
+
+    fn give_all(&mut self, bytes: &[u8]) -> Result<(), Broken> {
+        let answer = self.output.give_all(bytes);
         self.failed = self.failed || answer.is_err();
         answer
     }

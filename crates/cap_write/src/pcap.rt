@@ -16,7 +16,7 @@ ghost use Rattle.cap_write.specs.Numbering.{refusal_by};
 use crate::interfaces::{FileStart, refused, units_of};
 use cap_bytes::{Fault, Order, Refusal, Rule, Sink};
 use cap_pcap::{PcapHeader, RecordTime, put_header, put_record};
-use cap_source::{Head, Meta, PacketFeed, next_packet};
+use cap_source::{Head, Meta, PacketFeed};
 use cap_time::{Interface, Resolution, Stamp, Unit};
 
 // How many microseconds there are in a second.
@@ -145,8 +145,9 @@ fn put_records<F: PacketFeed, W: Sink>(
     ensures memory { IfMemory result ((F.feed feed.new).known ≡ None) }
     ensures keeps { FeedKeeps (F.feed feed.old) (F.feed feed.new) }
 {
-    while let Some(meta) = next_packet(feed)? {
-        put_after_header(first, order, &meta, feed.frame(), writer)?;
+    while feed.peek()? {
+        let meta = feed.packet();
+        put_after_header(first, order, meta, feed.frame(), writer)?;
         feed.pass();
     }
     Ok(())

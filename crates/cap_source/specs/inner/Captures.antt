@@ -23,7 +23,7 @@ capture_file capture = reader_file_state capture.reader (progress_of capture.rea
 -- the file as a feed
 abbrev pub capture_feed : {R : Type 0} {source : Source.Ghosts R} {device : Device.Ghosts R} → Capture R source device
     → Feed
-capture_feed capture = file_feed (capture_file capture) capture.next
+capture_feed capture = file_feed (capture_file capture) capture.next.next
 
 -- the file as it would be if it ended further on, behind a packet that comes next
 abbrev pub capture_fronts : {R : Type 0} {source : Source.Ghosts R} {device : Device.Ghosts R} → Capture R source device
@@ -33,7 +33,7 @@ capture_fronts capture = reader_fronts capture.reader (progress_of capture.reach
 -- its first interface, if it stands before what comes next or the end: of instance 0
 abbrev pub capture_first : {R : Type 0} {source : Source.Ghosts R} {device : Device.Ghosts R} → Capture R source device
     → Option Interface
-capture_first capture = first_by capture.next (capture_file capture)
+capture_first capture = first_by capture.next.next (capture_file capture)
 
 -- its number, which is the one of the feed's files
 abbrev pub capture_number : {R : Type 0} {source : Source.Ghosts R} {device : Device.Ghosts R}

@@ -11,21 +11,21 @@ use Rattle.cap_source.proofs.pcapng.next_of_blocks.Goals as goal
 
 pub returns-then-is_some-clause-answer : goal.returns-then-is_some-clause-answer
 returns-then-is_some-clause-answer g c =
-    Learns-behind _ _ _ c.step.new.known c.loop-known.invariant.waits c.loop-known.invariant.keeps
+    Learns-behind _ _ _ c.step.new.known.next c.loop-known.invariant.waits c.loop-known.invariant.keeps
     c.in_ok-step.ensures.answer (sym c.is_some.ensures ∙ c.if-is_some.true)
 
 pub returns-then-is_some-clause-reaches : goal.returns-then-is_some-clause-reaches
 returns-then-is_some-clause-reaches g c =
     let a = pcapng_state c.args.reader.now (progress_of c.args.reached.now) in
     let b = pcapng_state c.loop-known.reader (progress_of c.loop-known.reached) in
-    taken_last a b (pcapng_state c.step.new.reader (progress_of c.step.new.reached)) c.step.new.known
+    taken_last a b (pcapng_state c.step.new.reader (progress_of c.step.new.reached)) c.step.new.known.next
     c.loop-known.invariant.keeps c.loop-known.invariant.reads c.in_ok-step.ensures.reaches
 
 pub returns-then-is_some-clause-fronts : goal.returns-then-is_some-clause-fronts
 returns-then-is_some-clause-fronts g c = λ told.
     Fronts-taken (pcapng_fronts c.args.reader.now (progress_of c.args.reached.now))
     (pcapng_fronts c.loop-known.reader (progress_of c.loop-known.reached))
-    (pcapng_fronts c.step.new.reader (progress_of c.step.new.reached)) c.step.new.known
+    (pcapng_fronts c.step.new.reader (progress_of c.step.new.reached)) c.step.new.known.next
     (c.loop-known.invariant.fronts told) (c.in_ok-step.ensures.fronts (c.loop-known.invariant.keeps.told told))
 
 pub returns-in_err-step-clause-fronts : goal.returns-in_err-step-clause-fronts
@@ -34,7 +34,7 @@ returns-in_err-step-clause-fronts g c = λ told.
     rw (p.1, p.2)
     (Fronts-answer {A = ⊤} (pcapng_fronts c.args.reader.now (progress_of c.args.reached.now))
     (pcapng_fronts c.loop-known.reader (progress_of c.loop-known.reached))
-    (pcapng_fronts c.step.new.reader (progress_of c.step.new.reached)) (Err c.in_err-step.field-0.0) c.step.new.known
+    (pcapng_fronts c.step.new.reader (progress_of c.step.new.reached)) (Err c.in_err-step.field-0.0) c.step.new.known.next
     (c.loop-known.invariant.fronts told) (c.in_err-step.ensures.fronts (c.loop-known.invariant.keeps.told told)))
 
 pub loop-known-init : goal.loop-known-init
@@ -55,19 +55,19 @@ loop-known-preserved g c =
     let not = sym c.is_some.ensures ∙ c.if-is_some.false in
     let a = pcapng_state c.args.reader.now (progress_of c.args.reached.now) in
     let b = pcapng_state c.loop-known.reader (progress_of c.loop-known.reached) in
-    let waits = Waits-further _ _ _ c.step.new.known c.loop-known.invariant.waits c.loop-known.invariant.keeps
+    let waits = Waits-further _ _ _ c.step.new.known.next c.loop-known.invariant.waits c.loop-known.invariant.keeps
     c.in_ok-step.ensures.answer not in record {
-      unknown = none_of c.step.new.known not;
+      unknown = none_of c.step.new.known.next not;
       waits = waits;
       keeps = FileKeeps-trans _ _ _ c.loop-known.invariant.keeps c.step.ensures.keeps;
-      reads = ReadsTo-further a b (pcapng_state c.step.new.reader (progress_of c.step.new.reached)) c.step.new.known
-          (none_of c.step.new.known not) c.loop-known.invariant.keeps c.loop-known.invariant.reads
+      reads = ReadsTo-further a b (pcapng_state c.step.new.reader (progress_of c.step.new.reached)) c.step.new.known.next
+          (none_of c.step.new.known.next not) c.loop-known.invariant.keeps c.loop-known.invariant.reads
           c.in_ok-step.ensures.reaches;
       fronts = λ told.
           Fronts-further (pcapng_fronts c.args.reader.now (progress_of c.args.reached.now))
           (pcapng_fronts c.loop-known.reader (progress_of c.loop-known.reached))
-          (pcapng_fronts c.step.new.reader (progress_of c.step.new.reached)) c.step.new.known
-          (none_of c.step.new.known not) (c.loop-known.invariant.fronts told)
+          (pcapng_fronts c.step.new.reader (progress_of c.step.new.reached)) c.step.new.known.next
+          (none_of c.step.new.known.next not) (c.loop-known.invariant.fronts told)
           (c.in_ok-step.ensures.fronts (c.loop-known.invariant.keeps.told told));
       room = c.step.ensures.room;
       counted = c.step.ensures.keeps.counted c.loop-known.invariant.counted;

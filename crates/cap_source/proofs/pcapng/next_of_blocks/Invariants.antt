@@ -6,7 +6,7 @@ use Rattle.cap_source.proofs.pcapng.next_of_blocks.Given as goal
 
 abbrev pub invariant-loop-known : goal.invariant-loop-known
 invariant-loop-known g l = record {
-  unknown : l.known ≡ None;
+  unknown : l.known.next ≡ None;
   waits : FileWaits (pcapng_state l.initial.reader (progress_of l.initial.reached))
       (pcapng_state l.reader (progress_of l.reached));
   keeps : FileKeeps (pcapng_state l.initial.reader (progress_of l.initial.reached))

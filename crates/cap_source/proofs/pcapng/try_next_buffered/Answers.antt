@@ -19,11 +19,11 @@ pub returns-in-Some-clause-answer : goal.returns-in-Some-clause-answer
 returns-in-Some-clause-answer g c =
     let e = c.in-Some.ensures in
     let p = progress_of c.args.reached.now in
-    packet_shown _ _ c.file-file.result p c.in-Some.block c.enhanced_packet-said.result c.set_packet.new.known
+    packet_shown _ _ c.file-file.result p c.in-Some.block c.enhanced_packet-said.result c.set_packet.new.known.next
     c.set_packet.ensures
     (block_stepped c.file-file.result c.args.reader.now c.take_packet.new.self p p c.in-Some.block
     (of_body contents.Packet c.enhanced_packet-said.result)
-    c.set_packet.new.known c.set_packet.ensures
+    c.set_packet.new.known.next c.set_packet.ensures
     (behind-packet p c.in-Some.block (unwrap_or c.take_packet.new.self.lent []) c.enhanced_packet-said.result
     (none_of p.comments (sym c.is_some.ensures ∙ c.if-is_some.false)))
     (c.file-file.ensures ∙ c.window.ensures.window.file) e.answer e.keeps e.items
@@ -55,7 +55,7 @@ returns-in-Some-clause-fronts g c = λ told taken.
     let p = progress_of c.args.reached.now in
     block-passed c.file-file.result c.args.reader.now c.take_packet.new.self p c.in-Some.block
     (c.file-file.ensures ∙ c.window.ensures.window.file) e.answer e.keeps told
-    (of_body contents.Packet c.enhanced_packet-said.result) c.set_packet.new.known p
+    (of_body contents.Packet c.enhanced_packet-said.result) c.set_packet.new.known.next p
     (content_lent _ c.deref.result.now p.interfaces c.in-Some.block.kind c.in-Some.block.order
     c.take_packet.new.self.lent c.body.result.now
     c.enhanced_packet-said.ensures c.deref.ensures.value e.kind c.body.ensures.body)

@@ -2,8 +2,8 @@ use Rattle.cap_write.proofs.Records.{Recording}
 use Rattle.cap_write.proofs.pcap.put_records.Given as goal
 
 -- the packets that were given are written, and the others are to be
-abbrev pub invariant-loop-meta : goal.invariant-loop-meta
-invariant-loop-meta g l =
+abbrev pub invariant-loop-feed : goal.invariant-loop-feed
+invariant-loop-feed g l =
     Recording l.order l.first (g.F.PacketFeed.feed l.fn.feed) (g.F.PacketFeed.feed l.feed)
     (g.W.Device.has_failed l.fn.writer) (g.W.Device.has_failed l.writer)
     (record {
@@ -19,5 +19,5 @@ invariant-loop-meta g l =
       can_fail = g.W.Device.can_fail l.writer;
     })
 
-abbrev pub decreases-loop-meta : goal.decreases-loop-meta
-decreases-loop-meta g l = (g.F.PacketFeed.feed l.feed).left
+abbrev pub decreases-loop-feed : goal.decreases-loop-feed
+decreases-loop-feed g l = (g.F.PacketFeed.feed l.feed).left

@@ -13,7 +13,7 @@ pub returns-in-Pcap-clause-answer : goal.returns-in-Pcap-clause-answer
 returns-in-Pcap-clause-answer g c =
     let p = progress_of c.args.self.now.reached in
     Answers-behind (reader_file_state c.args.self.now.reader p) (pcap_state c.in-Pcap.reader p)
-    (pcap_state c.next_of_pcap.new.reader p) c.next_of_pcap.result c.next_of_pcap.new.known
+    (pcap_state c.next_of_pcap.new.reader p) c.next_of_pcap.result c.next_of_pcap.new.known.next
     (rw c.in-Pcap.is at (c.in_ok-open.ensures.answer p)) (rw c.in-Pcap.is at (c.in_ok-open.ensures.keeps p))
     (c.next_of_pcap.ensures.answer p)
 
@@ -27,7 +27,7 @@ returns-in-Pcap-clause-keeps g c =
 pub open-requires-clause-free : goal.open-requires-clause-free
 open-requires-clause-free g c =
     let m = c.args.self.now in
-    free_of m.reader (progress_of m.reached) m.next (ap is_some c.requires) m.sound
+    free_of m.reader (progress_of m.reached) m.next.next (ap is_some c.requires) m.sound
 
 pub next_of_blocks-requires-clause-counted : goal.next_of_blocks-requires-clause-counted
 next_of_blocks-requires-clause-counted g c =
@@ -44,7 +44,7 @@ returns-in-Pcapng-clause-answer g c =
     let p = progress_of c.args.self.now.reached in
     let q = progress_of c.next_of_blocks.new.reached in
     Answers-behind (reader_file_state c.args.self.now.reader p) (pcapng_state c.in-Pcapng.reader p)
-    (pcapng_state c.next_of_blocks.new.reader q) c.next_of_blocks.result c.next_of_blocks.new.known
+    (pcapng_state c.next_of_blocks.new.reader q) c.next_of_blocks.result c.next_of_blocks.new.known.next
     (rw c.in-Pcapng.is at (c.in_ok-open.ensures.answer p))
     (rw c.in-Pcapng.is at (c.in_ok-open.ensures.keeps p)) c.next_of_blocks.ensures.answer
 
@@ -60,7 +60,7 @@ pub returns-in-Pcap-clause-reaches : goal.returns-in-Pcap-clause-reaches
 returns-in-Pcap-clause-reaches g c =
     let p = progress_of c.args.self.now.reached in
     taken_opened (reader_file_state c.args.self.now.reader p) (pcap_state c.in-Pcap.reader p)
-    (pcap_state c.next_of_pcap.new.reader p) c.next_of_pcap.result c.next_of_pcap.new.known
+    (pcap_state c.next_of_pcap.new.reader p) c.next_of_pcap.result c.next_of_pcap.new.known.next
     (rw c.in-Pcap.is at (c.in_ok-open.ensures.keeps p)) (rw c.in-Pcap.is at (c.in_ok-open.ensures.reaches p))
     (c.next_of_pcap.ensures.reaches p)
 
@@ -69,7 +69,7 @@ returns-in-Pcapng-clause-reaches g c =
     let p = progress_of c.args.self.now.reached in
     let q = progress_of c.next_of_blocks.new.reached in
     taken_opened (reader_file_state c.args.self.now.reader p) (pcapng_state c.in-Pcapng.reader p)
-    (pcapng_state c.next_of_blocks.new.reader q) c.next_of_blocks.result c.next_of_blocks.new.known
+    (pcapng_state c.next_of_blocks.new.reader q) c.next_of_blocks.result c.next_of_blocks.new.known.next
     (rw c.in-Pcapng.is at (c.in_ok-open.ensures.keeps p))
     (rw c.in-Pcapng.is at (c.in_ok-open.ensures.reaches p)) c.next_of_blocks.ensures.reaches
 
@@ -84,10 +84,11 @@ invariant_of-self-in-Pcap g c =
     record {
       there = refl;
       room = refl;
-      sound = IsSound-asked old new m.next c.next_of_pcap.new.known c.next_of_pcap.result
+      prepared = c.next_of_pcap.ensures.prepared;
+      sound = IsSound-asked old new m.next.next c.next_of_pcap.new.known.next c.next_of_pcap.result
           (ap is_some c.requires) m.sound
           (FileKeeps-trans old opened new keeps (c.next_of_pcap.ensures.keeps p))
-          (Answers-behind old opened new c.next_of_pcap.result c.next_of_pcap.new.known
+          (Answers-behind old opened new c.next_of_pcap.result c.next_of_pcap.new.known.next
           (rw c.in-Pcap.is at (c.in_ok-open.ensures.answer p)) keeps (c.next_of_pcap.ensures.answer p));
     }
 
@@ -97,7 +98,7 @@ returns-in-Pcap-clause-fronts g c = λ told.
     let p = progress_of m.reached in
     let keeps = rw c.in-Pcap.is at (c.in_ok-open.ensures.keeps p) in
     Fronts-answer (capture_fronts m) (pcap_fronts c.in-Pcap.reader) (pcap_fronts c.next_of_pcap.new.reader)
-    c.next_of_pcap.result c.next_of_pcap.new.known (rw c.in-Pcap.is at (c.in_ok-open.ensures.fronts p told))
+    c.next_of_pcap.result c.next_of_pcap.new.known.next (rw c.in-Pcap.is at (c.in_ok-open.ensures.fronts p told))
     (c.next_of_pcap.ensures.fronts (keeps.told (told-same m.reader p told)))
 
 pub returns-in-Pcapng-clause-fronts : goal.returns-in-Pcapng-clause-fronts
@@ -107,6 +108,10 @@ returns-in-Pcapng-clause-fronts g c = λ told.
     let q = progress_of c.next_of_blocks.new.reached in
     let keeps = rw c.in-Pcapng.is at (c.in_ok-open.ensures.keeps p) in
     Fronts-answer (capture_fronts m) (pcapng_fronts c.in-Pcapng.reader p)
-    (pcapng_fronts c.next_of_blocks.new.reader q) c.next_of_blocks.result c.next_of_blocks.new.known
+    (pcapng_fronts c.next_of_blocks.new.reader q) c.next_of_blocks.result c.next_of_blocks.new.known.next
     (rw c.in-Pcapng.is at (c.in_ok-open.ensures.fronts p told))
     (c.next_of_blocks.ensures.fronts (keeps.told (told-same m.reader p told)))
+
+pub next_of_pcap-requires-clause-prepared : goal.next_of_pcap-requires-clause-prepared
+next_of_pcap-requires-clause-prepared g c =
+    rw c.in-Pcap.is at (c.in_ok-open.ensures.prepared c.args.self.now.next.meta c.args.self.now.prepared)

@@ -13,9 +13,9 @@ returns-clause-answer g c =
     let tells = c.in_ok-learn.ensures.answer in
     let next = tells.0 in (
       head_of next,
-      knows old new was.next c.learn.new.self.next next was.sound.whole tells.1 tells.2,
+      knows old new was.next.next c.learn.new.self.next.next next was.sound.whole tells.1 tells.2,
       λ t. c.noted_of.ensures ∙ first_told old c.learn.new.self.reader
-          (progress_of c.learn.new.self.reached) was.next c.learn.new.self.next next c.learn.new.self.there tells.1
+          (progress_of c.learn.new.self.reached) was.next.next c.learn.new.self.next.next next c.learn.new.self.there tells.1
           tells.2 t,
     )
 
@@ -25,4 +25,4 @@ returns-clause-items g c =
     let old = reader_file_state was.reader (progress_of was.reached) in
     let new = reader_file_state c.learn.new.self.reader (progress_of c.learn.new.self.reached) in
     let tells = c.in_ok-learn.ensures.answer in
-    λ t. first_kept old new was.next c.learn.new.self.next tells.0 tells.1 tells.2 t
+    λ t. first_kept old new was.next.next c.learn.new.self.next.next tells.0 tells.1 tells.2 t

@@ -10,22 +10,22 @@ returns-then-is_some-clause-answer g c = LearnsNext-known _ _ (sym c.is_some.ens
 
 pub returns-then-is_some-clause-reaches : goal.returns-then-is_some-clause-reaches
 returns-then-is_some-clause-reaches g c =
-    IfTaken-so c.args.self.now.next _ (ReadsTo-here (capture_file c.args.self.now))
+    IfTaken-so c.args.self.now.next.next _ (ReadsTo-here (capture_file c.args.self.now))
 
 pub returns-then-try_next_buffered-clause-answer : goal.returns-then-try_next_buffered-clause-answer
 returns-then-try_next_buffered-clause-answer g c =
-    LearnsNext-shown (capture_file c.args.self.now) (capture_file c.try_next_buffered.new.self) c.args.self.now.next
-    c.try_next_buffered.new.self.next (sym c.is_some.ensures ∙ c.if-is_some.false)
+    LearnsNext-shown (capture_file c.args.self.now) (capture_file c.try_next_buffered.new.self) c.args.self.now.next.next
+    c.try_next_buffered.new.self.next.next (sym c.is_some.ensures ∙ c.if-is_some.false)
     (rw c.if-try_next_buffered.true at c.try_next_buffered.ensures.answer)
 
 pub returns-then-try_next_buffered-clause-reaches : goal.returns-then-try_next_buffered-clause-reaches
 returns-then-try_next_buffered-clause-reaches g c =
-    IfTaken-so c.try_next_buffered.new.self.next _ (c.try_next_buffered.ensures.reaches c.if-try_next_buffered.true).1
+    IfTaken-so c.try_next_buffered.new.self.next.next _ (c.try_next_buffered.ensures.reaches c.if-try_next_buffered.true).1
 
 pub returns-clause-answer : goal.returns-clause-answer
 returns-clause-answer g c =
     let same = c.try_next_buffered.ensures.none c.if-try_next_buffered.false in
-    LearnsNext-asked (capture_file c.args.self.now) _ c.args.self.now.next c.find.new.self.next c.find.result
+    LearnsNext-asked (capture_file c.args.self.now) _ c.args.self.now.next.next c.find.new.self.next.next c.find.result
     (sym c.is_some.ensures ∙ c.if-is_some.false) (rw same.0 at c.find.ensures.answer)
 
 pub returns-clause-reaches : goal.returns-clause-reaches
@@ -33,5 +33,5 @@ returns-clause-reaches g c =
     let same = c.try_next_buffered.ensures.none c.if-try_next_buffered.false in
     let old = capture_file c.args.self.now in
     let new = capture_file c.find.new.self in
-    taken_map c.find.result c.find.new.self.next (FileTakes old new) (ReadsTo old new) (λ t. t.1)
+    taken_map c.find.result c.find.new.self.next.next (FileTakes old new) (ReadsTo old new) (λ t. t.1)
     (rw same.0 at c.find.ensures.reaches)

@@ -23,8 +23,9 @@ invariant_of-self g c =
     record {
       there = refl;
       room = refl;
+      prepared = e.prepared;
       sound = IsSound-taken (pcap_state c.in-Pcap.reader p)
-          (pcap_state c.try_next_buffered.new.reader p) c.args.self.now.next
-          c.try_next_buffered.new.known c.try_next_buffered.result (rw c.in-Pcap.is at c.args.self.now.sound) c.requires
-          (e.keeps p) (e.answer p) (λ f. (ap (λ r. pcap_state r p) (e.none f).0, (e.none f).1));
+          (pcap_state c.try_next_buffered.new.reader p) c.args.self.now.next.next
+          c.try_next_buffered.new.known.next c.try_next_buffered.result (rw c.in-Pcap.is at c.args.self.now.sound)
+          c.requires (e.keeps p) (e.answer p) (λ f. (ap (λ r. pcap_state r p) (e.none f).0, (e.none f).1));
     }

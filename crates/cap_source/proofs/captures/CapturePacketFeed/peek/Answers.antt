@@ -66,11 +66,11 @@ pub returns-in_err-learn-clause-fronts : goal.returns-in_err-learn-clause-fronts
 returns-in_err-learn-clause-fronts g c = λ told unknown.
     let p = err_from_is_err_and c.from_residual.result c.from_residual.ensures.1 in
     rw (p.1, p.2)
-    (Fronts-fault (capture_fronts c.args.self.now) (capture_fronts c.learn.new.self) c.learn.new.self.next _
-    c.in_err-learn.field-0.0 (c.in_err-learn.ensures.fronts (none-next c.args.self.now.next unknown) told))
+    (Fronts-fault (capture_fronts c.args.self.now) (capture_fronts c.learn.new.self) c.learn.new.self.next.next _
+    c.in_err-learn.field-0.0 (c.in_err-learn.ensures.fronts (none-next c.args.self.now.next.next unknown) told))
 
 pub returns-in-Some-Packet-clause-fronts : goal.returns-in-Some-Packet-clause-fronts
 returns-in-Some-Packet-clause-fronts g c = λ told unknown.
-    Fronts-given (capture_fronts c.args.self.now) (capture_fronts c.learn.new.self) c.learn.new.self.next
+    Fronts-given (capture_fronts c.args.self.now) (capture_fronts c.learn.new.self) c.learn.new.self.next.next
     c.in-Some-Packet.field-0 _ _ c.in-Some-Packet.ensures c.in-Some-Packet.field-0-is
-    (c.in_ok-learn.ensures.fronts (none-next c.args.self.now.next unknown) told)
+    (c.in_ok-learn.ensures.fronts (none-next c.args.self.now.next.next unknown) told)
