@@ -18,7 +18,7 @@ use Rattle.cap_source.specs.declared.packets.Meta.{Meta}
 use Rattle.cap_time.proofs.StampForms.{seconds_of-stamp_in}
 use Rattle.cap_time.specs.Resolution.{units_of}
 use Rattle.cap_time.specs.ResolutionLaws.{units_at_most}
-use Rattle.cap_time.specs.Stamp.{printed_of, seconds_of, stamp_in}
+use Rattle.cap_time.specs.Stamp.{denominator_of, printed_of, seconds_of, stamp_in}
 use Rattle.cap_time.specs.Time.{Printed}
 use Rattle.cap_time.specs.declared.resolutions.Interface.{Interface}
 use Rattle.cap_time.specs.declared.stamps.Stamp.{Stamp}
@@ -53,11 +53,11 @@ few-seconds (negsuc m) (pos k) n fits few is = record { sfits = omega (arith, in
 few-seconds (negsuc m) (negsuc k) n fits few is = record { sfits = omega (arith, ints, is, fits.sfits, few) }
 
 -- a fraction in lowest terms fits if its denominator did
-stamp-fits : (stamp : Stamp) → FitsSigned w128 (seconds_of stamp) → stamp.denominator < 256 ^ 8
+stamp-fits : (stamp : Stamp) → FitsSigned w128 (seconds_of stamp) → denominator_of stamp < 256 ^ 8
     → FitsForm (in_lowest_terms (printed_of stamp))
 stamp-fits stamp seconds few =
     let form = in_lowest_terms (printed_of stamp) in
-    let least : form.denominator ≤ stamp.denominator = div-le_self stamp.denominator _ in
+    let least : form.denominator ≤ denominator_of stamp = div-le_self (denominator_of stamp) _ in
     record {
       seconds = seconds;
       numerator = omega (arith, (lowest-of stamp).below, least, few);

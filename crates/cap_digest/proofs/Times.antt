@@ -8,11 +8,11 @@ use Rattle.cap_digest.proofs.Divisors.{common_divisor-is, common_divisor-positiv
 use Rattle.cap_digest.proofs.Divisors.{second-part}
 use Rattle.cap_digest.specs.Canonical.{canonical_form, common_divisor, in_lowest_terms}
 use Rattle.cap_digest.specs.inner.Lowest.{IsLowest}
-use Rattle.cap_time.specs.Stamp.{numerator_of, printed_of, seconds_of, stamp_cmp}
+use Rattle.cap_time.specs.Stamp.{denominator_of, numerator_of, printed_of, seconds_of, stamp_cmp}
 use Rattle.cap_time.specs.Clock.{clock_cmp}
 use Rattle.cap_time.specs.Time.{Printed, time_at, time_cmp}
 use Rattle.cap_time.specs.declared.stamps.Stamp.{Stamp}
-use Rattle.cap_time.specs.inner.StampLaws.{numerator_below, same_parts, stamp_cmp-parts}
+use Rattle.cap_time.specs.inner.StampLaws.{denominator_positive, numerator_below, same_parts, stamp_cmp-parts}
 use Rattle.cap_time.specs.inner.TimeLaws.{time_cmp-units}
 
 -- times with the same seconds and the same fractions are the same
@@ -31,15 +31,16 @@ parts-below a b k l g p q h = lt_of_mul-lt-mul_right g (omega (arith, p, q, h))
 pub lowest-of : (stamp : Stamp) → IsLowest stamp (in_lowest_terms (printed_of stamp))
 lowest-of stamp =
     let n = numerator_of stamp in
-    let d = stamp.denominator in
+    let d = denominator_of stamp in
+    let positive = denominator_positive stamp in
     let g = common_divisor n d in
-    let some = common_divisor-positive n d stamp.positive in
-    let first = first-part n d stamp.positive in
-    let second = second-part n d stamp.positive in
+    let some = common_divisor-positive n d positive in
+    let first = first-part n d positive in
+    let second = second-part n d positive in
     let below : n / g < d / g = parts-below n d (n / g) (d / g) g first second (numerator_below stamp) in
     record {
       below = below;
-      coprime = coprime n d g (common_divisor-is n d stamp.positive) some;
+      coprime = coprime n d g (common_divisor-is n d positive) some;
       same = time_at-same (seconds_of stamp) (n / g) (d / g) n d below (numerator_below stamp)
           (crossed n d (n / g) (d / g) g first second);
     }
@@ -61,33 +62,37 @@ recrossed n d m e p q r t g h a b c f x y =
 pub same-form : (a b : Stamp) → stamp_cmp a b ≡ Equal
     → in_lowest_terms (printed_of a) ≡ in_lowest_terms (printed_of b)
 same-form a b same =
-    let parts : (seconds_of a ≡ seconds_of b) × (numerator_of a * b.denominator ≡ numerator_of b * a.denominator) =
-    same_parts a b same in
+    let n = numerator_of a in
+    let d = denominator_of a in
+    let m = numerator_of b in
+    let e = denominator_of b in
+    let p = denominator_positive a in
+    let q = denominator_positive b in
+    let parts : (seconds_of a ≡ seconds_of b) × (n * e ≡ m * d) = same_parts a b same in
     let first = lowest-of a in
     let second = lowest-of b in
     let fraction = same-lowest _ _ _ _ first.coprime second.coprime
-    (uncrossed (numerator_of a) a.denominator (numerator_of b) b.denominator _ _ _ _
-    (common_divisor (numerator_of a) a.denominator) (common_divisor (numerator_of b) b.denominator)
-    (first-part (numerator_of a) a.denominator a.positive) (second-part (numerator_of a) a.denominator a.positive)
-    (first-part (numerator_of b) b.denominator b.positive) (second-part (numerator_of b) b.denominator b.positive)
-    (common_divisor-positive (numerator_of a) a.denominator a.positive)
-    (common_divisor-positive (numerator_of b) b.denominator b.positive) parts.1) in
+    (uncrossed n d m e _ _ _ _ (common_divisor n d) (common_divisor m e) (first-part n d p) (second-part n d p)
+    (first-part m e q) (second-part m e q) (common_divisor-positive n d p) (common_divisor-positive m e q) parts.1) in
     λ i. record { seconds = parts.0 i; numerator = fraction.0 i; denominator = fraction.1 i }
 
 -- and stamps of the same form have the same time
 pub form-same : (a b : Stamp) → in_lowest_terms (printed_of a) ≡ in_lowest_terms (printed_of b)
     → stamp_cmp a b ≡ Equal
 form-same a b same =
-    let crossed : numerator_of a * b.denominator ≡ numerator_of b * a.denominator =
-    recrossed (numerator_of a) a.denominator (numerator_of b) b.denominator _ _ _ _
-    (common_divisor (numerator_of a) a.denominator) (common_divisor (numerator_of b) b.denominator)
-    (first-part (numerator_of a) a.denominator a.positive) (second-part (numerator_of a) a.denominator a.positive)
-    (first-part (numerator_of b) b.denominator b.positive) (second-part (numerator_of b) b.denominator b.positive)
-    (ap (λ (form : Printed). form.numerator) same) (ap (λ (form : Printed). form.denominator) same) in
+    let n = numerator_of a in
+    let d = denominator_of a in
+    let m = numerator_of b in
+    let e = denominator_of b in
+    let p = denominator_positive a in
+    let q = denominator_positive b in
+    let crossed : n * e ≡ m * d = recrossed n d m e _ _ _ _ (common_divisor n d) (common_divisor m e) (first-part n d p)
+    (second-part n d p) (first-part m e q) (second-part m e q) (ap (λ (form : Printed). form.numerator) same)
+    (ap (λ (form : Printed). form.denominator) same) in
     stamp_cmp-parts a b
     ∙ sym (λ i. ordering_then
     (int_cmp_is (seconds_of a) (seconds_of b) Equal (ap (λ (form : Printed). form.seconds) same) i)
-    (nat_cmp_is (numerator_of a * b.denominator) (numerator_of b * a.denominator) Equal crossed i))
+    (nat_cmp_is (n * e) (m * d) Equal crossed i))
 
 -- a packet that has no time has another form than one that has a time
 pub timeless : (stamp : Stamp) → 0 < (in_lowest_terms (printed_of stamp)).denominator

@@ -2,3 +2,4 @@ pub mod PrintedForm
 pub mod WholeUnits
 pub mod StampForms
 pub mod Chosen
+pub mod Codes

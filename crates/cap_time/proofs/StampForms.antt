@@ -1,8 +1,7 @@
 -- What follows for stamps: their times and printed forms, and their order.
-use Rattle.std.proofs.Common.{◌≡◌, ℕ, ◌*◌, ◌+◌, ◌-◌, ◌/◌, ◌%◌, ◌^◌, ◌<◌, refl, sym, ap, subst, ◌∙◌, arith, ℤ, pos}
+use Rattle.std.proofs.Common.{◌≡◌, ℕ, ◌*◌, ◌+◌, ◌-◌, ◌/◌, ◌%◌, ◌^◌, ◌<◌, refl, sym, ap, ◌∙◌, arith, ℤ, pos}
 use Rattle.std.proofs.Common.{negsuc, ◌+ℤ◌, ◌*ℤ◌, Ordering, Less, Equal}
 use Rattle.std.proofs.lemmas.Int.{ints}
-use Rattle.std.proofs.Math.Bridge.{le_prop}
 use Rattle.std.proofs.lemmas.Nat.{div-add-mod', mod_below}
 use Rattle.std.proofs.Math.Nat.{div-le_self}
 use borrow.Author.Differences.{same_in, sum_is_lem, product_is}
@@ -12,19 +11,20 @@ use Rattle.std.proofs.Common.{FitsSigned, of_z, w64}
 use lib.IntN.{nat_abs}
 use Rattle.std.specs.Cmp.{tied_itself, upto, int_cmp_is, nat_cmp_is}
 use Rattle.cap_time.specs.declared.resolutions.Interface.{Interface}
+use Rattle.cap_time.specs.declared.resolutions.Resolution.{Resolution}
 use Rattle.cap_time.specs.declared.stamps.Stamp.{Stamp}
 use Rattle.cap_time.specs.Resolution.{units_of}
 use Rattle.cap_time.specs.Time.{time_at, time_cmp, time_plus, printed_form, printed_plus, floor_of, remainder_of}
 use Rattle.cap_time.specs.inner.TimeLaws.{time_cmp-alike}
-use Rattle.cap_time.specs.Stamp.{offset_of, seconds_of, numerator_of, printed_of, time_of, time_in, stamp_cmp, stamp_in}
-use Rattle.cap_time.specs.Stamp.{stamp_plus, whole_of}
+use Rattle.cap_time.specs.Stamp.{offset_of, seconds_of, numerator_of, denominator_of, printed_of, time_of, time_in}
+use Rattle.cap_time.specs.Stamp.{stamp_cmp, stamp_in, stamp_plus, whole_of}
 use Rattle.cap_time.specs.inner.StampLaws.{stamp_cmp-parts, stamp_cmp_total, fraction_cmp, same_parts, numerator_below}
-use Rattle.cap_time.specs.inner.StampLaws.{CountAlike}
+use Rattle.cap_time.specs.inner.StampLaws.{CountAlike, denominator_positive}
 use Rattle.cap_time.proofs.PrintedForm.{printed_form-time_at, time_at-stamped, time_at-later}
 
 -- a stamp's printed form is that of its time
 pub printed_of-time : (a : Stamp) → printed_of a ≡ printed_form (time_of a)
-printed_of-time a = sym (printed_form-time_at (seconds_of a) (numerator_of a) a.denominator (numerator_below a))
+printed_of-time a = sym (printed_form-time_at (seconds_of a) (numerator_of a) (denominator_of a) (numerator_below a))
 
 -- a whole number is the rest of it above d times its floor, and that
 floored : (z : ℤ) (d : ℕ) → 0 < d → pos (remainder_of z d) +ℤ floor_of z d *ℤ pos d ≡ z
@@ -66,15 +66,12 @@ unfolding remainder_of
 low_above (pos n) h g = omega (arith, h.sfits, div-add-mod' n (2 ^ 64), mod_below n (2 ^ 64) (omega arith))
 low_above (negsuc n) h g = grind arith
 
--- a stamp is its numbers
-abbrev stamp_from : (units denominator low : ℕ) → ℤ → 0 < denominator → Stamp
-stamp_from u d l h p = record { units = u; denominator = d; low = l; high = h; positive = p }
+-- stamps of the same units and resolution are the same if they count from the same second
+abbrev stamp_from : (units : ℕ) → Resolution → (low : ℕ) → ℤ → Stamp
+stamp_from u r l h = record { units = u; resolution = r; low = l; high = h }
 
-pub same_stamp : (u d e l m : ℕ) (h k : ℤ) (p : 0 < d) (q : 0 < e) → d ≡ e → l ≡ m → h ≡ k
-    → stamp_from u d l h p ≡ stamp_from u e m k q
-same_stamp u d e l m h k p q denominator low high =
-    subst (λ (y : ℕ). (r : 0 < y) → stamp_from u d l h p ≡ stamp_from u y m k r) denominator
-    (λ r i. stamp_from u d (low i) (high i) (le_prop p r i)) q
+pub same_stamp : (u : ℕ) (r : Resolution) (l m : ℕ) (h k : ℤ) → l ≡ m → h ≡ k → stamp_from u r l h ≡ stamp_from u r m k
+same_stamp u r l m h k low high = λ i. stamp_from u r (low i) (high i)
 
 pub offset_of-stamp_in : (units : ℕ) (interface : Interface) → offset_of (stamp_in units interface) ≡ interface.offset
 unfolding stamp_in
@@ -122,15 +119,14 @@ seconds_of-plus a k = omega (arith, ints, offset_of-plus a k)
 
 pub time_of-plus : (a : Stamp) (k : ℕ) → time_of (stamp_plus a k) ≡ time_plus (time_of a) k
 unfolding stamp_plus
-time_of-plus a k = time_at-later (seconds_of a) _ (numerator_of a) a.denominator k (seconds_of-plus a k)
+time_of-plus a k = time_at-later (seconds_of a) _ (numerator_of a) (denominator_of a) k (seconds_of-plus a k)
 
 pub printed_of-plus : (a : Stamp) (k : ℕ) → printed_of (stamp_plus a k) ≡ printed_plus (printed_of a) k
 unfolding stamp_plus
 printed_of-plus a k = λ i. record {
   seconds = seconds_of-plus a k i;
   numerator = numerator_of a;
-  denominator =
-      a.denominator;
+  denominator = denominator_of a;
 }
 
 pub time_of-stamp_in : (units : ℕ) (interface : Interface)
@@ -149,13 +145,14 @@ printed_of-stamp_in units interface = printed_of-time (stamp_in units interface)
 pub stamp_cmp-alike : (a b : Stamp) → CountAlike a b → stamp_cmp a b ≡ nat_cmp a.units b.units
 unfolding stamp_cmp
 stamp_cmp-alike a b alike =
+    let d = denominator_of a in
     let seconds : offset_of b ≡ offset_of a = sym (λ i. pos (alike.1 i) +ℤ alike.2 i *ℤ pos (2 ^ 64)) in
-    let own : time_of a ≡ time_at a.units a.denominator (offset_of a) =
-    time_at-stamped (offset_of a) _ a.units a.denominator a.denominator refl refl in
-    let others : time_of b ≡ time_at b.units a.denominator (offset_of a) =
-    time_at-stamped (offset_of a) _ b.units b.denominator a.denominator (sym alike.0)
-    (ap (λ (z : ℤ). z +ℤ pos (b.units / b.denominator)) seconds) in
-    (λ i. time_cmp (own i) (others i)) ∙ time_cmp-alike (offset_of a) a.units b.units a.denominator a.positive
+    let own : time_of a ≡ time_at a.units d (offset_of a) = time_at-stamped (offset_of a) _ a.units d d refl refl in
+    let others : time_of b ≡ time_at b.units d (offset_of a) =
+    time_at-stamped (offset_of a) _ b.units (denominator_of b) d (ap units_of (sym alike.0))
+    (ap (λ (z : ℤ). z +ℤ pos (b.units / denominator_of b)) seconds) in
+    (λ i. time_cmp (own i) (others i))
+    ∙ time_cmp-alike (offset_of a) a.units b.units d (denominator_positive a)
 
 -- a stamp is before any later second's
 pub stamp_cmp-later : (a : Stamp) (k : ℕ) → 0 < k → stamp_cmp a (stamp_plus a k) ≡ Less
@@ -170,13 +167,13 @@ pub stamp_plus-alike : (a b : Stamp) (k : ℕ) → stamp_cmp a b ≡ Equal
     → stamp_cmp (stamp_plus a k) (stamp_plus b k) ≡ Equal
 unfolding stamp_plus
 stamp_plus-alike a b k same =
-    let parts : (seconds_of a ≡ seconds_of b) × (numerator_of a * b.denominator ≡ numerator_of b * a.denominator) =
-    same_parts a b same in
+    let parts : (seconds_of a ≡ seconds_of b)
+    × (numerator_of a * denominator_of b ≡ numerator_of b * denominator_of a) = same_parts a b same in
     let seconds : seconds_of (stamp_plus a k) ≡ seconds_of (stamp_plus b k) = seconds_of-plus a k
     ∙ ap (λ (z : ℤ). z +ℤ pos k) parts.0 ∙ sym (seconds_of-plus b k) in
     stamp_cmp-parts (stamp_plus a k) (stamp_plus b k)
     ∙ sym (λ i. ordering_then (int_cmp_is (seconds_of (stamp_plus a k)) (seconds_of (stamp_plus b k)) Equal seconds i)
-    (nat_cmp_is (numerator_of a * b.denominator) (numerator_of b * a.denominator) Equal parts.1 i))
+    (nat_cmp_is (numerator_of a * denominator_of b) (numerator_of b * denominator_of a) Equal parts.1 i))
 
 -- a stamp is level with itself
 pub stamp_cmp_itself : (a : Stamp) → stamp_cmp a a ≡ Equal

@@ -8,7 +8,7 @@ use Rattle.cap_time.specs.inner.TimeLaws.{time_cmp-units}
 use Rattle.std.specs.Prelude.{Bool, Some, None, MatchOption, ◌==◌, if◌then◌else◌}
 use Rattle.cap_time.specs.declared.stamps.Stamp.{Stamp}
 use Rattle.cap_time.specs.Stamp.{seconds_of, numerator_of, denominator_of, time_of, whole_of}
-use Rattle.cap_time.specs.inner.StampLaws.{both_equal}
+use Rattle.cap_time.specs.inner.StampLaws.{both_equal, numerator_below}
 use Rattle.cap_time.specs.declared.stamps.Unit.{Unit as Fraction}
 use Rattle.cap_time.specs.Unit.{in_second}
 
@@ -35,15 +35,15 @@ pub ruleset whole_units = (whole_here, whole_nowhere, whole_below)
 pub in_second_positive : (unit : Fraction) → 0 < in_second unit
 in_second_positive unit = grind arith
 
-whole_case : (e : ℕ) (a : Stamp) → 0 < e → (b : Bool) → (numerator_of a * e % denominator_of a == 0) ≡ b
-    → MatchOption {T = ℤ × ℕ} (if b then Some (seconds_of a, numerator_of a * e / denominator_of a) else None)
-    (IsNeverWhole e (time_of a)) (λ w. IsWholeTime e (time_of a) w.0 w.1)
-whole_case e a p b test = grind (arith, whole_here, whole_nowhere)
+whole_case : (s : ℤ) (n d e : ℕ) → n < d → 0 < e → (b : Bool) → (n * e % d == 0) ≡ b
+    → MatchOption {T = ℤ × ℕ} (if b then Some (s, n * e / d) else None) (IsNeverWhole e (time_at n d s))
+    (λ w. IsWholeTime e (time_at n d s) w.0 w.1)
+whole_case s n d e h p b test = grind (arith, whole_here, whole_nowhere)
 
 -- what `whole_of` answers: the one pair that is the time, or nothing if there is none
 pub whole_of_pair : (e : ℕ) (a : Stamp) → 0 < e
     → MatchOption {T = ℤ × ℕ} (whole_of e a) (IsNeverWhole e (time_of a)) (λ w. IsWholeTime e (time_of a) w.0 w.1)
-whole_of_pair e a p = whole_case e a p (numerator_of a * e % denominator_of a == 0) refl
+whole_of_pair e a p = whole_case (seconds_of a) (numerator_of a) (denominator_of a) e (numerator_below a) p _ refl
 
 -- units of the size that they have already
 pub whole_same : (n d e : ℕ) → n < d → d ≡ e → Some n ≡ (if n * e % d == 0 then Some (n * e / d) else None)

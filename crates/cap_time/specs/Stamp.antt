@@ -7,22 +7,21 @@ use Rattle.std.specs.declared.cmp.Ordering.{Ordering}
 use Rattle.cap_time.specs.declared.resolutions.Interface.{Interface}
 use Rattle.cap_time.specs.declared.stamps.Stamp.{Stamp}
 use Rattle.cap_time.specs.Resolution.{units_of}
-use Rattle.cap_time.specs.ResolutionLaws.{units_positive}
 use Rattle.cap_time.specs.Time.{Time, Printed, time_at, time_cmp, floor_of, remainder_of}
 
 -- the second from which its units count
 abbrev pub offset_of : Stamp → ℤ
 offset_of stamp = pos stamp.low +ℤ stamp.high *ℤ pos (2 ^ 64)
 
--- the three numbers of the printed form
+-- the three numbers of the printed form, the last of which is the units in a second
+abbrev pub denominator_of : Stamp → ℕ
+denominator_of stamp = units_of stamp.resolution
+
 abbrev pub seconds_of : Stamp → ℤ
-seconds_of stamp = offset_of stamp +ℤ pos (stamp.units / stamp.denominator)
+seconds_of stamp = offset_of stamp +ℤ pos (stamp.units / denominator_of stamp)
 
 abbrev pub numerator_of : Stamp → ℕ
-numerator_of stamp = stamp.units % stamp.denominator
-
-abbrev pub denominator_of : Stamp → ℕ
-denominator_of stamp = stamp.denominator
+numerator_of stamp = stamp.units % denominator_of stamp
 
 abbrev pub printed_of : Stamp → Printed
 printed_of stamp = record {
@@ -51,10 +50,9 @@ time_in units interface = time_at units (units_of interface.resolution) interfac
 unfoldable pub stamp_in : ℕ → Interface → Stamp
 stamp_in units interface = record {
   units = units;
-  denominator = units_of interface.resolution;
+  resolution = interface.resolution;
   low = remainder_of interface.offset (2 ^ 64);
   high = floor_of interface.offset (2 ^ 64);
-  positive = units_positive interface.resolution;
 }
 
 -- the stamp of that many seconds later, in the same form

@@ -5,7 +5,7 @@ ghost use Rattle.cap_time.specs.Time.{floor_of, remainder_of};
 
 mod order;
 
-use crate::resolutions::Interface;
+use crate::resolutions::{Interface, Resolution};
 pub use crate::stamps::order::reach;
 
 /// The units in which a pcap file counts the fraction of a second.
@@ -39,13 +39,13 @@ impl Unit {
 #[derive(Clone, Copy, Debug)]
 pub struct Stamp {
     units: u64,
-    // how many of them there are in a second
-    denominator: u64,
     // the second from which they count, as `high * 2^64 + low`: seconds that are added take it beyond an interface's
     // offset
     low: u64,
     high: i32,
-    ghost positive: { 0 < denominator },
+    // how the interface counts them: how many there are in a second is computed where it is asked for. It stands last,
+    // where it makes a stamp no longer: fields lie in memory in this order.
+    resolution: Resolution,
 }
 
 // An interface's offset as a stamp keeps it: what it is above a multiple of 2^64, and which multiple that is.
@@ -115,9 +115,9 @@ impl Stamp {
         let (low, high) = halves(interface.offset);
         Stamp {
             units,
-            denominator: interface.resolution.units(),
             low,
             high,
+            resolution: interface.resolution,
         }
     }
 
@@ -126,7 +126,7 @@ impl Stamp {
         ensures { result ≡ seconds_of self }
     {
         let offset = i128::from(self.low) + i128::from(self.high) * 0x1_0000_0000_0000_0000;
-        offset + i128::from(split(self.units, self.denominator).0)
+        offset + i128::from(split(self.units, self.denominator()).0)
     }
 
     /// How many units, of which a second has `denominator`, the time is above its seconds.
@@ -134,7 +134,7 @@ impl Stamp {
         ensures value { result ≡ numerator_of self }
         ensures below { result < denominator_of self }
     {
-        split(self.units, self.denominator).1
+        split(self.units, self.denominator()).1
     }
 
     /// The units in a second.
@@ -142,7 +142,7 @@ impl Stamp {
         ensures value { result ≡ denominator_of self }
         ensures positive { 0 < result }
     {
-        self.denominator
+        self.resolution.units()
     }
 
     /// The time `seconds` later, in the same form. The stamp's own seconds are below 2^65, as `new`
@@ -156,9 +156,9 @@ impl Stamp {
         let sum = u128::from(self.low) + u128::from(seconds);
         Stamp {
             units: self.units,
-            denominator: self.denominator,
             low: (sum % 0x1_0000_0000_0000_0000) as u64,
             high: self.high + (sum / 0x1_0000_0000_0000_0000) as i32,
+            resolution: self.resolution,
         }
     }
 
@@ -169,7 +169,7 @@ impl Stamp {
         ensures whole { IfSome result (λ w. IsWholeTime (in_second unit) (time_of self) w.0 w.1) }
         ensures inexact { IfNone result (IsNeverWhole (in_second unit) (time_of self)) }
     {
-        match whole_units(self.numerator(), self.denominator, unit.in_second()) {
+        match whole_units(self.numerator(), self.denominator(), unit.in_second()) {
             Some(units) => Some((self.seconds(), units)),
             None => None,
         }

@@ -1,6 +1,5 @@
 -- The definitions on small groups of fragments, by computation.
-use Rattle.std.specs.Prelude.{◌≡◌, ℕ, List, [], ◌∷◌, Bool, true, false, None, Some, length, pos, is_some}
-use Rattle.std.proofs.Common.{lit<}
+use Rattle.std.specs.Prelude.{◌≡◌, ℕ, List, [], ◌∷◌, Bool, true, false, None, Some, length, pos, is_some, refl}
 use Rattle.cap_time.specs.declared.stamps.Stamp.{Stamp}
 use Rattle.cap_ip.specs.declared.headers.Key.{Key}
 use Rattle.cap_join.specs.Fragments.{Piece}
@@ -63,15 +62,19 @@ pub record OpenLimit : Type 0 where
   pub third : is_some (group_of 2 (opening 2 ∷ opening 1 ∷ opening 0 ∷ []) (key_numbered 2)) ≡ true
   pub flushed : group_of 2 (flushes (key_numbered 1) ∷ opening 1 ∷ opening 0 ∷ []) (key_numbered 1) ≡ None
 
--- times in microseconds: of 1 second, of 31, and of a microsecond more
+-- a time of that many microseconds
+abbrev pub at_microsecond : ℕ → Stamp
+at_microsecond n = record { units = n; resolution = record { code = 6; allowed = refl }; low = 0; high = pos 0 }
+
+-- times of 1 second, of 31, and of a microsecond more
 abbrev pub time_1 : Stamp
-time_1 = record { units = 1000000; denominator = 1000000; low = 0; high = pos 0; positive = lit< tt }
+time_1 = at_microsecond 1000000
 
 abbrev pub time_31 : Stamp
-time_31 = record { units = 31000000; denominator = 1000000; low = 0; high = pos 0; positive = lit< tt }
+time_31 = at_microsecond 31000000
 
 abbrev pub time_31_1 : Stamp
-time_31_1 = record { units = 31000001; denominator = 1000000; low = 0; high = pos 0; positive = lit< tt }
+time_31_1 = at_microsecond 31000001
 
 -- After 30 seconds a group isn't too old yet, and a millionth of a second later it is.
 pub record ThirtySeconds : Type 0 where

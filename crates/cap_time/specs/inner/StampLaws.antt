@@ -11,32 +11,37 @@ use Rattle.std.proofs.lemmas.Nat.{mod_below}
 use Rattle.std.specs.Prelude.{IsTrue}
 use Rattle.std.specs.Hash as fed
 use Rattle.cap_time.specs.declared.stamps.Stamp.{Stamp}
+use Rattle.cap_time.specs.ResolutionLaws.{units_positive}
 use Rattle.cap_time.specs.Stamp.{seconds_of, numerator_of, denominator_of, stamp_cmp, stamp_eq}
 use Rattle.cap_time.specs.inner.TimeLaws.{units_cmp, units_trans, units_congr, time_cmp-units}
 
+-- a second has a unit at least
+pub denominator_positive : (a : Stamp) → 0 < denominator_of a
+denominator_positive a = units_positive a.resolution
+
 -- a fraction is below a second
 pub numerator_below : (a : Stamp) → numerator_of a < denominator_of a
-numerator_below a = mod_below a.units a.denominator a.positive
+numerator_below a = mod_below a.units (denominator_of a) (denominator_positive a)
 
 -- stamps compare by their seconds, and then by their numerators crosswise
 pub stamp_cmp-parts : (a b : Stamp) → stamp_cmp a b
     ≡ ordering_then (int_cmp (seconds_of a) (seconds_of b))
     (nat_cmp (numerator_of a * denominator_of b) (numerator_of b * denominator_of a))
 unfolding stamp_cmp
-stamp_cmp-parts a b = time_cmp-units (seconds_of a) (seconds_of b) (numerator_of a) a.denominator
-    (numerator_of b) b.denominator (numerator_below a) (numerator_below b)
+stamp_cmp-parts a b = time_cmp-units (seconds_of a) (seconds_of b) (numerator_of a) (denominator_of a)
+    (numerator_of b) (denominator_of b) (numerator_below a) (numerator_below b)
 
 -- the second part of that comparison
 abbrev pub fraction_cmp : Stamp → Stamp → Ordering
-fraction_cmp a b = units_cmp (numerator_of a) a.denominator (numerator_of b) b.denominator
+fraction_cmp a b = units_cmp (numerator_of a) (denominator_of a) (numerator_of b) (denominator_of b)
 
 fraction_cmp_total : IsTotalOrder fraction_cmp
 fraction_cmp_total = record {
-  antisymm = λ a b. nat_cmp_total.antisymm (numerator_of a * b.denominator) (numerator_of b * a.denominator);
-  trans = λ a b c. units_trans (numerator_of a) a.denominator (numerator_of b) b.denominator
-      (numerator_of c) c.denominator a.positive;
-  congr = λ a b c. units_congr (numerator_of a) a.denominator (numerator_of b) b.denominator
-      (numerator_of c) c.denominator a.positive b.positive;
+  antisymm = λ a b. nat_cmp_total.antisymm (numerator_of a * denominator_of b) (numerator_of b * denominator_of a);
+  trans = λ a b c. units_trans (numerator_of a) (denominator_of a) (numerator_of b) (denominator_of b)
+      (numerator_of c) (denominator_of c) (denominator_positive a);
+  congr = λ a b c. units_congr (numerator_of a) (denominator_of a) (numerator_of b) (denominator_of b)
+      (numerator_of c) (denominator_of c) (denominator_positive a) (denominator_positive b);
 }
 
 -- `Ord`'s law
@@ -85,7 +90,7 @@ same_parts a b e =
     × (fraction_cmp a b ≡ Equal) = both_equal (int_cmp (seconds_of a) (seconds_of b)) (fraction_cmp a b)
     (sym (stamp_cmp-parts a b) ∙ e) in (
       int_ranked (seconds_of a) (seconds_of b) Equal (sym both.0),
-      ranked (numerator_of a * b.denominator) (numerator_of b * a.denominator) Equal (sym both.1),
+      ranked (numerator_of a * denominator_of b) (numerator_of b * denominator_of a) Equal (sym both.1),
     )
 
 -- `Hash`'s law
@@ -95,10 +100,10 @@ stamp_hash-same a b h =
     × (numerator_of a * denominator_of b ≡ numerator_of b * denominator_of a) =
     same_parts a b ((Equal-is (stamp_cmp a b)).0 h) in
     let places : binary_places (numerator_of a) (denominator_of a) ≡ binary_places (numerator_of b) (denominator_of b) =
-    same_quotient (numerator_of a) a.denominator (numerator_of b) b.denominator
-    (2 ^ 64) a.positive b.positive parts.1 in
+    same_quotient (numerator_of a) (denominator_of a) (numerator_of b) (denominator_of b)
+    (2 ^ 64) (denominator_positive a) (denominator_positive b) parts.1 in
     λ i. fed.i128 (parts.0 i) ++ fed.u128 (places i)
 
 -- two stamps count the same units from the same second
 abbrev pub CountAlike : Stamp → Stamp → Type 0
-CountAlike a b = (a.denominator ≡ b.denominator) × (a.low ≡ b.low) × (a.high ≡ b.high)
+CountAlike a b = (a.resolution ≡ b.resolution) × (a.low ≡ b.low) × (a.high ≡ b.high)

@@ -13,11 +13,11 @@ use std::hash::{Hash, Hasher};
 fn fraction_cmp(a: &Stamp, b: &Stamp) -> Ordering
     ensures { result ≡ nat_cmp (numerator_of a.now * denominator_of b.now) (numerator_of b.now * denominator_of a.now) }
 {
-    if a.denominator == b.denominator {
+    if a.denominator() == b.denominator() {
         a.numerator().cmp(&b.numerator())
     } else {
-        let own = u128::from(a.numerator()) * u128::from(b.denominator);
-        let others = u128::from(b.numerator()) * u128::from(a.denominator);
+        let own = u128::from(a.numerator()) * u128::from(b.denominator());
+        let others = u128::from(b.numerator()) * u128::from(a.denominator());
         own.cmp(&others)
     }
 }
@@ -27,7 +27,7 @@ fn fraction_cmp(a: &Stamp, b: &Stamp) -> Ordering
 fn count_alike(a: &Stamp, b: &Stamp) -> bool
     ensures { IsTrue result → CountAlike a.now b.now }
 {
-    a.denominator == b.denominator && a.low == b.low && a.high == b.high
+    a.resolution == b.resolution && a.low == b.low && a.high == b.high
 }
 
 // Compares stamps in any forms: the seconds decide, and of equal seconds the fractions. It takes copies, so that
@@ -148,7 +148,7 @@ impl Hash for Stamp {
     // The seconds and the first 64 binary places of the fraction: these are the same whatever the
     // denominator is.
     fn hash<H: Hasher>(&self, state: &mut H) {
-        let places = u128::from(self.numerator()) * (1 << 64) / u128::from(self.denominator);
+        let places = u128::from(self.numerator()) * (1 << 64) / u128::from(self.denominator());
         self.seconds().hash(state);
         places.hash(state);
     }

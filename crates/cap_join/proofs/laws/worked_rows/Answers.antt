@@ -1,4 +1,5 @@
 use Rattle.std.proofs.Common.{refl}
+use Rattle.cap_time.specs.Code.{units_of_code}
 use Rattle.cap_time.specs.Stamp.{stamp_cmp, stamp_plus}
 use Rattle.cap_time.specs.Time.{time_cmp, time_at}
 use Rattle.cap_join.specs.ByteMap.{completes, joined_data}
@@ -14,5 +15,5 @@ unfolding open_groups_after step group_of completes
 returns-clause-open_limit c = record { given_up = refl; first = refl; second = refl; third = refl; flushed = refl }
 
 pub returns-clause-thirty_seconds : goal.returns-clause-thirty_seconds
-unfolding stamp_cmp stamp_plus time_cmp time_at
+unfolding units_of_code stamp_cmp stamp_plus time_cmp time_at
 returns-clause-thirty_seconds c = record { at_thirty = refl; later = refl; without_clock = refl }

@@ -1,6 +1,5 @@
 -- The definitions on a few units, by computation.
-use Rattle.std.specs.Prelude.{◌≡◌, ℕ, List, [], ◌∷◌, ◌++◌, true, false, None, Some, Option, codes, pos}
-use Rattle.std.proofs.Common.{lit<}
+use Rattle.std.specs.Prelude.{◌≡◌, ℕ, List, [], ◌∷◌, ◌++◌, true, false, None, Some, Option, codes, pos, refl}
 use Rattle.cap_print.specs.declared.forms.Form.TheVariants.{Json}
 use Rattle.cap_print.specs.declared.forms.TimeForm.TheVariants.{Exact}
 use Rattle.cap_talks.specs.declared.table.units.TimedFrame.{TimedFrame}
@@ -15,13 +14,13 @@ use Rattle.cap_talks.specs.declared.table.units.Endpoint.{Endpoint}
 
 -- a time of that many seconds in millionths, and half a second in 1,024ths and in tenths
 abbrev pub at_second : ℕ → Stamp
-at_second n = record { units = 0; denominator = 1000000; low = n; high = pos 0; positive = lit< tt }
+at_second n = record { units = 0; resolution = record { code = 6; allowed = refl }; low = n; high = pos 0 }
 
 abbrev pub half_binary : Stamp
-half_binary = record { units = 512; denominator = 1024; low = 0; high = pos 0; positive = lit< tt }
+half_binary = record { units = 512; resolution = record { code = 138; allowed = refl }; low = 0; high = pos 0 }
 
 abbrev pub half_tenths : Stamp
-half_tenths = record { units = 5; denominator = 10; low = 0; high = pos 0; positive = lit< tt }
+half_tenths = record { units = 5; resolution = record { code = 1; allowed = refl }; low = 0; high = pos 0 }
 
 abbrev pub worked_frame_at : ℕ → Stamp → Option TimedFrame
 worked_frame_at place time = Some (record { time = time; place = place })

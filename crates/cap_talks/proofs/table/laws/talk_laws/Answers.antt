@@ -1,5 +1,6 @@
 use Rattle.std.proofs.Common.{refl}
 use Rattle.std.specs.Fmt.{digits}
+use Rattle.cap_time.specs.Code.{units_of_code}
 use Rattle.cap_time.specs.Stamp.{stamp_cmp}
 use Rattle.cap_time.specs.Time.{time_cmp, time_at}
 use Rattle.cap_talks.specs.table.Conversations.{rows_of}
@@ -18,7 +19,7 @@ pub returns-clause-sums : goal.returns-clause-sums
 returns-clause-sums c = sum_law
 
 pub returns-clause-lines : goal.returns-clause-lines
-unfolding rows_of stamp_cmp time_cmp time_at digits
+unfolding units_of_code rows_of stamp_cmp time_cmp time_at digits
 returns-clause-lines c = record { answered_line = refl; joined_line = refl; begun_line = refl; answered_object = refl }
 
 pub returns-clause-limit : goal.returns-clause-limit
