@@ -2,7 +2,7 @@
 use Rattle.std.proofs.Common.{◌≡◌, ℕ, ◌+◌, ◌≤◌, List, ◌∷◌, drop, true, false, Bool, IsTrue, Option}
 use Rattle.std.proofs.Common.{Some, None, Ok, Err, Result, refl, sym, ap, ◌∙◌, subst, arith}
 use Rattle.std.proofs.lemmas.Bool.{false≢true}
-use Rattle.std.specs.Prelude.{IsNone, IsOkUnless, ◌++◌, ◌&&◌, is_none}
+use Rattle.std.specs.Prelude.{IsNone, IsOkUnless, ◌++◌, ◌&&◌, [], is_none}
 use Rattle.cap_bytes.proofs.Putting.{Prints-head}
 use Rattle.cap_bytes.specs.Device.{Puts}
 use Rattle.cap_bytes.specs.Printing.{Prints}
@@ -10,6 +10,7 @@ use Rattle.cap_bytes.specs.declared.faults.Fault.{Fault}
 use Rattle.cap_bytes.specs.declared.faults.Fault.TheVariants.{Refused, Read, Write, Memory}
 use Rattle.cap_source.proofs.Onward.{Keeps-refl, Keeps-trans}
 use Rattle.cap_source.specs.Feed.{Feed, FeedKeeps, FeedPasses, Item, packet}
+use Rattle.cap_source.specs.ReadFaults.{FailsOf}
 use Rattle.cap_source.specs.inner.Walk.{GivesPacket, SameEndings, ShowsItem}
 use Rattle.cap_source.specs.declared.packets.Meta.{Meta}
 use Rattle.cap_line.specs.declared.jobs.Ignored.{Ignored}
@@ -339,3 +340,12 @@ module _ (options : DiffOptions) (tail : Tail) (first second : List ℕ) (a b sh
         ∙ (rests-parted p.passed p.first p.second shown.frame seen.frame (file_ending tail 1 first)
         (file_ending tail 2 second) ∙ ap (ended_rests (cuts_of tail first second)) (sym parted_is))) in
         λ i. record { is_same = is i; cuts = rests i }
+
+-- A failed read of one of two feeds is of the file of its number, whose device can fail.
+pub fails-of-two : (A B : Type 0) (a b : Feed) (one other : Bool) (fault : Fault) → a.files ≡ 1 ∷ [] → b.files ≡ 2 ∷ []
+    → a.can_fail 1 ≡ one → b.can_fail 2 ≡ other → FailsOne {A = A} a b (Err fault)
+    → FailsOf {A = B} (one ∷ other ∷ []) (Err fault)
+fails-of-two A B a b one other (Refused r) first second can cannot fails = tt
+fails-of-two A B a b one other (Read file offset) first second can cannot fails = grind arith
+fails-of-two A B a b one other Write first second can cannot fails = tt
+fails-of-two A B a b one other Memory first second can cannot fails = tt

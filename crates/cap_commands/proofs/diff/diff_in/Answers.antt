@@ -1,7 +1,9 @@
 use Rattle.std.proofs.Common.{◌∙◌, Err, Ok}
 use Rattle.std.proofs.lemmas.Result.{err_from_is_err_and}
 use Rattle.cap_source.specs.inner.Captures.{capture_feed}
-use Rattle.cap_commands.proofs.Divergence.{ends-diff, told-diff}
+use Rattle.cap_commands.proofs.Divergence.{ends-diff, fails-of-two, told-diff}
+use Rattle.cap_commands.specs.declared.diff.DiffEnd.{DiffEnd}
+use Rattle.cap_commands.specs.declared.diff.Divergence.{Divergence}
 use Rattle.cap_commands.proofs.diff.diff_in.Goals as goal
 
 pub returns-in_err-is_same-clause-text : goal.returns-in_err-is_same-clause-text
@@ -49,3 +51,13 @@ returns-clause-end g c = λ t u.
     (e.parts told tells) (e.ends_first told) (e.ends_second tells) c.cut_of.result c.cut_of-2.result c.cut_of.ensures
     c.cut_of-2.ensures
     c.in_ok-is_same.is_same c.in_ok-is_same.ensures.same
+
+pub returns-in_err-divergence-clause-read : goal.returns-in_err-divergence-clause-read
+returns-in_err-divergence-clause-read g c =
+    let p = err_from_is_err_and c.from_residual.result c.from_residual.ensures.1 in
+    let first = c.new-first.ensures in
+    let second = c.new-second.ensures in
+    rw (p.1, p.2)
+    (fails-of-two Divergence DiffEnd (capture_feed c.new-first.result) (capture_feed c.new-second.result) _ _
+    c.in_err-divergence.field-0.0 first.files second.files first.can_fail second.can_fail
+    c.in_err-divergence.ensures.fails)
