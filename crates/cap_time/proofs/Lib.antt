@@ -3,3 +3,4 @@ pub mod WholeUnits
 pub mod StampForms
 pub mod Chosen
 pub mod Codes
+pub mod Powers

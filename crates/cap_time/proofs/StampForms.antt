@@ -1,17 +1,18 @@
 -- What follows for stamps: their times and printed forms, and their order.
 use Rattle.std.proofs.Common.{◌≡◌, ℕ, ◌*◌, ◌+◌, ◌-◌, ◌/◌, ◌%◌, ◌^◌, ◌<◌, refl, sym, ap, ◌∙◌, arith, ℤ, pos}
-use Rattle.std.proofs.Common.{negsuc, ◌+ℤ◌, ◌*ℤ◌, Ordering, Less, Equal}
+use Rattle.std.proofs.Math.Bool.{Bool-set}
+use Rattle.std.proofs.Common.{subst, negsuc, ◌+ℤ◌, ◌*ℤ◌, Ordering, Less, Equal}
 use Rattle.std.proofs.lemmas.Int.{ints}
 use Rattle.std.proofs.lemmas.Nat.{div-add-mod', mod_below}
 use Rattle.std.proofs.Math.Nat.{div-le_self}
 use borrow.Author.Differences.{same_in, sum_is_lem, product_is}
 use Rattle.std.specs.Ordering.{ordering_reverse, ordering_then, nat_cmp, is_lt, is_gt}
-use Rattle.std.specs.Prelude.{Some, None, ◌==◌, if◌then◌else◌, true, false, int_lt, ◌≤ℤ◌, ◌<ℤ◌, neg_ℤ}
+use Rattle.std.specs.Prelude.{IsTrue, Some, None, ◌==◌, if◌then◌else◌, true, false, int_lt, ◌≤ℤ◌, ◌<ℤ◌, neg_ℤ}
 use Rattle.std.proofs.Common.{FitsSigned, of_z, w64}
 use lib.IntN.{nat_abs}
 use Rattle.std.specs.Cmp.{tied_itself, upto, int_cmp_is, nat_cmp_is}
 use Rattle.cap_time.specs.declared.resolutions.Interface.{Interface}
-use Rattle.cap_time.specs.declared.resolutions.Resolution.{Resolution}
+use Rattle.cap_time.specs.Code.{is_allowed, units_of_code}
 use Rattle.cap_time.specs.declared.stamps.Stamp.{Stamp}
 use Rattle.cap_time.specs.Resolution.{units_of}
 use Rattle.cap_time.specs.Time.{time_at, time_cmp, time_plus, printed_form, printed_plus, floor_of, remainder_of}
@@ -67,11 +68,16 @@ low_above (pos n) h g = omega (arith, h.sfits, div-add-mod' n (2 ^ 64), mod_belo
 low_above (negsuc n) h g = grind arith
 
 -- stamps of the same units and resolution are the same if they count from the same second
-abbrev stamp_from : (units : ℕ) → Resolution → (low : ℕ) → ℤ → Stamp
-stamp_from u r l h = record { units = u; resolution = r; low = l; high = h }
+abbrev stamp_from : (units code : ℕ) → IsTrue (is_allowed code) → (low : ℕ) → ℤ → Stamp
+stamp_from u c p l h = record { units = u; code = c; low = l; high = h; allowed = p }
 
-pub same_stamp : (u : ℕ) (r : Resolution) (l m : ℕ) (h k : ℤ) → l ≡ m → h ≡ k → stamp_from u r l h ≡ stamp_from u r m k
-same_stamp u r l m h k low high = λ i. stamp_from u r (low i) (high i)
+pub same_stamp : (u c d : ℕ) (p : IsTrue (is_allowed c)) (q : IsTrue (is_allowed d)) (l m : ℕ) (h k : ℤ)
+    → c ≡ d → l ≡ m → h ≡ k → stamp_from u c p l h ≡ stamp_from u d q m k
+same_stamp u c d p q l m h k code low high =
+    let along : (r : IsTrue (is_allowed d)) → stamp_from u c p l h ≡ stamp_from u d r m k =
+    subst (λ (y : ℕ). (r : IsTrue (is_allowed y)) → stamp_from u c p l h ≡ stamp_from u y r m k) code
+    (λ r i. stamp_from u c (Bool-set (is_allowed c) true p r i) (low i) (high i)) in
+    along q
 
 pub offset_of-stamp_in : (units : ℕ) (interface : Interface) → offset_of (stamp_in units interface) ≡ interface.offset
 unfolding stamp_in
@@ -149,7 +155,7 @@ stamp_cmp-alike a b alike =
     let seconds : offset_of b ≡ offset_of a = sym (λ i. pos (alike.1 i) +ℤ alike.2 i *ℤ pos (2 ^ 64)) in
     let own : time_of a ≡ time_at a.units d (offset_of a) = time_at-stamped (offset_of a) _ a.units d d refl refl in
     let others : time_of b ≡ time_at b.units d (offset_of a) =
-    time_at-stamped (offset_of a) _ b.units (denominator_of b) d (ap units_of (sym alike.0))
+    time_at-stamped (offset_of a) _ b.units (denominator_of b) d (ap units_of_code (sym alike.0))
     (ap (λ (z : ℤ). z +ℤ pos (b.units / denominator_of b)) seconds) in
     (λ i. time_cmp (own i) (others i))
     ∙ time_cmp-alike (offset_of a) a.units b.units d (denominator_positive a)

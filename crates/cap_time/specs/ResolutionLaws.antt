@@ -24,13 +24,16 @@ choice : (binary : Bool) (e : ℕ) → IsTrue (cond binary (nat_le e 63) (nat_le
 choice true e h = two_below_ten (2 ^ e) (power_of_two e (leb-true e 63 h))
 choice false e h = power_of_ten e (leb-true e 19 h)
 
-limits : (code : ℕ) → IsTrue (is_allowed code) → (units_of_code code ≤ 10 ^ 19) × (1 ≤ units_of_code code)
+pub limits : (code : ℕ) → IsTrue (is_allowed code) → (units_of_code code ≤ 10 ^ 19) × (1 ≤ units_of_code code)
 unfolding units_of_code
 limits code h = choice (is_binary code) (exponent_of code) h
 
 -- there is a unit at least
+pub code_positive : (code : ℕ) → IsTrue (is_allowed code) → 0 < units_of_code code
+code_positive code allowed = omega (arith, (limits code allowed).1)
+
 pub units_positive : (resolution : Resolution) → 0 < units_of resolution
-units_positive resolution = omega (arith, (limits resolution.code resolution.allowed).1)
+units_positive resolution = code_positive resolution.code resolution.allowed
 
 -- and no more than 10^19 of them, so that their number fits 64 bits
 pub units_at_most : (resolution : Resolution) → units_of resolution ≤ 10 ^ 19

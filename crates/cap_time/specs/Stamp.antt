@@ -6,6 +6,7 @@ use Rattle.std.specs.Ordering.{eq_by_cmp}
 use Rattle.std.specs.declared.cmp.Ordering.{Ordering}
 use Rattle.cap_time.specs.declared.resolutions.Interface.{Interface}
 use Rattle.cap_time.specs.declared.stamps.Stamp.{Stamp}
+use Rattle.cap_time.specs.Code.{units_of_code}
 use Rattle.cap_time.specs.Resolution.{units_of}
 use Rattle.cap_time.specs.Time.{Time, Printed, time_at, time_cmp, floor_of, remainder_of}
 
@@ -15,7 +16,7 @@ offset_of stamp = pos stamp.low +ℤ stamp.high *ℤ pos (2 ^ 64)
 
 -- the three numbers of the printed form, the last of which is the units in a second
 abbrev pub denominator_of : Stamp → ℕ
-denominator_of stamp = units_of stamp.resolution
+denominator_of stamp = units_of_code stamp.code
 
 abbrev pub seconds_of : Stamp → ℤ
 seconds_of stamp = offset_of stamp +ℤ pos (stamp.units / denominator_of stamp)
@@ -50,9 +51,10 @@ time_in units interface = time_at units (units_of interface.resolution) interfac
 unfoldable pub stamp_in : ℕ → Interface → Stamp
 stamp_in units interface = record {
   units = units;
-  resolution = interface.resolution;
+  code = interface.resolution.code;
   low = remainder_of interface.offset (2 ^ 64);
   high = floor_of interface.offset (2 ^ 64);
+  allowed = interface.resolution.allowed;
 }
 
 -- the stamp of that many seconds later, in the same form

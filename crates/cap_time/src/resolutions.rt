@@ -39,19 +39,51 @@ impl Resolution {
     }
 
     /// The units in a second: `10^e` or `2^f`, at least 1 and at most 10^19.
-    #[tactic(auto, using(crate::specs::ResolutionLaws::powers), unfolding(crate::specs::Code::units_of_code))]
     pub fn units(self) -> u64
         ensures value { result ≡ units_of self }
         ensures positive { 0 < result }
         ensures most { result ≤ 10 ^ 19 }
     {
-        let exponent = u32::from(self.code % 128);
-        match self.code {
-            6 => 1_000_000,
-            9 => 1_000_000_000,
-            0..128 => 10u64.pow(exponent),
-            _ => 2u64.pow(exponent),
-        }
+        units_of_code(u32::from(self.code))
+    }
+}
+
+// The powers of ten from 1 to 10^19. It is a static, since a constant would be copied for each that is looked up.
+static POWERS_OF_TEN: [u64; 20] = [
+    1,
+    10,
+    100,
+    1_000,
+    10_000,
+    100_000,
+    1_000_000,
+    10_000_000,
+    100_000_000,
+    1_000_000_000,
+    10_000_000_000,
+    100_000_000_000,
+    1_000_000_000_000,
+    10_000_000_000_000,
+    100_000_000_000_000,
+    1_000_000_000_000_000,
+    10_000_000_000_000_000,
+    100_000_000_000_000_000,
+    1_000_000_000_000_000_000,
+    10_000_000_000_000_000_000,
+];
+
+/// The units in a second by the code of a resolution.
+pub(crate) fn units_of_code(code: u32) -> u64
+    requires { IsTrue (is_allowed code) }
+    ensures value { result ≡ units_of_code code }
+    ensures positive { 0 < result }
+    ensures most { result ≤ 10 ^ 19 }
+{
+    let exponent = code % 128;
+    if code < 128 {
+        POWERS_OF_TEN[exponent as usize]
+    } else {
+        1 << exponent
     }
 }
 

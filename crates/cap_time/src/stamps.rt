@@ -1,11 +1,12 @@
 //! Stamps: exact times, which keep the form in which their interface counted them.
 ghost use Rattle.std.specs.Prelude.{◌≡◌, ◌==◌, ◌<◌, ◌*◌, ◌/◌, ◌%◌, ◌≤ℤ◌, ◌<ℤ◌, ◌^◌, pos, neg_ℤ, Some, None, IfSome};
-ghost use Rattle.std.specs.Prelude.{IfNone, if◌then◌else◌};
+ghost use Rattle.std.specs.Prelude.{IfNone, IsTrue, if◌then◌else◌};
+ghost use Rattle.cap_time.specs.Code.{is_allowed};
 ghost use Rattle.cap_time.specs.Time.{floor_of, remainder_of};
 
 mod order;
 
-use crate::resolutions::{Interface, Resolution};
+use crate::resolutions::{Interface, units_of_code};
 pub use crate::stamps::order::reach;
 
 /// The units in which a pcap file counts the fraction of a second.
@@ -43,9 +44,10 @@ pub struct Stamp {
     // offset
     low: u64,
     high: i32,
-    // how the interface counts them: how many there are in a second is computed where it is asked for. It stands last,
-    // where it makes a stamp no longer: fields lie in memory in this order.
-    resolution: Resolution,
+    // the code of the interface's resolution: how many units there are in a second is looked up where it is asked for.
+    // It is as wide as what stands before it, since bytes between fields are copied with them.
+    code: u32,
+    ghost allowed: { IsTrue (is_allowed code) },
 }
 
 // An interface's offset as a stamp keeps it: what it is above a multiple of 2^64, and which multiple that is.
@@ -117,7 +119,7 @@ impl Stamp {
             units,
             low,
             high,
-            resolution: interface.resolution,
+            code: u32::from(interface.resolution.code()),
         }
     }
 
@@ -142,7 +144,7 @@ impl Stamp {
         ensures value { result ≡ denominator_of self }
         ensures positive { 0 < result }
     {
-        self.resolution.units()
+        units_of_code(self.code)
     }
 
     /// The time `seconds` later, in the same form. The stamp's own seconds are below 2^65, as `new`
@@ -158,7 +160,7 @@ impl Stamp {
             units: self.units,
             low: (sum % 0x1_0000_0000_0000_0000) as u64,
             high: self.high + (sum / 0x1_0000_0000_0000_0000) as i32,
-            resolution: self.resolution,
+            code: self.code,
         }
     }
 

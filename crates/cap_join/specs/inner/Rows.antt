@@ -64,7 +64,7 @@ pub record OpenLimit : Type 0 where
 
 -- a time of that many microseconds
 abbrev pub at_microsecond : ℕ → Stamp
-at_microsecond n = record { units = n; resolution = record { code = 6; allowed = refl }; low = 0; high = pos 0 }
+at_microsecond n = record { units = n; code = 6; low = 0; high = pos 0; allowed = refl }
 
 -- times of 1 second, of 31, and of a microsecond more
 abbrev pub time_1 : Stamp

@@ -11,13 +11,13 @@ use Rattle.std.proofs.lemmas.Nat.{mod_below}
 use Rattle.std.specs.Prelude.{IsTrue}
 use Rattle.std.specs.Hash as fed
 use Rattle.cap_time.specs.declared.stamps.Stamp.{Stamp}
-use Rattle.cap_time.specs.ResolutionLaws.{units_positive}
+use Rattle.cap_time.specs.ResolutionLaws.{code_positive}
 use Rattle.cap_time.specs.Stamp.{seconds_of, numerator_of, denominator_of, stamp_cmp, stamp_eq}
 use Rattle.cap_time.specs.inner.TimeLaws.{units_cmp, units_trans, units_congr, time_cmp-units}
 
 -- a second has a unit at least
 pub denominator_positive : (a : Stamp) → 0 < denominator_of a
-denominator_positive a = units_positive a.resolution
+denominator_positive a = code_positive a.code a.allowed
 
 -- a fraction is below a second
 pub numerator_below : (a : Stamp) → numerator_of a < denominator_of a
@@ -106,4 +106,4 @@ stamp_hash-same a b h =
 
 -- two stamps count the same units from the same second
 abbrev pub CountAlike : Stamp → Stamp → Type 0
-CountAlike a b = (a.resolution ≡ b.resolution) × (a.low ≡ b.low) × (a.high ≡ b.high)
+CountAlike a b = (a.code ≡ b.code) × (a.low ≡ b.low) × (a.high ≡ b.high)

@@ -27,7 +27,7 @@ fn fraction_cmp(a: &Stamp, b: &Stamp) -> Ordering
 fn count_alike(a: &Stamp, b: &Stamp) -> bool
     ensures { IsTrue result → CountAlike a.now b.now }
 {
-    a.resolution == b.resolution && a.low == b.low && a.high == b.high
+    a.code == b.code && a.low == b.low && a.high == b.high
 }
 
 // Compares stamps in any forms: the seconds decide, and of equal seconds the fractions. It takes copies, so that

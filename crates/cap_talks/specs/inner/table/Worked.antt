@@ -14,13 +14,13 @@ use Rattle.cap_talks.specs.declared.table.units.Endpoint.{Endpoint}
 
 -- a time of that many seconds in millionths, and half a second in 1,024ths and in tenths
 abbrev pub at_second : ℕ → Stamp
-at_second n = record { units = 0; resolution = record { code = 6; allowed = refl }; low = n; high = pos 0 }
+at_second n = record { units = 0; code = 6; low = n; high = pos 0; allowed = refl }
 
 abbrev pub half_binary : Stamp
-half_binary = record { units = 512; resolution = record { code = 138; allowed = refl }; low = 0; high = pos 0 }
+half_binary = record { units = 512; code = 138; low = 0; high = pos 0; allowed = refl }
 
 abbrev pub half_tenths : Stamp
-half_tenths = record { units = 5; resolution = record { code = 1; allowed = refl }; low = 0; high = pos 0 }
+half_tenths = record { units = 5; code = 1; low = 0; high = pos 0; allowed = refl }
 
 abbrev pub worked_frame_at : ℕ → Stamp → Option TimedFrame
 worked_frame_at place time = Some (record { time = time; place = place })

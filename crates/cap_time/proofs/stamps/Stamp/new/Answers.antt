@@ -12,7 +12,7 @@ unfolding stamp_in
 returns-clause-stamp c =
     let offset : to_z w64 (of_z w64 c.args.interface.now.offset) ≡ c.args.interface.now.offset = omega (arith, ints) in
     let high : to_z w32 (of_z w32 c.halves-low.result.1) ≡ c.halves-low.result.1 = omega (arith, ints) in
-    same_stamp _ _ _ _ _ _
+    same_stamp _ _ _ _ _ _ _ _ _ (c.from.ensures ∙ c.code.ensures.value)
     (c.halves-low.ensures.low ∙ ap (λ (z : ℤ). remainder_of z (2 ^ 64)) offset)
     (high ∙ c.halves-low.ensures.high ∙ ap (λ (z : ℤ). floor_of z (2 ^ 64)) offset)
 

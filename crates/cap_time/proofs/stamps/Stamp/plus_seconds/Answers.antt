@@ -1,4 +1,4 @@
-use Rattle.std.proofs.Common.{◌∙◌, ap, arith}
+use Rattle.std.proofs.Common.{◌∙◌, refl, ap, arith}
 use Rattle.std.proofs.lemmas.Int.{ints}
 use Rattle.cap_time.specs.Stamp.{stamp_plus, time_of, printed_of}
 use Rattle.cap_time.proofs.StampForms.{same_stamp, time_of-plus, printed_of-plus}
@@ -6,7 +6,7 @@ use Rattle.cap_time.proofs.stamps.Stamp.plus_seconds.Goals as goal
 
 pub returns-clause-stamp : goal.returns-clause-stamp
 unfolding stamp_plus
-returns-clause-stamp c = same_stamp _ _ _ _ _ _ (grind (arith, c.from.ensures, c.from-2.ensures))
+returns-clause-stamp c = same_stamp _ _ _ _ _ _ _ _ _ refl (grind (arith, c.from.ensures, c.from-2.ensures))
     (omega (arith, ints, c.from.ensures, c.from-2.ensures))
 
 pub returns-clause-time : goal.returns-clause-time

@@ -1,9 +1,8 @@
-use Rattle.std.proofs.Common.{arith, rules}
-use Rattle.cap_time.proofs.Codes.{same_resolution}
+use Rattle.std.proofs.Common.{rules}
 use Rattle.cap_time.proofs.stamps.order.count_alike.Goals as goal
 
-pub returns-then-a-b : goal.returns-then-a-b
-returns-then-a-b c = grind (arith, same_resolution)
+pub returns-then-a-b-2 : goal.returns-then-a-b-2
+returns-then-a-b-2 c = search rules
 
-pub returns-else-a-b : goal.returns-else-a-b
-returns-else-a-b c = search rules
+pub returns-else-a-b-2 : goal.returns-else-a-b-2
+returns-else-a-b-2 c = search rules
