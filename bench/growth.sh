@@ -1,7 +1,7 @@
 #!/usr/bin/env bash
-# How the cost of each command grows: nanoseconds of processor time a packet, in captures of so many packets, of ten times
-# and of a hundred times as many, and the last as a ratio to the first. Cost that grows as the packets do has a ratio of 1.
-# What a capture of one packet takes is subtracted. It prints a table in Markdown.
+# How the cost of each command grows: nanoseconds of processor time a packet, in captures of so many packets, of ten
+# times and of a hundred times as many, and the last as a ratio to the first. Cost that grows as the packets do has a
+# ratio of 1. What a capture of one packet takes is subtracted. It prints a table in Markdown.
 #
 # Makes its inputs in a folder of its own that is removed again: 64-byte packets of 1,000 conversations in turn; two
 # packets a conversation; fragments of 8 bytes, each of which opens a group, at offset 0 and at 65,504.

@@ -2,7 +2,7 @@
 """What a 64-byte packet costs each command, in instructions: what 200,000 packets cost more than 100,000, by callgrind.
 
 The packets are of 1,000 conversations, in random order; of 32 files, each packet is in a file at random. Instructions
-don't depend on what else the machine does, and say little of memory and of branches.
+don't depend on what else the machine does, and say little of memory and of branches. It prints a table in Markdown.
 
 Use: bench/instructions.py PROGRAM [WORD]..     of the rows that have one of the words (it needs valgrind and a C
                                                 compiler)
@@ -112,8 +112,9 @@ def main(words):
             return (more - less) / (MORE - LESS)
 
         with ThreadPoolExecutor(os.cpu_count()) as pool:
+            print("| command | instructions |\n|---|---|")
             for name, taken in zip(rows, pool.map(cost, rows.values())):
-                print(f"{name:40} {taken:6.0f}", flush=True)
+                print(f"| {name} | {taken:,.0f} |", flush=True)
 
 
 if __name__ == "__main__":
