@@ -1,14 +1,15 @@
 """What one run of a program costs: for the scripts of this folder."""
 import os, subprocess, time
 
-def measure(words, output=()):
-    """Runs a program, with the files of `output` removed before; its processor seconds (user and system together, user,
-    system), its seconds, and the peak of its resident memory in MiB. None where it fails."""
+def measure(words, output=(), printed=None, statuses=(0,)):
+    """Runs a program, with the files of `output` removed before; its processor seconds and those of the processes that
+    it began and waited for (user and system together, user, system), its seconds, and the peak of its own resident
+    memory in MiB. None where its status is another one. What it prints goes into the file `printed`."""
     for name in output:
         if os.path.exists(name):
             os.remove(name)
     start = time.monotonic()
-    child = subprocess.Popen(words, stdout=subprocess.DEVNULL, stderr=subprocess.DEVNULL)
+    child = subprocess.Popen(words, stdout=printed or subprocess.DEVNULL, stderr=subprocess.DEVNULL)
     peak = 0
     while True:
         # the kernel's own count of a child begins with its parent's memory, so read the child's
@@ -21,6 +22,6 @@ def measure(words, output=()):
         if done:
             break
         time.sleep(0.005)
-    if status != 0:
+    if os.waitstatus_to_exitcode(status) not in statuses:
         return None
     return (used.ru_utime + used.ru_stime, used.ru_utime, used.ru_stime, time.monotonic() - start, peak / 1024)
