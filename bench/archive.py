@@ -8,8 +8,8 @@ of that size have, of 1,000 conversations. With --folder it takes the files of a
 
 Each command is run once: `index`; `index` again, when nothing has changed; `find` of an address; `top`, `duplicates`,
 `totals`, `verify`; and `merge` of the first captures that are whole, at most 1,000 and 4 GB. A cell has seconds, and
-in brackets processor seconds, those of the workers too (except dask's). Memory is the peak of the main process. What the
-commands print is looked at: a wrong count ends the script.
+in brackets processor seconds, those of the workers too (but not dask's). Memory is the peak of the main process. What
+the commands print is looked at: a wrong count ends the script.
 
 Use: bench/archive.py [--program PROGRAM] [--jobs N | --dask ADDRESS] [--work FOLDER] [--folder FOLDER] [COUNTxSIZE]..
      as in: bench/archive.py --jobs 2 1000x10K 10000x10K 4x1G
@@ -26,18 +26,20 @@ from captures import HEADER, SIZES, frame, make
 from measure import measure
 
 TOP = os.path.dirname(os.path.dirname(os.path.realpath(__file__)))
-UNITS = {"": 1, "K": 10**3, "M": 10**6, "G": 10**9}
+UNITS = {"K": 10**3, "M": 10**6, "G": 10**9}
 OWN_PACKETS, OWN_TALKS, BODY_TALKS = 12, 5, 1000
 MOST_MERGED, MOST_MERGED_BYTES = 1000, 4 * 10**9
-# an address that the made captures have, from the hundredth on
-ADDRESS = "10.0.0.1"
+# an address that the first hundred of the made captures have
+ADDRESS = "10.0.0.0"
 
 
 def size_of(text):
-    found = re.fullmatch(r"(\d+)x(\d+)([KMG]?)", text)
-    if not found or int(found[1]) < 1:
+    """COUNTxSIZE: both, and the head of the column."""
+    found = re.fullmatch(r"([1-9]\d*)x(\d+)([KMG])", text)
+    if not found:
         raise argparse.ArgumentTypeError(f"{text}: COUNTxSIZE is wanted, as 1000x10K")
-    return int(found[1]), int(found[2]) * UNITS[found[3]]
+    count, size, unit = int(found[1]), int(found[2]), found[3]
+    return count, size * UNITS[unit], f"{count:,} of {size} {unit}B"
 
 
 def own_packets(number):
@@ -84,13 +86,12 @@ class Column:
         with tempfile.TemporaryFile() as printed:
             command = [sys.executable, "-m", "capt.archive", *words, *options]
             taken = measure(command, printed=printed, statuses=statuses)
-            if taken is None:
-                sys.exit(f"{self.cells['captures']}: {' '.join(words)} failed")
-            processor, _, _, seconds, memory = taken
-            self.cells[row] = f"{shown(seconds)} ({shown(processor)})"
-            self.memory[row] = memory
             printed.seek(0)
             text = printed.read().decode(errors="replace")
+            if taken is None:
+                sys.exit(f"{self.cells['captures']}: {' '.join(words)} failed: {text[-500:]}")
+        processor, _, _, seconds, memory = taken
+        self.cells[row], self.memory[row] = f"{shown(seconds)} ({shown(processor)})", memory
         print(f"{self.cells['captures']}: {row}: {self.cells[row]}", file=sys.stderr, flush=True)
         return text
 
@@ -122,8 +123,16 @@ class Column:
         questions = max(self.memory[row] for row in self.memory if "index" not in row and "verify" not in row)
         self.cells["most memory of a question, MiB"] = f"{questions:.0f}"
         self.merge(whole, listed, out)
-        for name, number in Counter(outcome for outcome, _, _ in rows if not outcome.startswith("whole")).most_common():
-            self.notes.append(f"{self.cells['captures']}: {name}: {number}")
+        ended = Counter(re.sub(r" offset \d+", "", outcome) for outcome, _, _ in rows)
+        if len(ended) > 1:
+            told = ", ".join(f"{name} {number:,}" for name, number in ended.most_common())
+            self.notes.append(f"{self.cells['captures']}, how they ended: {told}")
+
+    def check(self, count):
+        """Whether the made captures have what they are made of."""
+        found, equal = (int(self.cells[row].replace(",", "")) for row in ("captures that it found", "duplicates"))
+        if (found, equal) != (min(count, 100), count // 100 * 2):
+            sys.exit(f"archive.py: {found} captures were found and {equal} are duplicates")
 
     def merge(self, whole, listed, out):
         """Merges the first captures."""
@@ -181,17 +190,18 @@ def main():
     for wanted_size in [*([None] if how.folder else []), *how.sizes]:
         with tempfile.TemporaryDirectory(prefix="capt-archive-", dir=how.work) as work:
             if wanted_size:
-                count, size = wanted_size
-                names = made(work, count, size)
-                column = Column(f"{count:,} of {os.path.getsize(names[0]) / 1e3:,.0f} KB", names, how)
+                count, size, label = wanted_size
+                column = Column(label, made(work, count, size), how)
+                column.measure(work, ADDRESS)
+                column.check(count)
             else:
                 names = files_of(how.folder)
-                column = Column(f"{len(names):,} real ones", names, how)
-            column.measure(work, ADDRESS if wanted_size else None)
+                column = Column(f"{len(names):,} files", names, how)
+                column.measure(work, None)
             columns.append(column)
     print(table(columns))
-    print("".join(f"\n{note}" for column in columns for note in column.notes))
-    print(f"load at the end {os.getloadavg()[0]:.1f}")
+    for note in [note for column in columns for note in column.notes] + [f"load at the end {os.getloadavg()[0]:.1f}"]:
+        print(f"\n{note}")
 
 
 if __name__ == "__main__":

@@ -4,12 +4,13 @@ import os, subprocess, time
 def measure(words, output=(), printed=None, statuses=(0,)):
     """Runs a program, with the files of `output` removed before; its processor seconds and those of the processes that
     it began and waited for (user and system together, user, system), its seconds, and the peak of its own resident
-    memory in MiB. None where its status is another one. What it prints goes into the file `printed`."""
+    memory in MiB. None where its status is another one. What it prints and says goes into the file `printed`."""
     for name in output:
         if os.path.exists(name):
             os.remove(name)
     start = time.monotonic()
-    child = subprocess.Popen(words, stdout=printed or subprocess.DEVNULL, stderr=subprocess.DEVNULL)
+    streams = printed or subprocess.DEVNULL
+    child = subprocess.Popen(words, stdout=streams, stderr=streams)
     peak = 0
     while True:
         # the kernel's own count of a child begins with its parent's memory, so read the child's

@@ -9,7 +9,7 @@ from urllib.parse import quote
 
 from . import ends
 from .errors import ArchiveError
-from .program import CHECKED, JOINED, Found, Talk, classes, is_whole, nanoseconds
+from .program import CHECKED, JOINED, WHOLE, Found, Talk, classes, nanoseconds
 
 # `application_id` marks a database as a catalogue. `user_version` is that of its tables: those of version 2 have
 # conversations of IPv6 too, and the column `not_ip` in place of `not_ipv4`.
@@ -160,7 +160,10 @@ class Catalogue:
 
     def not_whole(self) -> Iterator[NotWhole]:
         """The captures that aren't whole."""
-        return (NotWhole(it.path, it.outcome) for it in self.entries() if not is_whole(it.outcome))
+        marks = ", ".join("?" * len(WHOLE))
+        query = f"SELECT path, outcome FROM files WHERE outcome NOT IN ({marks}) ORDER BY path"
+        for path, outcome in self._database.execute(query, WHOLE):
+            yield NotWhole(_path(path), outcome)
 
     def find(self, address: str, port: Optional[int] = None, since: Time = None,
              until: Time = None) -> Iterator[TalkRow]:

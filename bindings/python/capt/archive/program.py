@@ -9,6 +9,8 @@ from typing import IO, Any, Dict, Iterator, List, NamedTuple, Optional, Tuple, c
 from .errors import ArchiveError
 
 MOST = 2**63 - 1
+# how a capture ended that was read to its end; a cut end was dropped then, if that was allowed
+WHOLE = ("whole", "whole cut")
 # the counts of `check` and of the line `frames` and `joined` of `report`, by the columns of the table `totals`
 CHECKED = ("truncated", "backward", "untimed", "skipped", "interfaces")
 JOINED = ("joined", "given_up")
@@ -59,8 +61,8 @@ class Found(NamedTuple):
 
 
 def is_whole(outcome: str) -> bool:
-    """Whether a capture was read to its end; a cut end was dropped then, if that was allowed."""
-    return outcome in ("whole", "whole cut")
+    """Whether a capture was read to its end."""
+    return outcome in WHOLE
 
 
 def look(task: Task) -> Found:
