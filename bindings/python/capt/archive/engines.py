@@ -69,6 +69,20 @@ def local(jobs: int) -> Iterator[Engine]:
     pool.shutdown()
 
 
+class _Cluster:
+    """The engine of a client of dask. The results of a `map` come together: one by one, each takes some milliseconds."""
+
+    def __init__(self, client: Any):
+        self._client = client
+
+    def map(self, function: Callable[[Any], Any], items: Any, /) -> Iterable[Any]:
+        """Begins the calls, and gives their results."""
+        return self._gathered(self._client.map(function, items))
+
+    def _gathered(self, futures: Any) -> Iterator[Any]:
+        yield from self._client.gather(futures)
+
+
 @contextmanager
 def cluster(address: str) -> Iterator[Engine]:
     """The engine of a scheduler of dask, of that address."""
@@ -81,4 +95,4 @@ def cluster(address: str) -> Iterator[Engine]:
     except (OSError, ValueError) as error:
         raise ArchiveError(f"no scheduler at {address}: {error}")
     with client:
-        yield client
+        yield _Cluster(client)
