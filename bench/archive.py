@@ -18,7 +18,7 @@ import sys
 
 sys.dont_write_bytecode = True
 
-import argparse, os, platform, re, shutil, sqlite3, tempfile
+import argparse, os, platform, re, shutil, signal, sqlite3, tempfile
 from collections import Counter
 from contextlib import closing
 
@@ -179,6 +179,8 @@ def main():
     parser.add_argument("--jobs", default=str(len(os.sched_getaffinity(0))), help="how many processes work")
     parser.add_argument("--dask", metavar="ADDRESS", help="the workers are those of this scheduler")
     how = parser.parse_args()
+    # the folder is removed then too
+    signal.signal(signal.SIGTERM, lambda number, _: sys.exit(128 + number))
     how.program = os.path.realpath(how.program)
     how.workers = ["--dask", how.dask] if how.dask else ["--jobs", how.jobs]
     os.environ["PYTHONPATH"] = os.path.join(TOP, "bindings", "python")

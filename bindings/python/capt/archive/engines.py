@@ -70,7 +70,8 @@ def local(jobs: int) -> Iterator[Engine]:
 
 
 class _Cluster:
-    """The engine of a client of dask. The results of a `map` come together: one by one, each takes some milliseconds."""
+    """The engine of a client of dask. The results of a `map` come together: one by one, each would take a call to the
+    scheduler."""
 
     def __init__(self, client: Any):
         self._client = client
