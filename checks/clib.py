@@ -720,6 +720,56 @@ def check_ends(count, checker, bench, name, content):
             count.check(f"c: fed {end} bytes of {name}", seen == run([checker, "next", *words, path]), seen)
 
 
+# A command, its options as numbers (flags, data, top, times, unit) and as words, and how many files it has.
+JOBS = [
+    ("list", (), [], 1), ("list", (16, 2**32 - 1), ["--json", "--data", "0"], 1), ("list", (0, 0, 0, 1), ["--time", "decimal"], 1),
+    ("list", (32,), ["--class"], 1), ("list", (16 | 32 | 8, 200, 0, 2), ["--json", "--class", "--ipv6", "--data", "200", "--time", "utc"], 1),
+    ("blocks", (), [], 1), ("blocks", (16,), ["--json"], 1), ("info", (), [], 2), ("info", (16, 0, 0, 2), ["--json", "--time", "utc"], 1),
+    ("report", (), [], 1), ("report", (8, 0, 1), ["--ipv6", "--top", "1"], 2), ("report", (16, 0, 0, 1), ["--json", "--time", "decimal"], 1),
+    ("convert", (), ["--to", "pcapng"], 1), ("convert", (2 | 4, 0, 0, 0, 2), ["--to", "pcap", "--order", "big", "--unit", "nano"], 1),
+    ("merge", (), [], 2), ("merge", (64,), ["--share-interfaces"], 2), ("merge", (4, 0, 0, 0, 1), ["--to", "pcap", "--unit", "micro"], 2),
+    ("join", (2,), ["--order", "big"], 2), ("join", (4,), ["--to", "pcap"], 1), ("diff", (), [], 2),
+    ("diff", (16 | 256 | 512, 3, 0, 1), ["--json", "--data", "3", "--ignore", "time", "--ignore", "link", "--time", "decimal"], 2),
+    ("diff", (1024,), ["--ignore", "original"], 2), ("digest", (), [], 2), ("digest", (16,), ["--json"], 1),
+    ("check", (), [], 2), ("check", (16 | 128, 0, 0, 2), ["--json", "--digest", "--time", "utc"], 2),
+]
+
+
+def check_jobs(count, reader, name, content, other):
+    """A job gives the text that the program writes for the same command, in pieces of any size, and ends as the
+    program does. The JSON lines of `digest` and `check` don't name their files."""
+    paths = [os.path.join(os.path.dirname(reader), it) for it in ("job-1", "job-2")]
+    for path, bytes_ in zip(paths, (content, other)):
+        with open(path, "wb") as out:
+            out.write(bytes_)
+    for task, numbers, words, files in JOBS:
+        numbers = [*numbers, *[0] * (5 - len(numbers))]
+        for allow_cut in 0, 1:
+            out = ["-o", "-"] * (task in ("convert", "merge", "join"))
+            want = run([PROGRAM, task, *["--allow-cut"] * allow_cut, *words, *out, *paths[:files]])
+            lines = re.sub(rb',"path":"(?:[^"\\\\]|\\\\.)*"', b"", want[1]) if task in ("digest", "check") else want[1]
+            said = b"".join(re.findall(rb"^refused: .*\n", want[2], re.M))
+            for room in 1, 100, 100000:
+                told = list(map(str, [room, numbers[0] + allow_cut, *numbers[1:]]))
+                seen = run([reader, task, *told, *paths[:files]])
+                count.check(f"c: a job: {task} {words} by {room} of {name}", seen == (want[0], lines, said), seen, want)
+
+
+def check_job_faults(count, reader, shim, folder, content):
+    """Each growth of a job is refused in turn: it says so, and loses no byte. What the header calls misuse is told."""
+    path = os.path.join(folder, "job")
+    with open(path, "wb") as out:
+        out.write(content)
+    seen = run([reader, "misuse", "1", "0", "0", "0", "0", "0", path])
+    count.check("c: misuse of a job", seen == (0, b"", b""), seen)
+    for task, numbers, _, files in JOBS:
+        words = [task, "7", *map(str, [*numbers, *[0] * (5 - len(numbers))]), *[path] * files]
+        want = run([reader, *words])
+        for at in range(1, 30):
+            seen = run([reader, *words], env={**os.environ, "LD_PRELOAD": shim, "FAULT_GROWTHS": f"{at}-{at + 1}"})
+            count.check(f"c: growth {at} of a job, {task}", seen in (want, (3, b"", b"")), seen, want)
+
+
 def check_other_library(count, folder):
     """A library of another version, whose calls take other words, is called by nobody."""
     other = os.path.join(folder, "other.so")
@@ -1395,6 +1445,13 @@ def main():
         check_faults(count, checker, shim, path, example)
         check_example(count, folder, library, shim, bench, example)
         check_reading(count, folder, library, shim, example)
+        jobs = os.path.join(folder, "jobs")
+        source = os.path.join(TOP, "checks", "jobs.c")
+        subprocess.run(["cc", "-std=c11", "-I", library, "-o", jobs, source, os.path.join(library, "libcapt.a")], check=True)
+        for name, content in contents[::6]:
+            check_jobs(count, jobs, name, content, example)
+        for name in "monday.pcap", "tuesday.pcapng":
+            check_job_faults(count, jobs, shim, folder, dict(contents)[name])
         for name in "monday.pcap", "tuesday.pcapng":
             check_ends(count, checker, bench, name, dict(contents)[name])
         many = [example] * 32
@@ -1419,6 +1476,9 @@ def main():
                 count.check(f"valgrind: {name}", status in (0, 1), status)
                 status = run([*watch, checker, "fed", "13", bench.name(content)])[0]
                 count.check(f"valgrind: {name}, fed", status in (0, 1), status)
+                for task in "list", "blocks", "report":
+                    status = run([*watch, jobs, task, "50", "0", "0", "0", "0", "0", bench.name(content)])[0]
+                    count.check(f"valgrind: {name}, a job, {task}", status in (0, 1), status)
                 for form in "0", "4":
                     status = run([*watch, checker, "copy", form, bench.name(content)])[0]
                     count.check(f"valgrind: {name}, copied", status in (0, 1), status)

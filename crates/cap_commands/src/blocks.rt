@@ -18,9 +18,10 @@ use cap_bytes::{CutRest, Fault, Sink, Source, Tail, Window, put_all};
 use cap_print::{Form, Line, TimeForm};
 use std::alloc::Global;
 
-// The next block. Most are packets that the window shows already: to take one of these costs less.
+/// The next block, as `next_block` returns it. Most are packets that the window shows already: to take one of these
+/// costs less.
 #[inline(always)]
-fn take_block<R: Source>(reader: &mut BlockReader<R>) -> Result<Option<Block>, Fault>
+pub fn take_block<R: Source>(reader: &mut BlockReader<R>) -> Result<Option<Block>, Fault>
     ensures answer { GivesNextBlock reader.old result reader.new }
     ensures keeps { ReaderKeeps reader.old reader.new }
     ensures items { IsTrue reader.old.told → TakesBlock reader.old result reader.new }

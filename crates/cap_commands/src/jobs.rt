@@ -92,8 +92,8 @@ pub fn line_of(task: Task, digests: bool) -> CheckLine
     }
 }
 
-// How many bytes of a packet are shown at most: 16 in text, and in JSON unless the job says how many.
-fn shown_of(form: Form, count: Option<u32>) -> u32
+/// How many bytes of a packet are shown at most: 16 in text, and in JSON unless the job says how many.
+pub fn shown_of(form: Form, count: Option<u32>) -> u32
     ensures { result ≡ shown_by form count }
 {
     match form {

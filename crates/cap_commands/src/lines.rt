@@ -158,7 +158,7 @@ fn put_block_kind(line: &mut Line, form: Form, kind: u32)
 
 /// Makes a line that of the block number n, from 1, in a form. In text it is
 /// `block N offset O order big|little kind KKKKKKKK total T`.
-pub(crate) fn write_block(line: &mut Line, form: Form, n: u64, block: &Block)
+pub fn write_block(line: &mut Line, form: Form, n: u64, block: &Block)
     ensures { text_in line.new ≡ block_line form n block.now }
 {
     line.clear_to_end(form);

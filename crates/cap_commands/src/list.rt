@@ -78,15 +78,15 @@ pub(crate) fn put_long_packet<W: Sink>(
 
 /// What a line of `list` shows of a packet.
 #[derive(Clone, Copy, Debug, PartialEq, Eq)]
-pub(crate) struct ListOptions {
+pub struct ListOptions {
     /// The form of the line.
-    pub(crate) form: Form,
+    pub form: Form,
     /// How many of its captured bytes are shown at most, the first of them.
-    pub(crate) most: u32,
+    pub most: u32,
     /// Whether it is said what the packet is by itself, and why.
-    pub(crate) class: bool,
+    pub class: bool,
     /// Whether an IPv6 packet is read for that.
-    pub(crate) ipv6: bool,
+    pub ipv6: bool,
 }
 
 // Writes the packet number n, from 1, in a form, with these of its captured bytes, and what it is by itself, where IPv6
@@ -118,9 +118,10 @@ fn put_classed_packet<W: Sink>(
     put_all(writer, line.as_slice())
 }
 
-// Writes the packet number n, from 1, as the options say.
+/// Writes the line of the packet number n, from 1, as the options say. It returns `Write` if that fails, after a
+/// prefix. `line` is room for it, whatever it holds.
 #[inline(always)]
-fn put_packet<W: Sink>(
+pub fn put_packet_line<W: Sink>(
     writer: &mut W,
     line: &mut Line,
     options: ListOptions,
@@ -167,7 +168,7 @@ fn list_packets<F: PacketFeed, W: Sink>(
     let mut number = 1u64;
     while feed.peek()? {
         let packet = feed.packet();
-        put_packet(writer, &mut line, options, number, packet, feed.frame())?;
+        put_packet_line(writer, &mut line, options, number, packet, feed.frame())?;
         feed.pass();
         number += 1;
     }

@@ -5,17 +5,18 @@
  * capt_open_stdin; it opens no file, writes to none, starts no thread and keeps nothing between calls but what a
  * handle holds.
  *
- * * Handles. A capt_reader, a capt_table, a capt_writer or a capt_text belongs to you. Set it to {0} before its first
- * call, let only the library change it, don't copy it, and close it. Closing sets it to {0} again; closing it twice
- * does nothing. A call that fills a handle closes first what it held. A call that opens a handle leaves {0} if it
+ * * Handles. A capt_reader, a capt_table, a capt_writer, a capt_job or a capt_text belongs to you. Set it to {0} before
+ * its first call, let only the library change it, don't copy it, and close it. Closing sets it to {0} again; closing it
+ * twice does nothing. A call that fills a handle closes first what it held. A call that opens a handle leaves {0} if it
  * returns CAPT_MEMORY, and what was there if it returns CAPT_MISUSE.
  *
  * * Threads. One call at a time with a handle. Calls with different handles may run at once, also over the same bytes.
  *
  * * Pointers. None is NULL: for 0 bytes pass any address. Unlike free(NULL), capt_close(NULL) is a fault. The library
- * only reads the bytes that you give. Those of capt_open and capt_table_open stay where and as they are until
- * capt_close; those of the other calls, of capt_feed too, until the call returns. A `len` is at most PTRDIFF_MAX, and
- * so is the size in bytes of an array.
+ * only reads the bytes that you give. Those of capt_open, capt_table_open and capt_job_open stay where and as they are
+ * until capt_close; those of the other calls, of capt_feed too, until the call returns. The array of files and the
+ * options of capt_job_open are only read by that call. A `len` is at most PTRDIFF_MAX, and so is the size in bytes of an
+ * array.
  *
  * * Flags. A call's `flags` are 0, or flags of enum capt_flag that its comment lists, as CAPT_ALLOW_CUT | CAPT_BIG.
  * With any other bit, even one that no call takes so far, the call returns CAPT_MISUSE and does nothing.
@@ -28,7 +29,9 @@
  * none. It gives back what more it held if malloc can make a block smaller; and it holds at most 1,024 interfaces. A
  * table holds what a reader holds for each of its files, and besides at most 1,024 groups of fragments and 1,048,576
  * conversations, which take some 200 MB. A writer holds what was put and not taken, in a block that grows, and at most
- * 1,024 interfaces. A call that makes a text holds the whole text.
+ * 1,024 interfaces. A job of CAPT_LIST or CAPT_BLOCKS holds what a reader holds, and of its text
+ * as many bytes as the largest buffer has room for, and a line; a job of another command holds the whole text. A call
+ * that makes a text holds the whole text.
  *
  * * Growth. The structs stay as they are as long as the library is libcapt.so.1: what a later version tells besides, it
  * tells by a call and a struct of its own.
@@ -59,8 +62,12 @@ enum capt_status {
     CAPT_READ = 3,    /* a read failed: capt_place says where; or capt_file_open couldn't open, and has no place */
     CAPT_MEMORY = 5,  /* malloc or realloc returned NULL */
     CAPT_MISUSE = 6,  /* the handle isn't open or is of other calls, there are no files or more than 32, there is no
-                         room for a packet, no packet has such numbers, or the call doesn't take a flag */
-    CAPT_MORE = 7     /* of a reader that is fed: more bytes are wanted to tell what comes next */
+                         room for a packet or a byte, no packet has such numbers, or the call doesn't take a flag or
+                         another option */
+    CAPT_MORE = 7,    /* of a reader that is fed: more bytes are wanted to tell what comes next */
+    CAPT_PIECE = 8,   /* of a job: the next bytes of its text came */
+    CAPT_DIFFERENCE = 9, /* of a job, once its text came: CAPT_DIFF found a difference */
+    CAPT_NOT_WHOLE = 10  /* of a job, once its text came: CAPT_DIGEST or CAPT_CHECK found a file that isn't whole */
 };
 
 /* What a call is asked for. */
@@ -68,8 +75,47 @@ enum capt_flag {
     CAPT_ALLOW_CUT = 1, /* a last record or block that is cut off is dropped; without it, it is refused */
     CAPT_BIG = 2,       /* the numbers of what is written are big-endian; without it, little-endian */
     CAPT_TO_PCAP = 4,   /* a pcap file is written; without it, a pcapng file of one section */
-    CAPT_IPV6 = 8       /* a report also has the conversations of IPv6, and `not-ip` in place of `not-ipv4` */
+    CAPT_IPV6 = 8,      /* a report also has the conversations of IPv6, and `not-ip` in place of `not-ipv4` */
+    /* of jobs alone: each asks for what the program's option of that name does */
+    CAPT_JSON = 16,             /* --json: JSON Lines */
+    CAPT_CLASS = 32,            /* --class */
+    CAPT_SHARE_INTERFACES = 64, /* --share-interfaces */
+    CAPT_WITH_DIGEST = 128,     /* --digest */
+    CAPT_IGNORE_TIME = 256,     /* --ignore time */
+    CAPT_IGNORE_LINK = 512,     /* --ignore link */
+    CAPT_IGNORE_ORIGINAL = 1024 /* --ignore original */
 };
+
+/* The commands of the program capt. */
+enum capt_command {
+    CAPT_LIST = 1,
+    CAPT_BLOCKS = 2,
+    CAPT_INFO = 3,
+    CAPT_REPORT = 4,
+    CAPT_CONVERT = 5,
+    CAPT_MERGE = 6,
+    CAPT_JOIN = 7,
+    CAPT_DIFF = 8,
+    CAPT_DIGEST = 9,
+    CAPT_CHECK = 10
+};
+
+/* The form of the times that a command prints. */
+enum capt_times {
+    CAPT_TIMES_EXACT = 0,   /* 2+500000/1000000 */
+    CAPT_TIMES_DECIMAL = 1, /* 2.500000 */
+    CAPT_TIMES_UTC = 2      /* 1970-01-01T00:00:02.500000Z */
+};
+
+/* The unit of time of the pcap file that a command writes. */
+enum capt_unit {
+    CAPT_UNIT_OWN = 0, /* microseconds if they can hold each unit of its first interface, else nanoseconds */
+    CAPT_UNIT_MICRO = 1,
+    CAPT_UNIT_NANO = 2
+};
+
+/* No bytes of a packet are shown. */
+#define CAPT_NO_DATA UINT32_MAX
 
 /* The rules that a capture can break (docs/RULES.md); capt_rule_name has their names. A later version may have more. */
 enum capt_rule {
@@ -224,6 +270,19 @@ typedef capt_reader capt_table;
 /* A capture file that is written packet by packet, in memory. */
 typedef capt_reader capt_writer;
 
+/* A command over captures in memory, whose text is read piece by piece. */
+typedef capt_reader capt_job;
+
+/* What a command is asked for: {0} for what the program does without options. */
+typedef struct {
+    uint32_t flags; /* of enum capt_flag */
+    uint32_t data;  /* --data: how many bytes of a packet are shown at most, up to 262,144; 0 for 16, CAPT_NO_DATA for
+                       none */
+    uint32_t top;   /* --top: how many conversations have a line at most, those with the most bytes; 0 for all */
+    uint32_t times; /* --time: of enum capt_times */
+    uint32_t unit;  /* --unit: of enum capt_unit */
+} capt_options;
+
 /* A text that the library made: `len` bytes at `at`, with no zero after them. */
 typedef struct {
     const uint8_t *at;
@@ -274,7 +333,7 @@ uint32_t capt_next_many(capt_reader *reader, capt_packet *packets, size_t room, 
  * CAPT_MISUSE, which leaves `ending`. */
 uint32_t capt_end(capt_reader *reader, capt_ending *ending);
 
-/* Lets go what the reader, the table or the writer holds. */
+/* Lets go what the reader, the table, the writer or the job holds. */
 void capt_close(capt_reader *reader);
 
 /* The report of capt_report step by step, in as much memory, but for the text. Opens a table of 1 to 32 captures.
@@ -296,6 +355,35 @@ uint32_t capt_table_write(capt_table *table, capt_text *text, capt_place *place)
 uint32_t capt_table_talk(capt_table *table, size_t place, capt_talk *talk);
 uint32_t capt_table_file(capt_table *table, uint32_t number, capt_file_counts *file);
 uint32_t capt_table_totals(capt_table *table, capt_totals *totals);
+
+/* Opens a job: a command, of enum capt_command, over captures in memory. CAPT_LIST, CAPT_BLOCKS and CAPT_CONVERT take
+ * one file, CAPT_DIFF two, the others 1 to 32. Its text is what the program prints or writes for the same options, byte
+ * for byte, but that the lines of CAPT_DIGEST and CAPT_CHECK don't name their files, in JSON either. A command takes
+ * CAPT_ALLOW_CUT and these options:
+ *
+ *     CAPT_LIST      CAPT_JSON, with it data; CAPT_CLASS, with it CAPT_IPV6; times
+ *     CAPT_BLOCKS    CAPT_JSON
+ *     CAPT_INFO      CAPT_JSON; times
+ *     CAPT_REPORT    CAPT_JSON; CAPT_IPV6; top; times
+ *     CAPT_CONVERT   CAPT_BIG; CAPT_TO_PCAP, with it unit
+ *     CAPT_MERGE     CAPT_BIG; CAPT_TO_PCAP, with it unit; without it CAPT_SHARE_INTERFACES
+ *     CAPT_JOIN      CAPT_BIG; CAPT_TO_PCAP, with it unit
+ *     CAPT_DIFF      CAPT_JSON, with it data; CAPT_IGNORE_TIME, CAPT_IGNORE_LINK, CAPT_IGNORE_ORIGINAL; times
+ *     CAPT_DIGEST    CAPT_JSON
+ *     CAPT_CHECK     CAPT_JSON; CAPT_WITH_DIGEST; times
+ *
+ * CAPT_DONE; CAPT_MEMORY; or CAPT_MISUSE, also for an option that the command doesn't take. CAPT_LIST and CAPT_BLOCKS
+ * make their text as it is read; the other commands read their files, and make their text, in this call. */
+uint32_t capt_job_open(capt_job *job, uint32_t command, const capt_bytes *files, size_t count,
+                       const capt_options *options);
+
+/* The next bytes of a job's text: CAPT_PIECE, and `len` says how many were put into the buffer, at least 1 and at most
+ * `room`, which is at least 1. Once all came, each further call returns how the job ended: CAPT_DONE, CAPT_DIFFERENCE,
+ * CAPT_NOT_WHOLE or CAPT_REFUSED. If a capture is refused, the text of CAPT_INFO, CAPT_REPORT and CAPT_DIFF is empty, and
+ * that of the others is what comes before the refusal. After CAPT_MEMORY the call may be made again, and no byte is
+ * lost. CAPT_MISUSE if the handle isn't an open job, or if there is no room. `len` is 0 after any status but CAPT_PIECE
+ * and CAPT_MISUSE, and the call changes no bytes of the buffer but those that came. */
+uint32_t capt_job_read(capt_job *job, uint8_t *buffer, size_t room, size_t *len, capt_place *place);
 
 /* What the commands of the program capt print for one file or for 1 to 32 files, byte for byte. Flags: CAPT_ALLOW_CUT,
  * and for capt_report also CAPT_IPV6. CAPT_DONE, CAPT_REFUSED or CAPT_MEMORY; CAPT_MISUSE for no file or more than 32.

@@ -10,3 +10,6 @@ pub mod SameReaders
 pub mod Standing
 pub mod Telling
 pub mod ToldTimes
+pub mod JobSteps
+pub mod JobAsking
+pub mod JobBlocks

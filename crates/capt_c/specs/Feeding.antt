@@ -17,6 +17,7 @@ use Rattle.capt_c.specs.declared.packets.CPacket.{CPacket}
 abbrev pub OpensFed : Tail → ℕ → Option HandleValue → Type 0
 OpensFed tail status None = status ≡ 5
 OpensFed tail status (Some (helds.Text text)) = ⊥
+OpensFed tail status (Some (helds.Job job)) = ⊥
 OpensFed tail status (Some (helds.Writer w)) = ⊥
 OpensFed tail status (Some (helds.Table t)) = ⊥
 OpensFed tail status (Some (helds.Capture c)) = ⊥
@@ -35,6 +36,7 @@ FeedsIf false f bytes status new =
 abbrev pub FeedsHeld : Option HandleValue → List ℕ → ℕ → Option HandleValue → Type 0
 FeedsHeld None bytes status new = (status ≡ 6) × (new ≡ None)
 FeedsHeld (Some (helds.Text text)) bytes status new = (status ≡ 6) × (new ≡ Some (helds.Text text))
+FeedsHeld (Some (helds.Job job)) bytes status new = (status ≡ 6) × (new ≡ Some (helds.Job job))
 FeedsHeld (Some (helds.Writer w)) bytes status new = (status ≡ 6) × (new ≡ Some (helds.Writer w))
 FeedsHeld (Some (helds.Table t)) bytes status new = (status ≡ 6) × (new ≡ Some (helds.Table t))
 FeedsHeld (Some (helds.Capture c)) bytes status new = (status ≡ 6) × (new ≡ Some (helds.Capture c))
@@ -44,6 +46,7 @@ FeedsHeld (Some (helds.Fed f)) bytes status new = FeedsIf f.state.ended f bytes 
 abbrev pub EndsHeld : Option HandleValue → ℕ → Option HandleValue → Type 0
 EndsHeld None status new = (status ≡ 6) × (new ≡ None)
 EndsHeld (Some (helds.Text text)) status new = (status ≡ 6) × (new ≡ Some (helds.Text text))
+EndsHeld (Some (helds.Job job)) status new = (status ≡ 6) × (new ≡ Some (helds.Job job))
 EndsHeld (Some (helds.Writer w)) status new = (status ≡ 6) × (new ≡ Some (helds.Writer w))
 EndsHeld (Some (helds.Table t)) status new = (status ≡ 6) × (new ≡ Some (helds.Table t))
 EndsHeld (Some (helds.Capture c)) status new = (status ≡ 6) × (new ≡ Some (helds.Capture c))

@@ -58,6 +58,7 @@ Shown items answer status place text (Some (helds.Capture c)) = ⊥
 Shown items answer status place text (Some (helds.Fed f)) = ⊥
 Shown items answer status place text (Some (helds.Table t)) = ⊥
 Shown items answer status place text (Some (helds.Writer w)) = ⊥
+Shown items answer status place text (Some (helds.Job job)) = ⊥
 Shown items answer status place text (Some (helds.Text bytes)) =
     (bytes.items ≡ items) × (text.len ≡ length items) × (text.at ≡ vec_ptr bytes)
     × (status ≡ status_of_result status_of_unit (by_memory answer)) × (place ≡ place_of_result (by_memory answer))

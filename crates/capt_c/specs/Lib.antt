@@ -11,3 +11,11 @@ pub mod Tables
 pub mod Names
 pub mod Told
 pub mod Writing
+pub mod Asking
+pub mod BlockRests
+pub mod CommandJobs
+pub mod JobCalls
+pub mod JobEnds
+pub mod JobOptions
+pub mod JobRests
+pub mod JobStands

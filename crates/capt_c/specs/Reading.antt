@@ -41,6 +41,7 @@ status_of_found false = 0
 abbrev pub OpensCapture : (CaptureReader → Feed) → Tail → Bool → List ℕ → Bool → ℕ → Option HandleValue → Type 0
 OpensCapture feed tail told bytes can_fail status None = status ≡ 5
 OpensCapture feed tail told bytes can_fail status (Some (helds.Text text)) = ⊥
+OpensCapture feed tail told bytes can_fail status (Some (helds.Job job)) = ⊥
 OpensCapture feed tail told bytes can_fail status (Some (helds.Writer w)) = ⊥
 OpensCapture feed tail told bytes can_fail status (Some (helds.Table t)) = ⊥
 OpensCapture feed tail told bytes can_fail status (Some (helds.Fed f)) = ⊥
@@ -65,6 +66,8 @@ abbrev pub Nexts : (CaptureReader → Feed) → Option HandleValue → CPacket �
 Nexts feed None was from status p place new = Misused {X = CPacket × CPlace} status None new (was, from) (p, place)
 Nexts feed (Some (helds.Text text)) was from status p place new =
     Misused {X = CPacket × CPlace} status (Some (helds.Text text)) new (was, from) (p, place)
+Nexts feed (Some (helds.Job job)) was from status p place new =
+    Misused {X = CPacket × CPlace} status (Some (helds.Job job)) new (was, from) (p, place)
 Nexts feed (Some (helds.Table t)) was from status p place new =
     Misused {X = CPacket × CPlace} status (Some (helds.Table t)) new (was, from) (p, place)
 Nexts feed (Some (helds.Writer w)) was from status p place new =
@@ -87,6 +90,7 @@ pub record Batch : Type 0 where
 abbrev pub NextsMany : (CaptureReader → Feed) → Option HandleValue → Batch → ℕ → Batch → Option HandleValue → Type 0
 NextsMany feed None was status now new = Misused status None new was now
 NextsMany feed (Some (helds.Text text)) was status now new = Misused status (Some (helds.Text text)) new was now
+NextsMany feed (Some (helds.Job job)) was status now new = Misused status (Some (helds.Job job)) new was now
 NextsMany feed (Some (helds.Table t)) was status now new = Misused status (Some (helds.Table t)) new was now
 NextsMany feed (Some (helds.Fed f)) was status now new = Misused status (Some (helds.Fed f)) new was now
 NextsMany feed (Some (helds.Writer w)) was status now new = Misused status (Some (helds.Writer w)) new was now
@@ -127,6 +131,7 @@ FedEndTold f was status end = (told : Option FileEnd) × EndingAt f.state told �
 abbrev pub TellsEnd : (CaptureReader → Feed) → Option HandleValue → End → ℕ → End → Option HandleValue → Type 0
 TellsEnd feed None was status end new = Misused status None new was end
 TellsEnd feed (Some (helds.Text text)) was status end new = Misused status (Some (helds.Text text)) new was end
+TellsEnd feed (Some (helds.Job job)) was status end new = Misused status (Some (helds.Job job)) new was end
 TellsEnd feed (Some (helds.Table t)) was status end new = Misused status (Some (helds.Table t)) new was end
 TellsEnd feed (Some (helds.Fed f)) was status end new = (new ≡ Some (helds.Fed f)) × FedEndTold f was status end
 TellsEnd feed (Some (helds.Writer w)) was status end new = Misused status (Some (helds.Writer w)) new was end

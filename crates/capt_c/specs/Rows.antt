@@ -142,6 +142,7 @@ TellsTable told Shows None was status now = (status ≡ 6) × (now ≡ was)
 TellsTable told Shows (Some (helds.Capture c)) was status now = (status ≡ 6) × (now ≡ was)
 TellsTable told Shows (Some (helds.Fed f)) was status now = (status ≡ 6) × (now ≡ was)
 TellsTable told Shows (Some (helds.Text text)) was status now = (status ≡ 6) × (now ≡ was)
+TellsTable told Shows (Some (helds.Job job)) was status now = (status ≡ 6) × (now ≡ was)
 TellsTable told Shows (Some (helds.Writer w)) was status now = (status ≡ 6) × (now ≡ was)
 TellsTable told Shows (Some (helds.Table t)) was status now =
     (xs : List Taken) → TableStands (table_of t.value) xs

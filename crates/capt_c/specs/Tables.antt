@@ -32,6 +32,7 @@ OpensTable tail reads files status None = status ≡ 5
 OpensTable tail reads files status (Some (helds.Capture c)) = ⊥
 OpensTable tail reads files status (Some (helds.Fed f)) = ⊥
 OpensTable tail reads files status (Some (helds.Text text)) = ⊥
+OpensTable tail reads files status (Some (helds.Job job)) = ⊥
 OpensTable tail reads files status (Some (helds.Writer w)) = ⊥
 OpensTable tail reads files status (Some (helds.Table t)) =
     (status ≡ 0) × IsUnreadRun tail (map reader_of_file files) (table_of t.value).parts
@@ -44,6 +45,7 @@ LeavesTable None Holds = ⊥
 LeavesTable (Some (helds.Capture c)) Holds = ⊥
 LeavesTable (Some (helds.Fed f)) Holds = ⊥
 LeavesTable (Some (helds.Text text)) Holds = ⊥
+LeavesTable (Some (helds.Job job)) Holds = ⊥
 LeavesTable (Some (helds.Writer w)) Holds = ⊥
 LeavesTable (Some (helds.Table t)) Holds = Holds (table_of t.value)
 
@@ -58,6 +60,7 @@ StepsTable None from status place new = Misused status None new from place
 StepsTable (Some (helds.Capture c)) from status place new = Misused status (Some (helds.Capture c)) new from place
 StepsTable (Some (helds.Fed f)) from status place new = Misused status (Some (helds.Fed f)) new from place
 StepsTable (Some (helds.Text text)) from status place new = Misused status (Some (helds.Text text)) new from place
+StepsTable (Some (helds.Job job)) from status place new = Misused status (Some (helds.Job job)) new from place
 StepsTable (Some (helds.Writer w)) from status place new = Misused status (Some (helds.Writer w)) new from place
 StepsTable (Some (helds.Table t)) from status place new =
     (answer : Result Step Fault) × (status ≡ status_of_result status_of_step answer)
@@ -71,6 +74,7 @@ WritesTable None was from status text place = ShowsNothing status was from text 
 WritesTable (Some (helds.Capture c)) was from status text place = ShowsNothing status was from text place
 WritesTable (Some (helds.Fed f)) was from status text place = ShowsNothing status was from text place
 WritesTable (Some (helds.Text t)) was from status text place = ShowsNothing status was from text place
+WritesTable (Some (helds.Job job)) was from status text place = ShowsNothing status was from text place
 WritesTable (Some (helds.Writer w)) was from status text place = ShowsNothing status was from text place
 WritesTable (Some (helds.Table t)) was from status text place =
     (xs : List Taken) → TableStands (table_of t.value) xs

@@ -102,6 +102,7 @@ OpensWriter format order status (Some (helds.Capture c)) = ⊥
 OpensWriter format order status (Some (helds.Fed f)) = ⊥
 OpensWriter format order status (Some (helds.Table t)) = ⊥
 OpensWriter format order status (Some (helds.Text text)) = ⊥
+OpensWriter format order status (Some (helds.Job job)) = ⊥
 OpensWriter format order status (Some (helds.Writer w)) =
     (status ≡ 0) × WriterStands format (state_of w) [] [] × (w.order ≡ order)
 
@@ -125,6 +126,8 @@ PutsHeld (Some (helds.Table t)) p frame from status place new =
     Misused status (Some (helds.Table t)) new from place
 PutsHeld (Some (helds.Text text)) p frame from status place new =
     Misused status (Some (helds.Text text)) new from place
+PutsHeld (Some (helds.Job job)) p frame from status place new =
+    Misused status (Some (helds.Job job)) new from place
 PutsHeld (Some (helds.Writer w)) p frame from status place new =
     ((meta : Meta) × TellsPacket p (length frame) meta × PutsTold w meta frame status place new)
     ⊎ (((meta : Meta) → TellsPacket p (length frame) meta → ⊥) × Misused status (Some (helds.Writer w)) new from place)
@@ -141,6 +144,7 @@ TakesHeld (Some (helds.Capture c)) was status text new = Misused status (Some (h
 TakesHeld (Some (helds.Fed f)) was status text new = Misused status (Some (helds.Fed f)) new was text
 TakesHeld (Some (helds.Table t)) was status text new = Misused status (Some (helds.Table t)) new was text
 TakesHeld (Some (helds.Text t)) was status text new = Misused status (Some (helds.Text t)) new was text
+TakesHeld (Some (helds.Job job)) was status text new = Misused status (Some (helds.Job job)) new was text
 TakesHeld (Some (helds.Writer w)) was status text new =
     Shown w.bytes.items (Ok tt) status nowhere text text.handle.kept.value
     × ((later : PacketWriter) × (new ≡ Some (helds.Writer later)) × TakenBy status (state_of w) (state_of later))

@@ -32,6 +32,15 @@ pub const MORE: u32 = 7;
 /// doesn't take a flag.
 pub const MISUSE: u32 = 6;
 
+/// Bytes of a job's text came.
+pub const PIECE: u32 = 8;
+
+/// A job has ended, whose captures differ.
+pub const DIFFERENCE: u32 = 9;
+
+/// A job has ended, of whose captures one isn't whole.
+pub const NOT_WHOLE: u32 = 10;
+
 /// Where a capture is refused, or where a read failed.
 #[repr(C)]
 #[derive(Clone, Copy)]

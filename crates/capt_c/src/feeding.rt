@@ -92,6 +92,7 @@ fn end_fed(held: &mut HandleValue) -> u32
         HandleValue::Capture(_)
         | HandleValue::Table(_)
         | HandleValue::Text(_)
+        | HandleValue::Job(_)
         | HandleValue::Writer(_) => MISUSE,
     }
 }

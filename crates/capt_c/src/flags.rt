@@ -47,16 +47,16 @@ pub const FORM_ALONE: Flags = Flags {
     ipv6: false,
 };
 
-// Whether a number has the bit of that value, a power of two.
-fn has_bit(number: u32, bit: u32) -> bool
+/// Whether a number has the bit of that value, a power of two.
+pub(crate) fn has_bit(number: u32, bit: u32) -> bool
     requires { 0 < bit }
     ensures { result ≡ has_bit number bit }
 {
     number / bit % 2 == 1
 }
 
-// The flags that a number has.
-fn flags_in(number: u32) -> Flags
+/// The flags that a number has.
+pub(crate) fn flags_in(number: u32) -> Flags
     ensures { result ≡ flags_in number }
 {
     Flags {
@@ -67,8 +67,8 @@ fn flags_in(number: u32) -> Flags
     }
 }
 
-// Whether a call that takes the first flags takes each of the second.
-fn takes_each(taken: Flags, flags: Flags) -> bool
+/// Whether a call that takes the first flags takes each of the second.
+pub(crate) fn takes_each(taken: Flags, flags: Flags) -> bool
     ensures { result ≡ takes_each taken flags }
 {
     (taken.allow_cut || !flags.allow_cut)

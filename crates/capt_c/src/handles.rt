@@ -6,6 +6,7 @@ ghost use Rattle.cap_bytes.specs.declared.faults.Fault.{Fault};
 ghost use Rattle.capt_c.specs.HandleValue.{IsClosed};
 ghost use Rattle.capt_c.specs.declared.handles.HandleValue.{HandleValue};
 
+use crate::command_jobs::CommandJob;
 use crate::packet_writers::PacketWriter;
 use crate::raw_box::RawBox;
 use crate::sources::{CaptureInput, Slice};
@@ -17,8 +18,8 @@ use std::marker::Model;
 use std::mem::replace;
 use std::ptr::null_mut;
 
-/// What a handle holds: a capture that is being read or fed, a table of captures, a text, or a
-/// capture file that is being written.
+/// What a handle holds: a capture that is being read or fed, a table of captures, a text, a capture file that is being
+/// written, or a command whose text is read.
 #[derive(Drop)]
 pub enum HandleValue {
     /// A capture.
@@ -31,6 +32,8 @@ pub enum HandleValue {
     Text(Vec<u8>),
     /// A capture file that is being written.
     Writer(PacketWriter),
+    /// A command whose text is read, in a box of its own too.
+    Job(Box<CommandJob>),
 }
 
 /// The address of a box that it owns, or any address if it owns nothing.

@@ -3,10 +3,17 @@
 
 mod answers;
 mod batches;
+mod command_jobs;
 mod feeding;
 mod flags;
 mod handles;
 mod interfaces;
+mod job_begins;
+mod job_blocks;
+mod job_calls;
+mod job_ends;
+mod job_lists;
+mod job_options;
 mod jobs;
 mod names;
 mod packet_writers;

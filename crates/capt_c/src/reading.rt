@@ -59,7 +59,10 @@ fn next_of(held: &mut HandleValue, packet: &mut CPacket, place: &mut CPlace) -> 
     match held {
         HandleValue::Capture(capture) => status_and_place(step(capture, packet), place),
         HandleValue::Fed(fed) => step_fed(fed, packet, place),
-        HandleValue::Table(_) | HandleValue::Text(_) | HandleValue::Writer(_) => MISUSE,
+        HandleValue::Table(_)
+        | HandleValue::Text(_)
+        | HandleValue::Job(_)
+        | HandleValue::Writer(_) => MISUSE,
     }
 }
 
@@ -159,6 +162,7 @@ fn next_many_of(
         HandleValue::Fed(_)
         | HandleValue::Table(_)
         | HandleValue::Text(_)
+        | HandleValue::Job(_)
         | HandleValue::Writer(_) => MISUSE,
     }
 }
@@ -257,7 +261,10 @@ fn end_of(held: &mut HandleValue, ending: &mut End) -> u32
     match held {
         HandleValue::Capture(capture) => end_of_capture(capture, ending),
         HandleValue::Fed(fed) => end_of_fed(fed, ending),
-        HandleValue::Text(_) | HandleValue::Table(_) | HandleValue::Writer(_) => MISUSE,
+        HandleValue::Text(_)
+        | HandleValue::Job(_)
+        | HandleValue::Table(_)
+        | HandleValue::Writer(_) => MISUSE,
     }
 }
 

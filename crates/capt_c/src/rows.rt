@@ -284,6 +284,7 @@ fn talk_of(held: &HandleValue, place: usize, talk: &mut CTalk) -> u32
         HandleValue::Capture(_)
         | HandleValue::Fed(_)
         | HandleValue::Text(_)
+        | HandleValue::Job(_)
         | HandleValue::Writer(_) => MISUSE,
     }
 }
@@ -312,6 +313,7 @@ fn file_of(held: &HandleValue, number: u32, file: &mut CFile) -> u32
         HandleValue::Capture(_)
         | HandleValue::Fed(_)
         | HandleValue::Text(_)
+        | HandleValue::Job(_)
         | HandleValue::Writer(_) => MISUSE,
     }
 }
@@ -339,6 +341,7 @@ fn totals_of(held: &HandleValue, totals: &mut CTotals) -> u32
         HandleValue::Capture(_)
         | HandleValue::Fed(_)
         | HandleValue::Text(_)
+        | HandleValue::Job(_)
         | HandleValue::Writer(_) => MISUSE,
     }
 }

@@ -88,6 +88,7 @@ fn step_of(held: &mut HandleValue, place: &mut CPlace) -> u32
         HandleValue::Capture(_)
         | HandleValue::Fed(_)
         | HandleValue::Text(_)
+        | HandleValue::Job(_)
         | HandleValue::Writer(_) => MISUSE,
     }
 }
@@ -113,6 +114,7 @@ fn write_of(alloc: Global, held: &HandleValue, text: &mut Text, place: &mut CPla
         HandleValue::Capture(_)
         | HandleValue::Fed(_)
         | HandleValue::Text(_)
+        | HandleValue::Job(_)
         | HandleValue::Writer(_) => MISUSE,
     }
 }

@@ -63,7 +63,8 @@ fn put_of(
         HandleValue::Capture(_)
         | HandleValue::Fed(_)
         | HandleValue::Table(_)
-        | HandleValue::Text(_) => MISUSE,
+        | HandleValue::Text(_)
+        | HandleValue::Job(_) => MISUSE,
     }
 }
 
@@ -113,7 +114,8 @@ fn take_of(alloc: Global, held: &mut HandleValue, text: &mut Text) -> u32
         HandleValue::Capture(_)
         | HandleValue::Fed(_)
         | HandleValue::Table(_)
-        | HandleValue::Text(_) => MISUSE,
+        | HandleValue::Text(_)
+        | HandleValue::Job(_) => MISUSE,
     }
 }
 

@@ -26,9 +26,9 @@ returns-in_err-peek-clause-text g c = λ t w.
     (found-fault c.in_err-peek.field-0.0 mid shown (g.met.F.PacketFeed.lawful c.peek.new.self)
     (e.keeps.told (i.told t)) (e.items (i.told t)) e.answer))
 
-pub returns-in_err-put_packet-clause-text : goal.returns-in_err-put_packet-clause-text
-returns-in_err-put_packet-clause-text g c = λ t w.
-    let r = c.from_residual-in_err-put_packet in
+pub returns-in_err-put_packet_line-clause-text : goal.returns-in_err-put_packet_line-clause-text
+returns-in_err-put_packet_line-clause-text g c = λ t w.
+    let r = c.from_residual-in_err-put_packet_line in
     let p = err_from_is_err_and r.result r.ensures.1 in
     let i = c.loop-feed.invariant.walk in
     let n = c.loop-feed.number in
@@ -47,8 +47,8 @@ returns-in_err-put_packet-clause-text g c = λ t w.
     let split : list_lines line n mid.items ≡ written ++ behind =
     ap (list_lines line n) shows.1 ∙ ((plan_of-next line n meta shown.frame).text (drop 1 mid.items)
     ∙ ap (λ l. l ++ behind) (sym written_is)) in
-    let wrote = c.in_err-put_packet.ensures.bytes (i.writer_told w) in
-    rw (p.1, p.2, c.in_err-put_packet.ensures.fault)
+    let wrote = c.in_err-put_packet_line.ensures.bytes (i.writer_told w) in
+    rw (p.1, p.2, c.in_err-put_packet_line.ensures.fault)
     (Putting-front _ _ _ _ written behind wrote.0 (rw split at (i.text t)) w wrote.1)
 
 pub loop-feed-preserved : goal.loop-feed-preserved
@@ -60,7 +60,7 @@ loop-feed-preserved g c =
     let new = g.F.PacketFeed.feed c.pass.new.self in
     let meta = c.packet-packet.result.now in
     let f = c.in_ok-peek.ensures in
-    let e = c.in_ok-put_packet.ensures in
+    let e = c.in_ok-put_packet_line.ensures in
     let line = packet_line_by c.args.options.class c.args.options.ipv6 c.args.options.form
     c.args.options.most in
     let written = line n meta c.frame.result.now in
@@ -116,8 +116,8 @@ returns-in_err-peek-clause-walks g c =
     (found-no-packet c.in_err-peek.field-0.0 (g.F.PacketFeed.feed c.loop-feed.feed)
     (g.F.PacketFeed.feed c.peek.new.self) c.in_err-peek.ensures.answer))
 
-pub returns-in_err-put_packet-clause-walks : goal.returns-in_err-put_packet-clause-walks
-returns-in_err-put_packet-clause-walks g c =
+pub returns-in_err-put_packet_line-clause-walks : goal.returns-in_err-put_packet_line-clause-walks
+returns-in_err-put_packet_line-clause-walks g c =
     let mid = g.F.PacketFeed.feed c.loop-feed.feed in
     let shown = g.F.PacketFeed.feed c.peek.new.self in
     let gives : GivesPacket mid (Ok (Some c.packet-packet.result.now)) shown =
@@ -132,8 +132,8 @@ returns-clause-walks g c =
 pub returns-in_err-peek-clause-memory : goal.returns-in_err-peek-clause-memory
 returns-in_err-peek-clause-memory g c = grind (arith, err_from_is_err_and, memory-found)
 
-pub returns-in_err-put_packet-clause-memory : goal.returns-in_err-put_packet-clause-memory
-returns-in_err-put_packet-clause-memory g c =
-    let r = c.from_residual-in_err-put_packet in
+pub returns-in_err-put_packet_line-clause-memory : goal.returns-in_err-put_packet_line-clause-memory
+returns-in_err-put_packet_line-clause-memory g c =
+    let r = c.from_residual-in_err-put_packet_line in
     let p = err_from_is_err_and r.result r.ensures.1 in
-    rw (p.1, p.2, c.in_err-put_packet.ensures.fault) tt
+    rw (p.1, p.2, c.in_err-put_packet_line.ensures.fault) tt

@@ -4,7 +4,7 @@ use Rattle.cap_print.specs.Facts.{line_in}
 use Rattle.cap_talks.specs.table.Descriptions.{describe_for, description_fields}
 use Rattle.cap_commands.proofs.Pieces.{min-taken}
 use Rattle.cap_commands.specs.ListText.{facts_before, facts_showing}
-use Rattle.cap_commands.proofs.list.put_packet.Goals as goal
+use Rattle.cap_commands.proofs.list.put_packet_line.Goals as goal
 
 pub returns-then-options-clause-bytes : goal.returns-then-options-clause-bytes
 returns-then-options-clause-bytes g c = λ t.
