@@ -481,8 +481,6 @@ static int report(capt_bytes file, uint32_t flags) {
     return capt_table_step(&table, &again) == CAPT_MISUSE && capt_table_write(&table, &text, &again) == CAPT_MISUSE ? told(status, place) : 8;
 }
 
-typedef uint32_t call_of_one(const uint8_t *, size_t, uint32_t, capt_text *, capt_place *);
-typedef uint32_t call_of_files(const capt_bytes *, size_t, uint32_t, capt_text *, capt_place *);
 typedef uint32_t opening(capt_reader *, capt_bytes *, uint32_t);
 
 static uint32_t open_bytes(capt_reader *reader, capt_bytes *file, uint32_t flags) { return capt_open(reader, file->at, file->len, flags); }
@@ -490,18 +488,21 @@ static uint32_t open_stdin(capt_reader *reader, capt_bytes *file, uint32_t flags
 static uint32_t open_fed(capt_reader *reader, capt_bytes *file, uint32_t flags) { return (void)file, capt_open_fed(reader, flags); }
 static uint32_t open_table(capt_reader *reader, capt_bytes *file, uint32_t flags) { return capt_table_open(reader, file, 1, flags); }
 
-/* A call that makes a text takes these flags and no others; a text that is there stays if it doesn't. */
-static int text_flags(call_of_one *one, call_of_files *many, capt_bytes file, uint32_t flags, bool takes) {
-    capt_text text = {0}, text_before;
-    capt_place place = {1, 2, 3}, place_before;
-    if (capt_info(&file, 1, 0, &text, &place) != CAPT_DONE) return 60;
-    memcpy(&text_before, &text, sizeof text);
-    memcpy(&place_before, &place, sizeof place);
-    uint32_t status = one ? one(file.at, file.len, flags, &text, &place) : many(&file, 1, flags, &text, &place);
-    bool is_same = !memcmp(&text, &text_before, sizeof text) && !memcmp(&place, &place_before, sizeof place);
-    bool is_misused = status == CAPT_MISUSE && is_same && text.len > 8 && !memcmp(text.at, "files 1\n", 8);
-    capt_text_close(&text);
-    return takes ? (status == CAPT_MISUSE ? 61 : 0) : (is_misused ? 0 : 62);
+/* A command takes these flags and no others; a job that is there goes on if it doesn't. */
+static int job_flags(uint32_t command, capt_bytes file, uint32_t flags, bool takes) {
+    const capt_bytes files[] = {file, file};
+    const capt_options none = {0}, options = {.flags = flags};
+    capt_job job = {0}, before;
+    capt_place place;
+    uint8_t buffer[8];
+    size_t len;
+    if (capt_job_open(&job, CAPT_INFO, files, 1, &none) != CAPT_DONE) return 60;
+    memcpy(&before, &job, sizeof job);
+    uint32_t status = capt_job_open(&job, command, files, command == CAPT_DIFF ? 2 : 1, &options);
+    bool is_same = !memcmp(&job, &before, sizeof job) && capt_job_read(&job, buffer, 8, &len, &place) == CAPT_PIECE;
+    bool is_misused = status == CAPT_MISUSE && is_same && len == 8 && !memcmp(buffer, "files 1\n", 8);
+    capt_close(&job);
+    return takes ? (status == CAPT_DONE ? 0 : 61) : (is_misused ? 0 : 62);
 }
 
 /* A call that opens a handle takes these flags and no others; a reader that is there goes on if it doesn't. */
@@ -522,18 +523,22 @@ static int open_flags(opening *call, capt_bytes file, uint32_t flags, bool takes
 /* Each call takes the flags that the header lists for it, and refuses each other bit, by itself and beside those. */
 static int flags_refused(const char *name) {
     const uint32_t cut = CAPT_ALLOW_CUT, form = CAPT_ALLOW_CUT | CAPT_BIG | CAPT_TO_PCAP, report = CAPT_ALLOW_CUT | CAPT_IPV6;
-    struct { call_of_one *one; call_of_files *many; uint32_t takes; } texts[] = {
-        {capt_list, NULL, cut}, {capt_blocks, NULL, cut}, {NULL, capt_info, cut}, {NULL, capt_report, report},
-        {capt_convert, NULL, form}, {NULL, capt_merge, form}, {NULL, capt_join, form}};
+    /* what each command takes beside flags without which it doesn't take all of them, or with which it takes fewer */
+    const uint32_t json = cut | CAPT_JSON, ignored = CAPT_IGNORE_TIME | CAPT_IGNORE_LINK | CAPT_IGNORE_ORIGINAL;
+    const struct { uint32_t command, beside, takes; } jobs[] = {
+        {CAPT_LIST, CAPT_CLASS, json | CAPT_CLASS | CAPT_IPV6}, {CAPT_BLOCKS, 0, json}, {CAPT_INFO, 0, json},
+        {CAPT_REPORT, 0, json | CAPT_IPV6}, {CAPT_CONVERT, 0, form}, {CAPT_MERGE, CAPT_TO_PCAP, form},
+        {CAPT_MERGE, CAPT_SHARE_INTERFACES, cut | CAPT_BIG | CAPT_SHARE_INTERFACES}, {CAPT_JOIN, 0, form},
+        {CAPT_DIFF, 0, json | ignored}, {CAPT_DIGEST, 0, json}, {CAPT_CHECK, 0, json | CAPT_WITH_DIGEST}};
     struct { opening *call; uint32_t takes; } opens[] = {{open_bytes, cut}, {open_stdin, cut}, {open_fed, cut}, {open_table, report}};
     capt_bytes file = bytes_of(name);
     int code = 0;
     for (int bit = 0; bit < 32 && !code; bit++) {
         uint32_t flag = (uint32_t)1 << bit;
-        for (size_t i = 0; i < sizeof texts / sizeof *texts && !code; i++) {
-            bool takes = texts[i].takes & flag;
-            code = text_flags(texts[i].one, texts[i].many, file, flag, takes);
-            if (!code) code = text_flags(texts[i].one, texts[i].many, file, flag | texts[i].takes, takes);
+        for (size_t i = 0; i < sizeof jobs / sizeof *jobs && !code; i++) {
+            bool takes = jobs[i].takes & flag;
+            code = job_flags(jobs[i].command, file, flag | jobs[i].beside, takes);
+            if (!code) code = job_flags(jobs[i].command, file, flag | jobs[i].takes, takes);
         }
         for (size_t i = 0; i < sizeof opens / sizeof *opens && !code; i++) {
             bool takes = opens[i].takes & flag;
@@ -568,11 +573,7 @@ static int misuse(const char *name) {
     for (int i = 1; i < 33; i++) files[i] = files[0];
     if (capt_next(&reader, &packet, &place) != CAPT_MISUSE || capt_next_many(&reader, &packet, 1, &count, &place) != CAPT_MISUSE) return 1;
     if (capt_end(&reader, &ending) != CAPT_MISUSE) return 2;
-    call_of_files *calls[] = {capt_info, capt_report, capt_merge, capt_join};
-    for (int i = 0; i < 4; i++) {
-        if (calls[i](files, 0, 0, &text, &place) != CAPT_MISUSE || calls[i](files, 33, 0, &text, &place) != CAPT_MISUSE) return 3;
-        if (memcmp(&place, &same, sizeof place) || text.len != 0) return 6;
-    }
+    if (memcmp(&place, &same, sizeof place)) return 6;
     capt_table table = {0};
     if (capt_table_open(&table, files, 0, 0) != CAPT_MISUSE || capt_table_open(&table, files, 33, 0) != CAPT_MISUSE) return 16;
     if (capt_table_open(&table, files, 32, 0) != CAPT_DONE) return 17;
@@ -592,7 +593,9 @@ static int misuse(const char *name) {
     }
     capt_close(&table);
     place = same;
-    if (capt_report(files, 32, 0, &text, &place) != CAPT_DONE || text.len == 0) return 7;
+    if (capt_table_open(&table, files, 32, 0) != CAPT_DONE) return 7;
+    if (capt_table_write(&table, &text, &place) != CAPT_DONE || text.len == 0) return 7;
+    capt_close(&table);
     if (capt_next(&text.handle, &packet, &place) != CAPT_MISUSE) return 8;
     capt_text_close(&text);
     capt_text_close(&text);
@@ -630,16 +633,27 @@ static struct {
 } on;
 
 static void call_none(void) {}
-static void call_list(void) { capt_list(on.files[0].at, on.files[0].len, 0, &on.text, &on.place); }
-static void call_blocks(void) { capt_blocks(on.files[0].at, on.files[0].len, 0, &on.text, &on.place); }
-static void call_convert(void) { capt_convert(on.files[0].at, on.files[0].len, 0, &on.text, &on.place); }
-static void call_info(void) { capt_info(on.files, 32, 0, &on.text, &on.place); }
-static void call_report(void) { capt_report(on.files, 32, 0, &on.text, &on.place); }
-static void call_report_ipv6(void) { capt_report(on.files, 32, CAPT_IPV6, &on.text, &on.place); }
-static void call_merge(void) { capt_merge(on.files, 32, 0, &on.text, &on.place); }
-static void call_merge_pcap(void) { capt_merge(on.files, 32, CAPT_TO_PCAP, &on.text, &on.place); }
-static void call_join(void) { capt_join(on.files, 32, 0, &on.text, &on.place); }
-static void call_join_pcap(void) { capt_join(on.files, 32, CAPT_TO_PCAP, &on.text, &on.place); }
+static void read_job(uint32_t command, size_t count, uint32_t flags) {
+    static uint8_t buffer[4096];
+    const capt_options options = {.flags = flags};
+    size_t len;
+    capt_job_open(&on.reader, command, on.files, count, &options);
+    while (capt_job_read(&on.reader, buffer, sizeof buffer, &len, &on.place) == CAPT_PIECE) {}
+    capt_close(&on.reader);
+}
+static void call_list(void) { read_job(CAPT_LIST, 1, CAPT_JSON | CAPT_CLASS | CAPT_IPV6); }
+static void call_blocks(void) { read_job(CAPT_BLOCKS, 1, 0); }
+static void call_convert(void) { read_job(CAPT_CONVERT, 1, 0); }
+static void call_info(void) { read_job(CAPT_INFO, 32, 0); }
+static void call_report(void) { read_job(CAPT_REPORT, 32, 0); }
+static void call_report_ipv6(void) { read_job(CAPT_REPORT, 32, CAPT_IPV6); }
+static void call_merge(void) { read_job(CAPT_MERGE, 32, 0); }
+static void call_merge_pcap(void) { read_job(CAPT_MERGE, 32, CAPT_TO_PCAP); }
+static void call_join(void) { read_job(CAPT_JOIN, 32, 0); }
+static void call_join_pcap(void) { read_job(CAPT_JOIN, 32, CAPT_TO_PCAP); }
+static void call_diff(void) { read_job(CAPT_DIFF, 2, CAPT_JSON); }
+static void call_digest(void) { read_job(CAPT_DIGEST, 32, 0); }
+static void call_check(void) { read_job(CAPT_CHECK, 32, CAPT_WITH_DIGEST); }
 static void call_table_open(void) { capt_table_open(&on.table, on.files, 32, CAPT_IPV6); }
 static void call_table(void) {
     while (capt_table_step(&on.table, &on.place) == CAPT_PACKET) {}
@@ -692,15 +706,15 @@ static size_t stack_of(void (*call)(void)) {
     return SIZE - free_bytes;
 }
 
-/* Each call takes at most 48 KiB of stack. */
+/* Each call takes at most 64 KiB of stack. */
 static int stack(const char *name) {
     void (*calls[])(void) = {call_list, call_blocks, call_convert, call_info, call_report, call_report_ipv6, call_merge, call_merge_pcap, call_join,
-                             call_join_pcap, call_table_open, call_table, call_reader, call_writer};
+                             call_join_pcap, call_diff, call_digest, call_check, call_table_open, call_table, call_reader, call_writer};
     for (int i = 0; i < 32; i++) on.files[i] = i ? on.files[0] : bytes_of(name);
     size_t none = stack_of(call_none);
     for (size_t i = 0; i < sizeof calls / sizeof *calls; i++) {
         size_t taken = stack_of(calls[i]) - none;
-        if (taken < 1000 || taken > 48 * 1024) {
+        if (taken < 1000 || taken > 64 * 1024) {
             printf("call %zu takes %zu bytes of stack\n", i, taken);
             return 52;
         }

@@ -749,6 +749,8 @@ def check_jobs(count, reader, name, content, other):
             want = run([PROGRAM, task, *["--allow-cut"] * allow_cut, *words, *out, *paths[:files]])
             lines = re.sub(rb',"path":"(?:[^"\\\\]|\\\\.)*"', b"", want[1]) if task in ("digest", "check") else want[1]
             said = b"".join(re.findall(rb"^refused: .*\n", want[2], re.M))
+            for it in re.findall(rb'^\{"type":"refused","file":(\d+),"offset":(\d+),"rule":(\d+),"name":"([\w-]+)"', want[2], re.M):
+                said += b"refused: file %s offset %s rule %s %s\n" % it
             for room in 1, 100, 100000:
                 told = list(map(str, [room, numbers[0] + allow_cut, *numbers[1:]]))
                 seen = run([reader, task, *told, *paths[:files]])
@@ -767,7 +769,9 @@ def check_job_faults(count, reader, shim, folder, content):
         want = run([reader, *words])
         for at in range(1, 30):
             seen = run([reader, *words], env={**os.environ, "LD_PRELOAD": shim, "FAULT_GROWTHS": f"{at}-{at + 1}"})
-            count.check(f"c: growth {at} of a job, {task}", seen in (want, (3, b"", b"")), seen, want)
+            # 30 and 32: a growth of the program's own
+            is_told = seen in (want, (3, b"", b""), (30, b"", b""), (32, b"", b""))
+            count.check(f"c: growth {at} of a job, {task}", is_told, seen, want)
 
 
 def check_other_library(count, folder):

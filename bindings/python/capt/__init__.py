@@ -55,7 +55,7 @@ class Readable(Protocol):
 Source = Union[Path, int, Buffer, Readable]
 Sources = Union[Source, Iterable[Source]]
 
-_DONE, _PACKET, _REFUSED, _READ, _MEMORY, _MISUSE, _MORE = 0, 1, 2, 3, 5, 6, 7
+_DONE, _PACKET, _REFUSED, _READ, _MEMORY, _MISUSE, _MORE, _CAME = 0, 1, 2, 3, 5, 6, 7, 8
 _ALLOW_CUT, _BIG, _TO_PCAP, _IPV6 = 1, 2, 4, 8
 _ROOM, _PIECE, _MOST_FILES = 256, 1 << 18, 32
 _NOT_ENDED = "the capture hasn't ended: its packets come first"
@@ -105,6 +105,14 @@ class _Bytes(ctypes.Structure):
     _fields_ = [("at", ctypes.c_void_p), ("len", ctypes.c_size_t)]
 
 
+class _Options(ctypes.Structure):
+    _fields_ = [(name, ctypes.c_uint32) for name in ("flags", "data", "top", "times", "unit")]
+
+
+# the commands of enum capt_command
+_LIST, _BLOCKS, _INFO, _REPORT, _CONVERT, _MERGE, _JOIN = range(1, 8)
+
+
 def _load() -> ctypes.CDLL:
     beside = os.path.join(os.path.dirname(os.path.abspath(__file__)), "libcapt.so")
     library = ctypes.CDLL(os.environ.get("CAPT_LIBRARY") or (beside if os.path.exists(beside) else "libcapt.so"))
@@ -127,13 +135,8 @@ def _load() -> ctypes.CDLL:
         ("capt_writer_open", status, pointer, flags),
         ("capt_writer_put", status, pointer, pointer, pointer, size, pointer),
         ("capt_writer_take", status, pointer, pointer),
-        ("capt_list", status, pointer, size, flags, pointer, pointer),
-        ("capt_blocks", status, pointer, size, flags, pointer, pointer),
-        ("capt_info", status, pointer, size, flags, pointer, pointer),
-        ("capt_report", status, pointer, size, flags, pointer, pointer),
-        ("capt_convert", status, pointer, size, flags, pointer, pointer),
-        ("capt_merge", status, pointer, size, flags, pointer, pointer),
-        ("capt_join", status, pointer, size, flags, pointer, pointer),
+        ("capt_job_open", status, pointer, ctypes.c_uint32, pointer, size, pointer),
+        ("capt_job_read", status, pointer, pointer, size, pointer, pointer),
         ("capt_text_close", None, pointer),
         ("capt_error_text", size, status, pointer, pointer, size),
         ("capt_rule_name", size, status, pointer, size),
@@ -747,48 +750,51 @@ def _cut(allow_cut: bool) -> int:
     return _ALLOW_CUT if allow_cut else 0
 
 
-def _text(call: Callable[..., int], sources: Sources, map: bool, flags: int) -> bytes:
+def _text(command: int, sources: Sources, map: bool, flags: int) -> bytes:
+    """The text of a command over 1 to 32 captures."""
     wholes: List[_Whole] = []
-    text, place = _Text(), _Place()
+    parts: List[bytes] = []
+    job, place, count, piece = _Reader(), _Place(), ctypes.c_size_t(), ctypes.create_string_buffer(_PIECE)
     try:
         for source in _listed(sources):
             wholes.append(_Whole(source, map))
         files = (_Bytes * len(wholes))(*[_Bytes(it.at, it.len) for it in wholes])
-        status = call(files, len(wholes), flags, ctypes.byref(text), ctypes.byref(place))
-        made = ctypes.string_at(text.at, text.len) if text.len else b""
+        options = _Options(flags)
+        opened = _library.capt_job_open(ctypes.byref(job), command, files, len(wholes), ctypes.byref(options))
+        _check(opened, place)
+        words = ctypes.byref(job), piece, _PIECE, ctypes.byref(count), ctypes.byref(place)
+        status = _library.capt_job_read(*words)
+        while status == _CAME:
+            parts.append(ctypes.string_at(piece, count.value))
+            status = _library.capt_job_read(*words)
+        made = b"".join(parts)
         _check(status, place, made, [it.path for it in wholes])
         return made
     finally:
-        _library.capt_text_close(ctypes.byref(text))
+        _library.capt_close(ctypes.byref(job))
         for it in wholes:
             it.close()
 
 
-def _text_of_one(call: Callable[..., int], source: Source, map: bool, flags: int) -> bytes:
-    def of_files(files: Sequence[_Bytes], count: int, *rest: Any) -> int:
-        return call(files[0].at, files[0].len, *rest)
-    return _text(of_files, [source], map, flags)
-
-
 def listing(source: Source, allow_cut: bool = False, *, map: bool = False) -> str:
     """What `capt list` prints of a capture."""
-    return _text_of_one(_library.capt_list, source, map, _cut(allow_cut)).decode()
+    return _text(_LIST, [source], map, _cut(allow_cut)).decode()
 
 
 def blocks(source: Source, allow_cut: bool = False, *, map: bool = False) -> str:
     """What `capt blocks` prints of a pcapng capture."""
-    return _text_of_one(_library.capt_blocks, source, map, _cut(allow_cut)).decode()
+    return _text(_BLOCKS, [source], map, _cut(allow_cut)).decode()
 
 
 def info(sources: Sources, allow_cut: bool = False, *, map: bool = False) -> str:
     """What `capt info` prints of 1 to 32 captures."""
-    return _text(_library.capt_info, sources, map, _cut(allow_cut)).decode()
+    return _text(_INFO, sources, map, _cut(allow_cut)).decode()
 
 
 def report_text(sources: Sources, allow_cut: bool = False, *, ipv6: bool = False, map: bool = False) -> str:
     """What `capt report` prints of 1 to 32 captures. With `ipv6` it also has the conversations of IPv6 packets, and the
     count `not-ip` in place of `not-ipv4`."""
-    return _text(_library.capt_report, sources, map, _report_flags(allow_cut, ipv6)).decode()
+    return _text(_REPORT, sources, map, _report_flags(allow_cut, ipv6)).decode()
 
 
 def _report_flags(allow_cut: bool, ipv6: bool) -> int:
@@ -797,19 +803,19 @@ def _report_flags(allow_cut: bool, ipv6: bool) -> int:
 
 def convert(source: Source, to: str, order: str = "little", allow_cut: bool = False, *, map: bool = False) -> bytes:
     """A capture as a file of the format `to`, "pcap" or "pcapng", in that order of bytes, "little" or "big"."""
-    return _text_of_one(_library.capt_convert, source, map, _form_flags(allow_cut, to, order))
+    return _text(_CONVERT, [source], map, _form_flags(allow_cut, to, order))
 
 
 def merge(sources: Sources, order: str = "little", allow_cut: bool = False, *, to: str = "pcapng",
           map: bool = False) -> bytes:
     """1 to 32 captures as one file of the format `to`, sorted by exact time."""
-    return _text(_library.capt_merge, sources, map, _form_flags(allow_cut, to, order))
+    return _text(_MERGE, sources, map, _form_flags(allow_cut, to, order))
 
 
 def join(sources: Sources, order: str = "little", allow_cut: bool = False, *, to: str = "pcapng",
          map: bool = False) -> bytes:
     """The whole IPv4 datagrams of 1 to 32 captures, fragments joined, as one file of the format `to`."""
-    return _text(_library.capt_join, sources, map, _form_flags(allow_cut, to, order))
+    return _text(_JOIN, sources, map, _form_flags(allow_cut, to, order))
 
 
 def _form_flags(allow_cut: bool, to: str, order: str) -> int:

@@ -20,6 +20,7 @@ const PACKET: u32 = 1;
 const REFUSED: u32 = 2;
 const MEMORY: u32 = 5;
 const MORE: u32 = 7;
+const PIECE: u32 = 8;
 
 const ALLOW_CUT: u32 = 1;
 const BIG: u32 = 2;
@@ -148,6 +149,16 @@ struct RawBytes {
     len: usize,
 }
 
+#[repr(C)]
+#[derive(Default)]
+struct RawOptions {
+    flags: u32,
+    data: u32,
+    top: u32,
+    times: u32,
+    unit: u32,
+}
+
 extern "C" {
     fn capt_open(reader: *mut RawReader, at: *const u8, len: usize, flags: u32) -> u32;
     fn capt_open_fed(reader: *mut RawReader, flags: u32) -> u32;
@@ -162,13 +173,14 @@ extern "C" {
     fn capt_table_talk(table: *mut RawReader, place: usize, talk: *mut RawTalk) -> u32;
     fn capt_table_file(table: *mut RawReader, number: u32, file: *mut RawFile) -> u32;
     fn capt_table_totals(table: *mut RawReader, totals: *mut RawTotals) -> u32;
-    fn capt_list(at: *const u8, len: usize, flags: u32, text: *mut RawText, place: *mut RawPlace) -> u32;
-    fn capt_blocks(at: *const u8, len: usize, flags: u32, text: *mut RawText, place: *mut RawPlace) -> u32;
-    fn capt_info(files: *const RawBytes, count: usize, flags: u32, text: *mut RawText, place: *mut RawPlace) -> u32;
-    fn capt_report(files: *const RawBytes, count: usize, flags: u32, text: *mut RawText, place: *mut RawPlace) -> u32;
-    fn capt_convert(at: *const u8, len: usize, flags: u32, text: *mut RawText, place: *mut RawPlace) -> u32;
-    fn capt_merge(files: *const RawBytes, count: usize, flags: u32, text: *mut RawText, place: *mut RawPlace) -> u32;
-    fn capt_join(files: *const RawBytes, count: usize, flags: u32, text: *mut RawText, place: *mut RawPlace) -> u32;
+    fn capt_job_open(
+        job: *mut RawReader,
+        command: u32,
+        files: *const RawBytes,
+        count: usize,
+        options: *const RawOptions,
+    ) -> u32;
+    fn capt_job_read(job: *mut RawReader, buffer: *mut u8, room: usize, len: *mut usize, place: *mut RawPlace) -> u32;
     fn capt_writer_open(writer: *mut RawReader, flags: u32) -> u32;
     fn capt_writer_put(
         writer: *mut RawReader,
@@ -631,8 +643,51 @@ fn made(call: impl FnOnce(*mut RawText, *mut RawPlace) -> u32) -> Result<Vec<u8>
     }
 }
 
+// The commands of enum capt_command.
+const LIST: u32 = 1;
+const BLOCKS: u32 = 2;
+const INFO: u32 = 3;
+const REPORT: u32 = 4;
+const CONVERT: u32 = 5;
+const MERGE: u32 = 6;
+const JOIN: u32 = 7;
+
+// A job is closed when it is dropped.
+struct Job(RawReader);
+
+impl Drop for Job {
+    fn drop(&mut self) {
+        // SAFETY: a job may be closed at any time
+        unsafe { capt_close(&mut self.0) }
+    }
+}
+
 fn files_of(files: &[&[u8]]) -> Vec<RawBytes> {
     files.iter().map(|file| RawBytes { at: file.as_ptr(), len: file.len() }).collect()
+}
+
+// The text of a command.
+fn job_text(command: u32, files: &[&[u8]], flags: u32) -> Result<Vec<u8>, Error> {
+    let raw = files_of(files);
+    let options = RawOptions { flags, ..RawOptions::default() };
+    let mut job = Job(CLOSED);
+    let mut place = RawPlace::default();
+    // SAFETY: the bytes are there until the job is dropped, at the end of this function
+    let status = unsafe { capt_job_open(&mut job.0, command, raw.as_ptr(), raw.len(), &options) };
+    if status != DONE {
+        return Err(error_of(status, place, Vec::new()));
+    }
+    let (mut text, mut buffer, mut count) = (Vec::new(), vec![0; 1 << 16], 0);
+    loop {
+        // SAFETY: the buffer has room for so many bytes
+        let status =
+            unsafe { capt_job_read(&mut job.0, buffer.as_mut_ptr(), buffer.len(), &mut count, &mut place) };
+        match status {
+            PIECE => text.extend_from_slice(&buffer[..count]),
+            DONE => return Ok(text),
+            _ => return Err(error_of(status, place, text)),
+        }
+    }
 }
 
 fn lines(bytes: Vec<u8>) -> String {
@@ -641,19 +696,17 @@ fn lines(bytes: Vec<u8>) -> String {
 
 /// What `capt list` prints of a capture.
 pub fn list(file: &[u8], allow_cut: bool) -> Result<String, Error> {
-    // SAFETY: the bytes are there while the call runs; so in each call below
-    made(|text, place| unsafe { capt_list(file.as_ptr(), file.len(), cut(allow_cut), text, place) }).map(lines)
+    job_text(LIST, &[file], cut(allow_cut)).map(lines)
 }
 
 /// What `capt blocks` prints of a pcapng capture.
 pub fn blocks(file: &[u8], allow_cut: bool) -> Result<String, Error> {
-    made(|text, place| unsafe { capt_blocks(file.as_ptr(), file.len(), cut(allow_cut), text, place) }).map(lines)
+    job_text(BLOCKS, &[file], cut(allow_cut)).map(lines)
 }
 
 /// What `capt info` prints of 1 to 32 captures.
 pub fn info(files: &[&[u8]], allow_cut: bool) -> Result<String, Error> {
-    let raw = files_of(files);
-    made(|text, place| unsafe { capt_info(raw.as_ptr(), raw.len(), cut(allow_cut), text, place) }).map(lines)
+    job_text(INFO, files, cut(allow_cut)).map(lines)
 }
 
 /// The report over 1 to 32 captures.
@@ -691,8 +744,7 @@ impl ReportOptions {
 
 /// The report over 1 to 32 captures that is asked for.
 pub fn report_with(files: &[&[u8]], options: ReportOptions) -> Result<String, Error> {
-    let raw = files_of(files);
-    made(|text, place| unsafe { capt_report(raw.as_ptr(), raw.len(), options.flags(), text, place) }).map(lines)
+    job_text(REPORT, files, options.flags()).map(lines)
 }
 
 /// An exact time since 1970: `seconds + numerator/denominator`.
@@ -1034,8 +1086,7 @@ impl Drop for Writer {
 
 /// A capture as a file of a format.
 pub fn convert(file: &[u8], to: Format, order: Order, allow_cut: bool) -> Result<Vec<u8>, Error> {
-    let flags = form(to, order, allow_cut);
-    made(|text, place| unsafe { capt_convert(file.as_ptr(), file.len(), flags, text, place) })
+    job_text(CONVERT, &[file], form(to, order, allow_cut))
 }
 
 /// 1 to 32 captures as one pcapng file, sorted by exact time.
@@ -1045,8 +1096,7 @@ pub fn merge(files: &[&[u8]], order: Order, allow_cut: bool) -> Result<Vec<u8>, 
 
 /// The same as one file of a format.
 pub fn merge_to(files: &[&[u8]], to: Format, order: Order, allow_cut: bool) -> Result<Vec<u8>, Error> {
-    let (raw, flags) = (files_of(files), form(to, order, allow_cut));
-    made(|text, place| unsafe { capt_merge(raw.as_ptr(), raw.len(), flags, text, place) })
+    job_text(MERGE, files, form(to, order, allow_cut))
 }
 
 /// The whole IPv4 datagrams of 1 to 32 captures, fragments joined, as one pcapng file.
@@ -1056,6 +1106,5 @@ pub fn join(files: &[&[u8]], order: Order, allow_cut: bool) -> Result<Vec<u8>, E
 
 /// The same as one file of a format.
 pub fn join_to(files: &[&[u8]], to: Format, order: Order, allow_cut: bool) -> Result<Vec<u8>, Error> {
-    let (raw, flags) = (files_of(files), form(to, order, allow_cut));
-    made(|text, place| unsafe { capt_join(raw.as_ptr(), raw.len(), flags, text, place) })
+    job_text(JOIN, files, form(to, order, allow_cut))
 }

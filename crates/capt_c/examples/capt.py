@@ -27,8 +27,8 @@ class Reader(C.Structure):
     _fields_ = [("at", C.c_void_p), ("is_open", C.c_bool)]
 
 
-class Text(C.Structure):
-    _fields_ = [("at", C.c_void_p), ("len", C.c_size_t), ("handle", Reader)]
+class Options(C.Structure):
+    _fields_ = [(name, C.c_uint32) for name in ("flags", "data", "top", "times", "unit")]
 
 
 class Bytes(C.Structure):
@@ -44,13 +44,13 @@ for name, types in {
     "capt_open": [C.POINTER(Reader), C.c_char_p, C.c_size_t, C.c_uint32],
     "capt_next": [C.POINTER(Reader), C.POINTER(Packet), C.POINTER(Place)],
     "capt_next_many": [C.POINTER(Reader), C.POINTER(Packet), C.c_size_t, C.POINTER(C.c_size_t), C.POINTER(Place)],
-    "capt_report": [C.POINTER(Bytes), C.c_size_t, C.c_uint32, C.POINTER(Text), C.POINTER(Place)],
+    "capt_job_open": [C.POINTER(Reader), C.c_uint32, C.POINTER(Bytes), C.c_size_t, C.POINTER(Options)],
+    "capt_job_read": [C.POINTER(Reader), C.c_char_p, C.c_size_t, C.POINTER(C.c_size_t), C.POINTER(Place)],
 }.items():
     getattr(lib, name).argtypes = types
     getattr(lib, name).restype = C.c_uint32
 lib.capt_close.argtypes = [C.POINTER(Reader)]
-lib.capt_text_close.argtypes = [C.POINTER(Text)]
-lib.capt_close.restype = lib.capt_text_close.restype = None
+lib.capt_close.restype = None
 
 
 def packets(data, flags=0):
@@ -72,14 +72,17 @@ def packets(data, flags=0):
 
 def report(*files, flags=0):
     table = (Bytes * len(files))(*[Bytes(f, len(f)) for f in files])
-    text, place = Text(), Place()
+    job, place, count, buffer, text = Reader(), Place(), C.c_size_t(), C.create_string_buffer(65536), b""
+    if lib.capt_job_open(job, 4, table, len(files), Options(flags)) != 0:
+        raise MemoryError
     try:
-        status = lib.capt_report(table, len(files), flags, text, place)
+        while (status := lib.capt_job_read(job, buffer, 65536, count, place)) == 8:
+            text += buffer[:count.value]
         if status:
             raise Fault(REFUSED % (place.file, place.offset, place.rule))
-        return C.string_at(text.at, text.len).decode()
+        return text.decode()
     finally:
-        lib.capt_text_close(text)
+        lib.capt_close(job)
 
 
 if __name__ == "__main__":

@@ -1,4 +1,5 @@
-/* Prints what `capt list FILE` prints, packet by packet, or with -t by one call; other words: report, info, merge, join, blocks, convert. */
+/* Prints what `capt list FILE` prints, packet by packet, or what other commands print or write: list, report, info, merge,
+ * join, blocks, convert, convert-pcap, digest, check. */
 #define _GNU_SOURCE
 #include "../include/capt.h"
 #include <fcntl.h>
@@ -79,7 +80,7 @@ int main(int argc, char **argv) {
     if (strcmp(argv[2], "--allow-cut") == 0) { flags = CAPT_ALLOW_CUT; first = 3; }
     if (strcmp(argv[2], "--ipv6") == 0) { flags = CAPT_IPV6; first = 3; }
     if (first == argc) return 2;
-    capt_text text = {0}; capt_place place = {0}; uint32_t s;
+    capt_place place = {0}; uint32_t s;
     if (strcmp(what, "many") == 0) { many = true; what = "packets"; }
     if (strcmp(what, "packets") == 0) {
         capt_reader r = {0};
@@ -104,19 +105,23 @@ int main(int argc, char **argv) {
     size_t count = (size_t)(argc - first);
     capt_bytes *files = malloc(count * sizeof *files);
     for (size_t i = 0; i < count; i++) files[i] = map(argv[first + (int)i]);
-    if (strcmp(what, "report") == 0) s = capt_report(files, count, flags, &text, &place);
-    else if (strcmp(what, "info") == 0) s = capt_info(files, count, flags, &text, &place);
-    else if (strcmp(what, "merge") == 0) s = capt_merge(files, count, flags, &text, &place);
-    else if (strcmp(what, "join") == 0) s = capt_join(files, count, flags, &text, &place);
-    else if (strcmp(what, "list") == 0) s = capt_list(files[0].at, files[0].len, flags, &text, &place);
-    else if (strcmp(what, "blocks") == 0) s = capt_blocks(files[0].at, files[0].len, flags, &text, &place);
-    else if (strcmp(what, "convert") == 0) s = capt_convert(files[0].at, files[0].len, flags, &text, &place);
-    else if (strcmp(what, "convert-pcap") == 0) s = capt_convert(files[0].at, files[0].len, flags | CAPT_TO_PCAP, &text, &place);
-    else return 2;
-    fwrite(text.at, 1, text.len, stdout);
+    static const struct { const char *word; uint32_t command, flags; } words[] = {
+        {"list", CAPT_LIST, 0}, {"report", CAPT_REPORT, 0}, {"info", CAPT_INFO, 0}, {"merge", CAPT_MERGE, 0}, {"join", CAPT_JOIN, 0},
+        {"blocks", CAPT_BLOCKS, 0}, {"convert", CAPT_CONVERT, 0}, {"convert-pcap", CAPT_CONVERT, CAPT_TO_PCAP},
+        {"digest", CAPT_DIGEST, 0}, {"check", CAPT_CHECK, 0}};
+    size_t word = 0;
+    while (word < sizeof words / sizeof *words && strcmp(what, words[word].word)) word++;
+    if (word == sizeof words / sizeof *words) return 2;
+    capt_job job = {0};
+    capt_options options = {.flags = flags | words[word].flags};
+    static uint8_t buffer[65536];
+    size_t len;
+    s = capt_job_open(&job, words[word].command, files, count, &options);
+    if (s == CAPT_DONE)
+        while ((s = capt_job_read(&job, buffer, sizeof buffer, &len, &place)) == CAPT_PIECE) fwrite(buffer, 1, len, stdout);
     int code = told(s, place);
+    capt_close(&job);
     for (size_t i = 0; i < count; i++) if (files[i].len) free((void *)files[i].at);
     free(files);
-    capt_text_close(&text);
     return code;
 }

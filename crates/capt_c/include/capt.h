@@ -15,8 +15,8 @@
  * * Pointers. None is NULL: for 0 bytes pass any address. Unlike free(NULL), capt_close(NULL) is a fault. The library
  * only reads the bytes that you give. Those of capt_open, capt_table_open and capt_job_open stay where and as they are
  * until capt_close; those of the other calls, of capt_feed too, until the call returns. The array of files and the
- * options of capt_job_open are only read by that call. A `len` is at most PTRDIFF_MAX, and so is the size in bytes of an
- * array.
+ * options of capt_job_open are only read by that call. A `len` is at most PTRDIFF_MAX, and so is the size in bytes of
+ * an array.
  *
  * * Flags. A call's `flags` are 0, or flags of enum capt_flag that its comment lists, as CAPT_ALLOW_CUT | CAPT_BIG.
  * With any other bit, even one that no call takes so far, the call returns CAPT_MISUSE and does nothing.
@@ -36,7 +36,8 @@
  * * Growth. The structs stay as they are as long as the library is libcapt.so.1: what a later version tells besides, it
  * tells by a call and a struct of its own.
  *
- * * Stack. A call takes at most 48 KiB of stack. capt_join takes the most: it was measured to take 40 KiB.
+ * * Stack. A call takes at most 64 KiB of stack. capt_job_open of CAPT_REPORT takes the most: it was measured to take
+ * 55 KiB.
  *
  * * No call is to be made from a signal handler. */
 #ifndef CAPT_H
@@ -142,7 +143,7 @@ enum capt_rule {
     CAPT_RULE_NO_INTERFACE = 21
 };
 
-/* The link types, of the LINKTYPE registry, whose frames capt_report and capt_join look into. A packet can have any
+/* The link types, of the LINKTYPE registry, whose frames CAPT_REPORT and CAPT_JOIN look into. A packet can have any
  * other. */
 enum capt_link {
     CAPT_LINK_ETHERNET = 1,
@@ -336,7 +337,7 @@ uint32_t capt_end(capt_reader *reader, capt_ending *ending);
 /* Lets go what the reader, the table, the writer or the job holds. */
 void capt_close(capt_reader *reader);
 
-/* The report of capt_report step by step, in as much memory, but for the text. Opens a table of 1 to 32 captures.
+/* The report of CAPT_REPORT step by step. Opens a table of 1 to 32 captures.
  * Flags: CAPT_ALLOW_CUT and CAPT_IPV6. CAPT_DONE, CAPT_MEMORY or CAPT_MISUSE. */
 uint32_t capt_table_open(capt_table *table, const capt_bytes *files, size_t count, uint32_t flags);
 
@@ -344,7 +345,7 @@ uint32_t capt_table_open(capt_table *table, const capt_bytes *files, size_t coun
  * every further call returns again; or CAPT_MEMORY, after which nothing was taken, and the call may be made again. */
 uint32_t capt_table_step(capt_table *table, capt_place *place);
 
-/* The report over the packets that were taken so far: that of capt_report after CAPT_DONE. Before it, and after
+/* The report over the packets that were taken so far: that of CAPT_REPORT after CAPT_DONE. Before it, and after
  * CAPT_REFUSED, a file of which no packet was taken has the format `-`, and no line says `cut`. CAPT_DONE, CAPT_MEMORY
  * or CAPT_MISUSE. */
 uint32_t capt_table_write(capt_table *table, capt_text *text, capt_place *place);
@@ -379,28 +380,11 @@ uint32_t capt_job_open(capt_job *job, uint32_t command, const capt_bytes *files,
 
 /* The next bytes of a job's text: CAPT_PIECE, and `len` says how many were put into the buffer, at least 1 and at most
  * `room`, which is at least 1. Once all came, each further call returns how the job ended: CAPT_DONE, CAPT_DIFFERENCE,
- * CAPT_NOT_WHOLE or CAPT_REFUSED. If a capture is refused, the text of CAPT_INFO, CAPT_REPORT and CAPT_DIFF is empty, and
- * that of the others is what comes before the refusal. After CAPT_MEMORY the call may be made again, and no byte is
+ * CAPT_NOT_WHOLE or CAPT_REFUSED. If a capture is refused, the text of CAPT_INFO, CAPT_REPORT and CAPT_DIFF is empty,
+ * and that of the others is what comes before the refusal. After CAPT_MEMORY the call may be made again, and no byte is
  * lost. CAPT_MISUSE if the handle isn't an open job, or if there is no room. `len` is 0 after any status but CAPT_PIECE
  * and CAPT_MISUSE, and the call changes no bytes of the buffer but those that came. */
 uint32_t capt_job_read(capt_job *job, uint8_t *buffer, size_t room, size_t *len, capt_place *place);
-
-/* What the commands of the program capt print for one file or for 1 to 32 files, byte for byte. Flags: CAPT_ALLOW_CUT,
- * and for capt_report also CAPT_IPV6. CAPT_DONE, CAPT_REFUSED or CAPT_MEMORY; CAPT_MISUSE for no file or more than 32.
- * After CAPT_REFUSED the text of capt_list and capt_blocks is what is printed before the refusal, and that of capt_info
- * and capt_report is empty. After CAPT_MEMORY it is what was made before, or {0}. */
-uint32_t capt_list(const uint8_t *at, size_t len, uint32_t flags, capt_text *text, capt_place *place);
-uint32_t capt_blocks(const uint8_t *at, size_t len, uint32_t flags, capt_text *text, capt_place *place);
-uint32_t capt_info(const capt_bytes *files, size_t count, uint32_t flags, capt_text *text, capt_place *place);
-uint32_t capt_report(const capt_bytes *files, size_t count, uint32_t flags, capt_text *text, capt_place *place);
-
-/* What the commands convert, merge and join write: a capture in the other format or in the same, and 1 to 32 captures
- * as one, with their packets in the order of exact time or with their IPv4 datagrams. Flags: CAPT_ALLOW_CUT, CAPT_BIG
- * and CAPT_TO_PCAP. They return what those above return. After CAPT_REFUSED the text is what is written before the
- * refusal. */
-uint32_t capt_convert(const uint8_t *at, size_t len, uint32_t flags, capt_text *text, capt_place *place);
-uint32_t capt_merge(const capt_bytes *files, size_t count, uint32_t flags, capt_text *text, capt_place *place);
-uint32_t capt_join(const capt_bytes *files, size_t count, uint32_t flags, capt_text *text, capt_place *place);
 
 /* Lets go a text. */
 void capt_text_close(capt_text *text);

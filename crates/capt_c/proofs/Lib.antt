@@ -2,7 +2,6 @@ pub mod Agreeing
 pub mod AllTold
 pub mod Described
 pub mod NearTimes
-pub mod NeverRead
 pub mod Numbered
 pub mod PointerValues
 pub mod RawBoxValues

@@ -2,10 +2,10 @@
 use Rattle.std.specs.Prelude.{◌≡◌, ◌∷◌, [], List, true, false, ℕ, map}
 use Rattle.std.proofs.Common.{refl, ap, ◌∙◌, sym}
 use Rattle.cap_merge.specs.inner.Readers.{ReaderFacts, reader_of}
-use Rattle.capt_c.specs.Jobs.{file_bytes}
+use Rattle.capt_c.specs.Texts.{file_bytes}
 use Rattle.capt_c.specs.Sources.{rest_of}
 use Rattle.capt_c.specs.Tables.{reader_of_file}
-use Rattle.capt_c.specs.declared.jobs.Bytes.{Bytes}
+use Rattle.capt_c.specs.declared.texts.Bytes.{Bytes}
 use Rattle.capt_c.specs.declared.sources.Slice.{Slice}
 
 abbrev reader : List ℕ → ReaderFacts

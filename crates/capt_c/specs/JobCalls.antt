@@ -4,7 +4,7 @@ use Rattle.cap_bytes.specs.declared.faults.Fault.{Fault}
 use Rattle.capt_c.specs.Answers.{place_of_result, status_of_result}
 use Rattle.capt_c.specs.Asking.{BeginsJob}
 use Rattle.capt_c.specs.CommandJobs.{ReadsJob, count_read, job_rest, status_of_read}
-use Rattle.capt_c.specs.Jobs.{file_bytes}
+use Rattle.capt_c.specs.Texts.{file_bytes}
 use Rattle.capt_c.specs.Reading.{Misused}
 use Rattle.capt_c.specs.declared.answers.CPlace.{CPlace}
 use Rattle.capt_c.specs.declared.command_jobs.CommandJob.{CommandJob}
@@ -13,7 +13,7 @@ use Rattle.capt_c.specs.declared.handles.Handle.{Handle}
 use Rattle.capt_c.specs.declared.handles.HandleValue.{HandleValue}
 use Rattle.capt_c.specs.declared.handles.HandleValue.TheVariants as helds
 use Rattle.capt_c.specs.declared.job_options.Asked.{Asked}
-use Rattle.capt_c.specs.declared.jobs.Bytes.{Bytes}
+use Rattle.capt_c.specs.declared.texts.Bytes.{Bytes}
 
 -- A job is open, all of whose text is to come: what the program prints or writes that is asked for the same of those
 -- files. Or no memory was found.

@@ -5,7 +5,7 @@ pub mod Sources
 pub mod Packets
 pub mod Feeding
 pub mod Reading
-pub mod Jobs
+pub mod Texts
 pub mod Rows
 pub mod Tables
 pub mod Names

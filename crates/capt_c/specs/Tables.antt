@@ -13,13 +13,13 @@ use Rattle.cap_talks.specs.table.TakenText.{text_for}
 use Rattle.cap_talks.specs.declared.table.tables.Step.{Step}
 use Rattle.cap_talks.specs.declared.table.tables.Step.TheVariants.{Took, Done}
 use Rattle.capt_c.specs.Answers.{status_of_result, place_of_result}
-use Rattle.capt_c.specs.Jobs.{JobEnds, ShowsNothing, file_bytes}
+use Rattle.capt_c.specs.Texts.{JobEnds, ShowsNothing, file_bytes}
 use Rattle.capt_c.specs.declared.answers.CPlace.{CPlace}
 use Rattle.capt_c.specs.declared.handles.HandleValue.{HandleValue}
 use Rattle.capt_c.specs.declared.handles.HandleValue.TheVariants as helds
 use Rattle.capt_c.specs.Reading.{Misused}
-use Rattle.capt_c.specs.declared.jobs.Bytes.{Bytes}
-use Rattle.capt_c.specs.declared.jobs.Text.{Text}
+use Rattle.capt_c.specs.declared.texts.Bytes.{Bytes}
+use Rattle.capt_c.specs.declared.texts.Text.{Text}
 
 -- the reader of a file in memory
 abbrev pub reader_of_file : Bytes → ReaderFacts

@@ -12,14 +12,14 @@ use Rattle.cap_write.specs.PcapRun.{run_bytes}
 use Rattle.cap_write.specs.Texts.{sharing_bytes}
 use Rattle.cap_write.specs.inner.Forms.{FormState, form_after, form_behind, form_stop, form_text, headed, numbered}
 use Rattle.capt_c.specs.Answers.{nowhere, place_of_result, status_of_result, status_of_unit}
-use Rattle.capt_c.specs.Jobs.{Shown}
+use Rattle.capt_c.specs.Texts.{Shown}
 use Rattle.capt_c.specs.Reading.{Misused}
 use Rattle.capt_c.specs.Told.{TellsPacket}
 use Rattle.capt_c.specs.declared.answers.CPlace.{CPlace}
 use Rattle.capt_c.specs.declared.handles.HandleValue.{HandleValue}
 use Rattle.capt_c.specs.declared.handles.HandleValue.TheVariants as helds
 use Rattle.capt_c.specs.declared.interfaces.Interfaces.{Interfaces}
-use Rattle.capt_c.specs.declared.jobs.Text.{Text}
+use Rattle.capt_c.specs.declared.texts.Text.{Text}
 use Rattle.capt_c.specs.declared.packets.CPacket.{CPacket}
 use Rattle.capt_c.specs.declared.packet_writers.PacketWriter.{PacketWriter}
 use Rattle.capt_c.specs.declared.packet_writers.WriterForm.{WriterForm}

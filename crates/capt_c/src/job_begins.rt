@@ -6,7 +6,7 @@ ghost use Rattle.cap_line.specs.declared.jobs.Task.{Task};
 ghost use Rattle.capt_c.specs.Asking.{BeginsJob, form_asked, list_options};
 ghost use Rattle.capt_c.specs.CommandJobs.{job_rest};
 ghost use Rattle.capt_c.specs.JobOptions.{is_asked};
-ghost use Rattle.capt_c.specs.Jobs.{file_bytes};
+ghost use Rattle.capt_c.specs.Texts.{file_bytes};
 
 use crate::answers::{format_of, order_of, tail_of};
 use crate::command_jobs::{CommandJob, JobWork};
@@ -14,8 +14,8 @@ use crate::job_blocks::BlocksWork;
 use crate::job_ends::ends_as;
 use crate::job_lists::ListWork;
 use crate::job_options::Asked;
-use crate::jobs::{Bytes, slices};
 use crate::sinks::VecSink;
+use crate::texts::{Bytes, slices};
 use cap_bytes::Fault;
 use cap_commands::{ListOptions, form_of, job_to, shown_of};
 use cap_line::{Job, Task};

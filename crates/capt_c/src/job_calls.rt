@@ -12,7 +12,7 @@ use crate::command_jobs::{CommandJob, count_read};
 use crate::handles::{Handle, HandleValue, with_open};
 use crate::job_begins::begin;
 use crate::job_options::{Asked, JobOptions, asked_of};
-use crate::jobs::Bytes;
+use crate::texts::Bytes;
 use cap_bytes::Fault;
 use std::alloc::Global;
 

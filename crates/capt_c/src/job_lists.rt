@@ -6,9 +6,9 @@ ghost use Rattle.cap_source.specs.inner.Captures.{capture_feed, capture_number};
 ghost use Rattle.capt_c.specs.JobRests.{StepsJob, feed_rest};
 ghost use Rattle.capt_c.specs.JobStands.{ListStands};
 
-use crate::jobs::by_memory;
 use crate::sinks::VecSink;
 use crate::sources::Slice;
+use crate::texts::by_memory;
 use cap_bytes::{Fault, Tail};
 use cap_commands::{Finding, ListOptions, put_packet_line};
 use cap_print::Line;

@@ -10,8 +10,8 @@ ghost use Rattle.capt_c.specs.Writing.{GrowsBy, PutsPacket, WriterStands, descri
 ghost use Rattle.capt_c.specs.Writing.{shared_in, state_of};
 
 use crate::interfaces::Interfaces;
-use crate::jobs::by_memory;
 use crate::sinks::VecSink;
+use crate::texts::by_memory;
 use cap_blocks::{PacketFields, put_interface, put_packet, put_section};
 use cap_bytes::{Fault, Order, Refusal, Rule, Sink};
 use cap_source::{Format, Meta};

@@ -4,7 +4,7 @@ ghost use Rattle.cap_commands.specs.Jobs.{tail_of};
 ghost use Rattle.capt_c.specs.Answers.{status_of_result, status_of_unit};
 ghost use Rattle.capt_c.specs.Flags.{cut_and_ipv6, flags_taken};
 ghost use Rattle.capt_c.specs.HandleValue.{IsClosed};
-ghost use Rattle.capt_c.specs.Jobs.{AreFiles};
+ghost use Rattle.capt_c.specs.Texts.{AreFiles};
 ghost use Rattle.capt_c.specs.Reading.{OpensWith};
 ghost use Rattle.capt_c.specs.Tables.{OpensTable, StepsTable, WritesTable, status_of_step};
 
@@ -13,9 +13,9 @@ use crate::answers::{
 };
 use crate::flags::{CUT_AND_IPV6, Flags, flags_taken};
 use crate::handles::{Handle, HandleValue, with_open};
-use crate::jobs::{Bytes, Text, are_files, show, slices};
 use crate::sinks::VecSink;
 use crate::sources::Slice;
+use crate::texts::{Bytes, Text, are_files, show, slices};
 use cap_bytes::Fault;
 use cap_merge::merge_files;
 use cap_source::Capture;

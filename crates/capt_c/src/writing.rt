@@ -4,16 +4,16 @@ ghost use Rattle.cap_bytes.specs.declared.faults.Fault.{Fault};
 ghost use Rattle.capt_c.specs.Answers.{format_of, nowhere, order_of, status_of_result, status_of_unit};
 ghost use Rattle.capt_c.specs.Flags.{flags_taken, form_alone};
 ghost use Rattle.capt_c.specs.HandleValue.{IsClosed};
-ghost use Rattle.capt_c.specs.Jobs.{Shown};
+ghost use Rattle.capt_c.specs.Texts.{Shown};
 ghost use Rattle.capt_c.specs.Reading.{OpensWith};
 ghost use Rattle.capt_c.specs.Writing.{OpensWriter, PutsHeld, TakenBy, TakesHeld, state_of};
 
 use crate::answers::{CPlace, MISUSE, format_of, order_of, status_and_place, status_of_result};
 use crate::flags::{FORM_ALONE, Flags, flags_taken};
 use crate::handles::{Handle, HandleValue, with_open};
-use crate::jobs::{Text, empty};
 use crate::packet_writers::PacketWriter;
 use crate::packets::CPacket;
+use crate::texts::{Text, empty};
 use crate::told_packets::told_packet;
 use cap_bytes::Fault;
 use std::alloc::Global;

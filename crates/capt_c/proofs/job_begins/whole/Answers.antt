@@ -1,6 +1,6 @@
 use Rattle.std.proofs.Common.{map, refl}
 use Rattle.capt_c.specs.CommandJobs.{job_rest}
-use Rattle.capt_c.specs.Jobs.{file_bytes}
+use Rattle.capt_c.specs.Texts.{file_bytes}
 use Rattle.capt_c.proofs.AllTold.{all_told}
 use Rattle.capt_c.proofs.JobAsking.{begins-whole}
 use Rattle.capt_c.proofs.job_begins.whole.Goals as goal

@@ -1,6 +1,6 @@
 use Rattle.std.proofs.Common.{Ok, refl, subst, sym}
 use Rattle.capt_c.specs.Answers.{nowhere}
-use Rattle.capt_c.specs.Jobs.{Shown}
+use Rattle.capt_c.specs.Texts.{Shown}
 use Rattle.capt_c.specs.Writing.{TakenBy, state_of}
 use Rattle.capt_c.proofs.writing.take_of.Goals as goal
 

@@ -1,7 +1,7 @@
 use Rattle.std.proofs.Common.{◌≡◌, ◌≤◌, length, map, take}
-use Rattle.capt_c.specs.Jobs.{file_bytes}
+use Rattle.capt_c.specs.Texts.{file_bytes}
 use Rattle.capt_c.specs.Sources.{rest_of}
-use Rattle.capt_c.proofs.jobs.slices.Given as goal
+use Rattle.capt_c.proofs.texts.slices.Given as goal
 
 -- the files so far have a reader each
 abbrev pub invariant-loop-file : goal.invariant-loop-file
