@@ -41,7 +41,8 @@ pub returns-in-Some-try_next_buffered-clause-prepared : goal.returns-in-Some-try
 returns-in-Some-try_next_buffered-clause-prepared g c =
     let e = c.in-Some-try_next_buffered.ensures in
     let known = sym c.known.ensures ∙ c.in-Some.is in
-    let of : IsPrepared c.args.reader.now.file (Some c.in-Some.header) c.args.known.now.meta = rw known at c.requires.prepared in
+    let of : IsPrepared c.args.reader.now.file (Some c.in-Some.header) c.args.known.now.meta = rw known at
+    c.requires.prepared in
     prepared-kept c.args.reader.now c.try_next_buffered.new.self c.in-Some.header
     (with_record c.args.known.now.meta c.in-Some-try_next_buffered.record) c.set_record.new.self.meta
     (recorded-of c.args.reader.now.file c.in-Some.header c.args.known.now.meta c.in-Some-try_next_buffered.record of)

@@ -34,7 +34,8 @@ returns-in_err-step-clause-fronts g c = λ told.
     rw (p.1, p.2)
     (Fronts-answer {A = ⊤} (pcapng_fronts c.args.reader.now (progress_of c.args.reached.now))
     (pcapng_fronts c.loop-known.reader (progress_of c.loop-known.reached))
-    (pcapng_fronts c.step.new.reader (progress_of c.step.new.reached)) (Err c.in_err-step.field-0.0) c.step.new.known.next
+    (pcapng_fronts c.step.new.reader (progress_of c.step.new.reached)) (Err c.in_err-step.field-0.0)
+    c.step.new.known.next
     (c.loop-known.invariant.fronts told) (c.in_err-step.ensures.fronts (c.loop-known.invariant.keeps.told told)))
 
 pub loop-known-init : goal.loop-known-init
@@ -60,7 +61,8 @@ loop-known-preserved g c =
       unknown = none_of c.step.new.known.next not;
       waits = waits;
       keeps = FileKeeps-trans _ _ _ c.loop-known.invariant.keeps c.step.ensures.keeps;
-      reads = ReadsTo-further a b (pcapng_state c.step.new.reader (progress_of c.step.new.reached)) c.step.new.known.next
+      reads = ReadsTo-further a b (pcapng_state c.step.new.reader (progress_of c.step.new.reached))
+      c.step.new.known.next
           (none_of c.step.new.known.next not) c.loop-known.invariant.keeps c.loop-known.invariant.reads
           c.in_ok-step.ensures.reaches;
       fronts = λ told.

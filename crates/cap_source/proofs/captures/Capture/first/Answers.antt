@@ -15,7 +15,8 @@ returns-clause-answer g c =
       head_of next,
       knows old new was.next.next c.learn.new.self.next.next next was.sound.whole tells.1 tells.2,
       λ t. c.noted_of.ensures ∙ first_told old c.learn.new.self.reader
-          (progress_of c.learn.new.self.reached) was.next.next c.learn.new.self.next.next next c.learn.new.self.there tells.1
+          (progress_of c.learn.new.self.reached) was.next.next c.learn.new.self.next.next next c.learn.new.self.there
+          tells.1
           tells.2 t,
     )
 

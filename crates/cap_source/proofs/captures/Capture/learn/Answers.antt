@@ -14,13 +14,15 @@ returns-then-is_some-clause-reaches g c =
 
 pub returns-then-try_next_buffered-clause-answer : goal.returns-then-try_next_buffered-clause-answer
 returns-then-try_next_buffered-clause-answer g c =
-    LearnsNext-shown (capture_file c.args.self.now) (capture_file c.try_next_buffered.new.self) c.args.self.now.next.next
+    LearnsNext-shown (capture_file c.args.self.now) (capture_file c.try_next_buffered.new.self)
+    c.args.self.now.next.next
     c.try_next_buffered.new.self.next.next (sym c.is_some.ensures ∙ c.if-is_some.false)
     (rw c.if-try_next_buffered.true at c.try_next_buffered.ensures.answer)
 
 pub returns-then-try_next_buffered-clause-reaches : goal.returns-then-try_next_buffered-clause-reaches
 returns-then-try_next_buffered-clause-reaches g c =
-    IfTaken-so c.try_next_buffered.new.self.next.next _ (c.try_next_buffered.ensures.reaches c.if-try_next_buffered.true).1
+    IfTaken-so c.try_next_buffered.new.self.next.next _ (c.try_next_buffered.ensures.reaches
+    c.if-try_next_buffered.true).1
 
 pub returns-clause-answer : goal.returns-clause-answer
 returns-clause-answer g c =
