@@ -735,7 +735,7 @@ JOBS = [
 ]
 
 
-def check_jobs(count, reader, name, content, other):
+def check_jobs(count, program, reader, name, content, other):
     """A job gives the text that the program writes for the same command, in pieces of any size, and ends as the
     program does. The JSON lines of `digest` and `check` don't name their files."""
     paths = [os.path.join(os.path.dirname(reader), it) for it in ("job-1", "job-2")]
@@ -746,7 +746,7 @@ def check_jobs(count, reader, name, content, other):
         numbers = [*numbers, *[0] * (5 - len(numbers))]
         for allow_cut in 0, 1:
             out = ["-o", "-"] * (task in ("convert", "merge", "join"))
-            want = run([PROGRAM, task, *["--allow-cut"] * allow_cut, *words, *out, *paths[:files]])
+            want = run([program, task, *["--allow-cut"] * allow_cut, *words, *out, *paths[:files]])
             lines = re.sub(rb',"path":"(?:[^"\\\\]|\\\\.)*"', b"", want[1]) if task in ("digest", "check") else want[1]
             said = b"".join(re.findall(rb"^refused: .*\n", want[2], re.M))
             for it in re.findall(rb'^\{"type":"refused","file":(\d+),"offset":(\d+),"rule":(\d+),"name":"([\w-]+)"', want[2], re.M):
@@ -1453,7 +1453,7 @@ def main():
         source = os.path.join(TOP, "checks", "jobs.c")
         subprocess.run(["cc", "-std=c11", "-I", library, "-o", jobs, source, os.path.join(library, "libcapt.a")], check=True)
         for name, content in contents[::6]:
-            check_jobs(count, jobs, name, content, example)
+            check_jobs(count, program, jobs, name, content, example)
         for name in "monday.pcap", "tuesday.pcapng":
             check_job_faults(count, jobs, shim, folder, dict(contents)[name])
         for name in "monday.pcap", "tuesday.pcapng":
