@@ -11,7 +11,7 @@ import sys
 
 sys.dont_write_bytecode = True
 
-import datetime, errno, faulthandler, gzip, inspect, io, os, pickle, re, shutil, signal, struct, subprocess, tempfile, typing
+import datetime, errno, faulthandler, gzip, inspect, io, os, pickle, re, resource, shutil, signal, struct, subprocess, tempfile, typing
 from concurrent.futures import ThreadPoolExecutor
 from pathlib import Path
 from fractions import Fraction
@@ -774,6 +774,23 @@ def check_job_faults(count, reader, shim, folder, content):
             count.check(f"c: growth {at} of a job, {task}", is_told, seen, want)
 
 
+def check_job_memory(count, reader, folder):
+    """A job of `list` or `blocks` holds its capture and little more, however long its text is."""
+    path, frame, interface = os.path.join(folder, "job-long"), bytes(60), block(1, struct.pack("<HHI", 1, 0, 0))
+    contents = {
+        "list": pcap_header(1) + b"".join(record(second, frame) for second in range(400_000)),
+        "blocks": bytes.fromhex(SECTION) + interface + b"".join(packet(0, second, frame) for second in range(400_000)),
+    }
+    for task, content in contents.items():
+        with open(path, "wb") as out:
+            out.write(content)
+        room = len(content) + (16 << 20)
+        seen = run([reader, task, "4096", "0", "0", "0", "0", "0", path],
+                   preexec_fn=lambda: resource.setrlimit(resource.RLIMIT_AS, (room, room)))
+        is_long = len(seen[1]) > 25_000_000 and seen[1].count(b"\n") >= 400_000
+        count.check(f"c: what a job of {task} holds", is_long and (seen[0], seen[2]) == (0, b""), seen[0], len(seen[1]), seen[2])
+
+
 def check_other_library(count, folder):
     """A library of another version, whose calls take other words, is called by nobody."""
     other = os.path.join(folder, "other.so")
@@ -1456,6 +1473,7 @@ def main():
             check_jobs(count, program, jobs, name, content, example)
         for name in "monday.pcap", "tuesday.pcapng":
             check_job_faults(count, jobs, shim, folder, dict(contents)[name])
+        check_job_memory(count, jobs, folder)
         for name in "monday.pcap", "tuesday.pcapng":
             check_ends(count, checker, bench, name, dict(contents)[name])
         many = [example] * 32
