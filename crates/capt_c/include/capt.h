@@ -57,18 +57,18 @@ extern "C" {
 
 /* What a call returns. */
 enum capt_status {
-    CAPT_DONE = 0,    /* all was done; of a reader: no packet comes any more */
-    CAPT_PACKET = 1,  /* a packet came */
-    CAPT_REFUSED = 2, /* a capture breaks a rule: capt_place says which, and where */
-    CAPT_READ = 3,    /* a read failed: capt_place says where; or capt_file_open couldn't open, and has no place */
-    CAPT_MEMORY = 5,  /* malloc or realloc returned NULL */
-    CAPT_MISUSE = 6,  /* the handle isn't open or is of other calls, there are no files or more than 32, there is no
-                         room for a packet or a byte, no packet has such numbers, or the call doesn't take a flag or
-                         another option */
-    CAPT_MORE = 7,    /* of a reader that is fed: more bytes are wanted to tell what comes next */
-    CAPT_PIECE = 8,   /* of a job: the next bytes of its text came */
-    CAPT_DIFFERENCE = 9, /* of a job, once its text came: CAPT_DIFF found a difference */
-    CAPT_NOT_WHOLE = 10  /* of a job, once its text came: CAPT_DIGEST or CAPT_CHECK found a file that isn't whole */
+    CAPT_DONE = 0,       /* all was done; of a reader: no packet comes any more; of a job: no byte */
+    CAPT_PACKET = 1,     /* a packet came */
+    CAPT_REFUSED = 2,    /* a capture breaks a rule: capt_place says which, and where */
+    CAPT_READ = 3,       /* a read failed: capt_place says where; or capt_file_open couldn't open, and has no place */
+    CAPT_MEMORY = 5,     /* malloc or realloc returned NULL */
+    CAPT_MISUSE = 6,     /* the handle isn't open or is of other calls, there are no files or more than 32, there is no
+                            room for a packet or a byte, no packet has such numbers, or the call doesn't take a flag or
+                            another option */
+    CAPT_MORE = 7,       /* of a reader that is fed: more bytes are wanted to tell what comes next */
+    CAPT_PIECE = 8,      /* of a job: the next bytes of its text came */
+    CAPT_DIFFERENCE = 9, /* of a job, all of whose text came: CAPT_DIFF found a difference */
+    CAPT_NOT_WHOLE = 10  /* of a job, all of whose text came: CAPT_DIGEST or CAPT_CHECK found a file that isn't whole */
 };
 
 /* What a call is asked for. */
@@ -337,8 +337,8 @@ uint32_t capt_end(capt_reader *reader, capt_ending *ending);
 /* Lets go what the reader, the table, the writer or the job holds. */
 void capt_close(capt_reader *reader);
 
-/* The report of CAPT_REPORT step by step. Opens a table of 1 to 32 captures.
- * Flags: CAPT_ALLOW_CUT and CAPT_IPV6. CAPT_DONE, CAPT_MEMORY or CAPT_MISUSE. */
+/* The report of CAPT_REPORT step by step. Opens a table of 1 to 32 captures. Flags: CAPT_ALLOW_CUT and CAPT_IPV6.
+ * CAPT_DONE, CAPT_MEMORY or CAPT_MISUSE. */
 uint32_t capt_table_open(capt_table *table, const capt_bytes *files, size_t count, uint32_t flags);
 
 /* Takes the packet that comes next in the order of exact time. CAPT_PACKET; CAPT_DONE or CAPT_REFUSED, each of which
