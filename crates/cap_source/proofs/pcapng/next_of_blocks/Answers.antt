@@ -62,7 +62,7 @@ loop-known-preserved g c =
       waits = waits;
       keeps = FileKeeps-trans _ _ _ c.loop-known.invariant.keeps c.step.ensures.keeps;
       reads = ReadsTo-further a b (pcapng_state c.step.new.reader (progress_of c.step.new.reached))
-      c.step.new.known.next
+          c.step.new.known.next
           (none_of c.step.new.known.next not) c.loop-known.invariant.keeps c.loop-known.invariant.reads
           c.in_ok-step.ensures.reaches;
       fronts = λ told.
