@@ -64,23 +64,22 @@ def make(folder, count):
 
 ALIKE, UNLIKE = [f"alike{n}.pcap" for n in range(32)], [f"unlike{n}.pcapng" for n in range(32)]
 OUT = ["-o", "/dev/null"]
+# What a row names, and the commands of its figures.
 ROWS = {
-    "report": ["report", "small.pcap"],
-    "report of pcapng": ["report", "small.pcapng"],
-    "info": ["info", "small.pcap"],
-    "info of pcapng": ["info", "small.pcapng"],
-    "check": ["check", "small.pcap"],
-    "check of pcapng": ["check", "small.pcapng"],
-    "list": ["list", "small.pcap"],
-    "blocks": ["blocks", "small.pcapng"],
-    "diff": ["diff", "small.pcap", "small.pcapng"],
-    "digest": ["digest", "small.pcap"],
-    "convert to pcapng": ["convert", "--to", "pcapng", *OUT, "small.pcap"],
-    "convert to pcap": ["convert", "--to", "pcap", *OUT, "small.pcapng"],
-    "merge of one file": ["merge", *OUT, "small.pcap"],
-    "merge of 32 files": ["merge", *OUT, *ALIKE],
-    "merge of 32 files of four resolutions": ["merge", *OUT, *UNLIKE],
-    "join": ["join", *OUT, "small.pcap"],
+    "report, of pcapng": [["report", "small.pcap"], ["report", "small.pcapng"]],
+    "info, of pcapng": [["info", "small.pcap"], ["info", "small.pcapng"]],
+    "check, of pcapng": [["check", "small.pcap"], ["check", "small.pcapng"]],
+    "list": [["list", "small.pcap"]],
+    "blocks": [["blocks", "small.pcapng"]],
+    "diff": [["diff", "small.pcap", "small.pcapng"]],
+    "digest": [["digest", "small.pcap"]],
+    "convert to pcapng, to pcap": [
+        ["convert", "--to", "pcapng", *OUT, "small.pcap"],
+        ["convert", "--to", "pcap", *OUT, "small.pcapng"],
+    ],
+    "merge": [["merge", *OUT, "small.pcap"]],
+    "merge of 32 files, of four resolutions": [["merge", *OUT, *ALIKE], ["merge", *OUT, *UNLIKE]],
+    "join": [["join", *OUT, "small.pcap"]],
 }
 
 
@@ -103,8 +102,8 @@ def main(words):
             os.mkdir(f"{folder}/{count}")
             make(f"{folder}/{count}", count)
         subprocess.run(["cc", "-O2", "-o", f"{folder}/count", f"{here}/count.c"], check=True)
-        rows = {name: [program, *row] for name, row in ROWS.items()}
-        rows["plain C that counts conversations"] = [f"{folder}/count", "small.pcap"]
+        rows = {name: [[program, *words] for words in row] for name, row in ROWS.items()}
+        rows["plain C that counts conversations"] = [[f"{folder}/count", "small.pcap"]]
         rows = {name: row for name, row in rows.items() if not words[1:] or any(word in name for word in words[1:])}
 
         def cost(row):
@@ -113,8 +112,9 @@ def main(words):
 
         with ThreadPoolExecutor(os.cpu_count()) as pool:
             print("| command | instructions |\n|---|---|")
-            for name, taken in zip(rows, pool.map(cost, rows.values())):
-                print(f"| {name} | {taken:,.0f} |", flush=True)
+            costs = pool.map(cost, [words for row in rows.values() for words in row])
+            for name, row in rows.items():
+                print(f"| {name} | {', '.join(f'{next(costs):,.0f}' for _ in row)} |", flush=True)
 
 
 if __name__ == "__main__":
